@@ -3,7 +3,7 @@ use row_parts::{from_index, print_held, print_reply, script_of, stripes_in};
 use seq_model::{Call, Event, Held, Memory, Op, Refusal, Request, State};
 use std::alloc::Global;
 use std::fmt::Write;
-use step_script::{Collection, Line, Script};
+use step_script::{Collection, EventLine, Script};
 use text_lines::{number, tokens_of};
 
 fn copy_into(
@@ -41,14 +41,14 @@ fn tell_call(text: &mut String, state: &mut State<u64>, call: &Call<u64>) -> Res
     Ok(())
 }
 
-fn tell_line(text: &mut String, state: &mut State<u64>, line: &Line) -> Result<(), Refusal> {
+fn tell_line(text: &mut String, state: &mut State<u64>, line: &EventLine) -> Result<(), Refusal> {
     match line {
-        Line::Ask(_, Request::Call(call)) => tell_call(text, state, call),
+        EventLine::Ask(_, Request::Call(call)) => tell_call(text, state, call),
         _ => Err(Refusal::NoSuch),
     }
 }
 
-fn tell_lines(text: &mut String, state: &mut State<u64>, lines: &[Line]) -> Result<(), Refusal> {
+fn tell_lines(text: &mut String, state: &mut State<u64>, lines: &[EventLine]) -> Result<(), Refusal> {
     for line in lines {
         tell_line(text, state, line)?;
     }
@@ -107,7 +107,7 @@ pub fn answer_same(text: &mut String, row: &str) -> Result<(), Refusal> {
 pub fn answer_event(text: &mut String, row: &str) -> Result<(), Refusal> {
     let script = script_of(*text.allocator(), row)?;
     match script.lines.as_slice().first() {
-        Some(Line::Ask(actor, request)) => tell_copy(text, *actor, request),
+        Some(EventLine::Ask(actor, request)) => tell_copy(text, *actor, request),
         _ => Err(Refusal::NoSuch),
     }
 }

@@ -11,7 +11,7 @@ use row_parts::{
 use seq_model::{Call, Held, Memory, Op, Refusal, Reply, Request, State};
 use shadow::Shadow;
 use std::alloc::Global;
-use step_script::{Line, Script};
+use step_script::{EventLine, Script};
 
 /// A collection, and the state of the sequential model after the same calls.
 #[derive(Drop)]
@@ -87,7 +87,7 @@ impl Bench {
         self.tell_all(text, script.lines.as_slice())
     }
 
-    fn tell_all(&mut self, text: &mut String, lines: &[Line]) -> Result<(), Refusal> {
+    fn tell_all(&mut self, text: &mut String, lines: &[EventLine]) -> Result<(), Refusal> {
         let mut first = true;
         for line in lines {
             if !first {
@@ -100,10 +100,10 @@ impl Bench {
     }
 
     // A call that a script only asks is looked at.
-    fn tell(&mut self, text: &mut String, line: &Line) -> Result<(), Refusal> {
+    fn tell(&mut self, text: &mut String, line: &EventLine) -> Result<(), Refusal> {
         match line {
-            Line::Ask(_, Request::Call(asked)) => look(text, &self.base, &asked.op),
-            Line::Do(_, Request::Call(asked)) => self.make(text, asked),
+            EventLine::Ask(_, Request::Call(asked)) => look(text, &self.base, &asked.op),
+            EventLine::Do(_, Request::Call(asked)) => self.make(text, asked),
             _ => Err(Refusal::NoSuch),
         }
     }
@@ -211,9 +211,9 @@ fn call(alloc: Global, base: &mut Base<u64>, op: &Op<u64>) -> Result<Reply<u64>,
     Ok(outcome.reply)
 }
 
-fn shadow_line(text: &mut String, shadow: &mut Shadow<u64>, line: &Line) -> Result<(), Refusal> {
+fn shadow_line(text: &mut String, shadow: &mut Shadow<u64>, line: &EventLine) -> Result<(), Refusal> {
     match line {
-        Line::Do(_, Request::Call(asked)) => shadow_call(text, shadow, &asked.op),
+        EventLine::Do(_, Request::Call(asked)) => shadow_call(text, shadow, &asked.op),
         _ => Err(Refusal::NoSuch),
     }
 }
@@ -232,7 +232,7 @@ fn accept(shadow: &mut Shadow<u64>, outcome: Outcome<u64>) -> Result<(), Memory>
     Ok(())
 }
 
-fn shadow_all(text: &mut String, shadow: &mut Shadow<u64>, lines: &[Line]) -> Result<(), Refusal> {
+fn shadow_all(text: &mut String, shadow: &mut Shadow<u64>, lines: &[EventLine]) -> Result<(), Refusal> {
     for line in lines {
         shadow_line(text, shadow, line)?;
     }
@@ -246,7 +246,7 @@ fn print_log(text: &mut String, shadow: Shadow<u64>) -> Result<(), Refusal> {
     Ok(())
 }
 
-fn shadowed(text: &mut String, base: &Base<u64>, lines: &[Line]) -> Result<(), Refusal> {
+fn shadowed(text: &mut String, base: &Base<u64>, lines: &[EventLine]) -> Result<(), Refusal> {
     let copy = base.try_copy()?;
     let alloc = *text.allocator();
     let mut shadow = Shadow::of_copy(alloc, copy);
@@ -278,11 +278,11 @@ fn do_conflict(base: &Base<u64>, one: &Op<u64>, other: &Op<u64>) -> Result<bool,
     Ok(conflicts(&one.reads, &one.writes, &other.reads, &other.writes))
 }
 
-fn do_two_conflict(base: &Base<u64>, lines: &[Line]) -> Result<bool, Refusal> {
+fn do_two_conflict(base: &Base<u64>, lines: &[EventLine]) -> Result<bool, Refusal> {
     match lines {
         [
-            Line::Ask(_, Request::Call(one)),
-            Line::Ask(_, Request::Call(other)),
+            EventLine::Ask(_, Request::Call(one)),
+            EventLine::Ask(_, Request::Call(other)),
         ] => do_conflict(base, &one.op, &other.op),
         _ => Err(Refusal::NoSuch),
     }

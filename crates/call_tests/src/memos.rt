@@ -6,7 +6,7 @@ use row_parts::{print_reply, script_of};
 use seq_model::{Memory, Op, Refusal, Request};
 use shadow::{Memo, MemoKind};
 use std::alloc::Global;
-use step_script::Line;
+use step_script::EventLine;
 
 const STRIPES: u32 = 2;
 
@@ -31,7 +31,7 @@ fn remember_all(
     text: &mut String,
     base: &Base<u64>,
     memo: &mut Memo<u64>,
-    lines: &[Line],
+    lines: &[EventLine],
 ) -> Result<(), Refusal> {
     for line in lines {
         remember_line(text, base, memo, line)?;
@@ -44,10 +44,10 @@ fn remember_line(
     text: &mut String,
     base: &Base<u64>,
     memo: &mut Memo<u64>,
-    line: &Line,
+    line: &EventLine,
 ) -> Result<(), Refusal> {
     match line {
-        Line::Do(_, Request::Call(asked)) => remember(text, base, memo, &asked.op),
+        EventLine::Do(_, Request::Call(asked)) => remember(text, base, memo, &asked.op),
         _ => Err(Refusal::NoSuch),
     }
 }

@@ -3,7 +3,7 @@ use seq_model::{Held, Op, Refusal, Request};
 use std::alloc::AllocError;
 use std::collections::btree_map::Iter;
 use std::fmt::Write;
-use step_script::{Collection, Line, Script, parse_steps};
+use step_script::{Collection, EventLine, Script, parse_steps};
 
 /// Prints what was read of a script: its words, its clock, its collections, and its lines.
 pub fn print_script(text: &mut String, lines: &str) -> Result<(), Refusal> {
@@ -57,19 +57,19 @@ fn print_pairs(text: &mut String, kind: &str, pairs: Iter<'_, u64, u64>) -> Resu
     Ok(())
 }
 
-fn print_line(text: &mut String, line: &Line) -> Result<(), AllocError> {
+fn print_line(text: &mut String, line: &EventLine) -> Result<(), AllocError> {
     match line {
-        Line::Ask(actor, request) => {
+        EventLine::Ask(actor, request) => {
             write!(text, "{actor} asks ")?;
             print_request(text, request)
         }
-        Line::Do(actor, request) => {
+        EventLine::Do(actor, request) => {
             write!(text, "{actor} does ")?;
             print_request(text, request)
         }
-        Line::Steps(actor, count) => write!(text, "{actor} takes {count} steps"),
-        Line::Starve(actor) => write!(text, "{actor} starves"),
-        Line::Alternate(one, other) => write!(text, "{one} and {other} in turn"),
+        EventLine::Steps(actor, count) => write!(text, "{actor} takes {count} steps"),
+        EventLine::Starve(actor) => write!(text, "{actor} starves"),
+        EventLine::Alternate(one, other) => write!(text, "{one} and {other} in turn"),
     }
 }
 

@@ -3,7 +3,7 @@ use crate::laid_out::{print_trace_alone, state_in};
 use running_world::{World, run_world};
 use seq_model::{Event, Items, Memory, Refusal, Shape};
 use std::alloc::Global;
-use step_script::{Line, Script, parse_steps};
+use step_script::{EventLine, Script, parse_steps};
 
 /// Prints what has come of the events of a script, of which `A REQUEST` is a request, `A step K` is K steps, whatever they tell, and
 /// `A starve` is a want of memory: by `run_world`, and of a world that is fed them, by `trace` and then by `into_trace`.
@@ -63,12 +63,12 @@ fn events_of(alloc: Global, script: &Script) -> Result<Vec<Event<u64>>, Memory> 
 }
 
 // How many steps the other lines come to shows in a run alone.
-fn push_events(events: &mut Vec<Event<u64>>, line: &Line) -> Result<(), Memory> {
+fn push_events(events: &mut Vec<Event<u64>>, line: &EventLine) -> Result<(), Memory> {
     match line {
-        Line::Ask(actor, request) => events.push(Event::Ask(*actor, request.try_copy()?))?,
-        Line::Steps(actor, count) => push_steps(events, *actor, *count)?,
-        Line::Starve(actor) => events.push(Event::Starve(*actor))?,
-        Line::Do(_, _) | Line::Alternate(_, _) => {}
+        EventLine::Ask(actor, request) => events.push(Event::Ask(*actor, request.try_copy()?))?,
+        EventLine::Steps(actor, count) => push_steps(events, *actor, *count)?,
+        EventLine::Starve(actor) => events.push(Event::Starve(*actor))?,
+        EventLine::Do(_, _) | EventLine::Alternate(_, _) => {}
     }
     Ok(())
 }

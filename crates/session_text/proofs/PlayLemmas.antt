@@ -8,7 +8,7 @@ use Rattle.seq_model.specs.declared.event.Event.{Event}
 use Rattle.seq_model.specs.declared.event.Event.TheVariants as event
 use Rattle.seq_model.specs.declared.event.Notice.{Notice}
 use Rattle.seq_model.specs.declared.event.Notice.TheVariants.{Quiet, Answered, Refused}
-use Rattle.step_script.specs.declared.script.Line.{Line}
+use Rattle.step_script.specs.declared.script.EventLine.{EventLine}
 use Rattle.step_script.specs.declared.script.TheConstants.{STEP_LIMIT}
 use Rattle.world_parts.specs.declared.parts.Parts.{Parts}
 use Rattle.running_world.specs.Feeds.{Feeds}
@@ -244,7 +244,7 @@ turns_done n k a b c d ws vs xs ms lt after first second turns = done_turns n k 
     (rw after at second) turns
 
 -- one more line
-plays_on : (ws : List Bool) (lines : List Line) (line : Line) (xs ys : List (Event ℕ)) (ms ns : List (Notice ℕ)) → length ns ≡ length ys
+plays_on : (ws : List Bool) (lines : List EventLine) (line : EventLine) (xs ys : List (Event ℕ)) (ms ns : List (Notice ℕ)) → length ns ≡ length ys
     → ArePlays ws lines xs ms → IsPlay (waiting_after ws xs ms) line ys ns → ArePlays ws (lines ++ line ∷ []) (xs ++ ys) (ms ++ ns)
 plays_on ws [] line xs ys ms ns paired none play =
     let now : IsPlay ws line ys ns = rw none.0 at play in (
@@ -295,7 +295,7 @@ plays_on ws (first ∷ lines) line xs ys ms ns paired has play =
       ),
     )
 
-pub plays_after : (ws vs : List Bool) (lines : List Line) (line : Line) (xs ys : List (Event ℕ)) (ms ns : List (Notice ℕ))
+pub plays_after : (ws vs : List Bool) (lines : List EventLine) (line : EventLine) (xs ys : List (Event ℕ)) (ms ns : List (Notice ℕ))
     → length ns ≡ length ys
     → vs ≡ waiting_after ws xs ms → ArePlays ws lines xs ms → IsPlay vs line ys ns → ArePlays ws (lines ++ line ∷ []) (xs ++ ys) (ms ++ ns)
 plays_after ws vs lines line xs ys ms ns paired after plays play = plays_on ws lines line xs ys ms ns paired plays (rw after at play)

@@ -5,8 +5,8 @@ use Rattle.seq_model.specs.declared.event.Event.TheVariants as event
 use Rattle.seq_model.specs.declared.event.Notice.{Notice}
 use Rattle.seq_model.specs.declared.event.Notice.TheVariants.{Quiet}
 use Rattle.seq_model.specs.declared.limits.TheConstants.{SEATS}
-use Rattle.step_script.specs.declared.script.Line.{Line}
-use Rattle.step_script.specs.declared.script.Line.TheVariants.{Ask, Do, Steps, Starve, Alternate}
+use Rattle.step_script.specs.declared.script.EventLine.{EventLine}
+use Rattle.step_script.specs.declared.script.EventLine.TheVariants.{Ask, Do, Steps, Starve, Alternate}
 use Rattle.step_script.specs.declared.script.Script.{Script}
 use Rattle.step_script.specs.declared.script.TheConstants.{STEP_LIMIT}
 use Rattle.session_text.specs.declared.run.ScriptRun.{ScriptRun}
@@ -89,7 +89,7 @@ AreTurns (suc n) first second waiting (e ∷ es) (notice ∷ told) =
     × AreTurns n first second (waiting_then waiting e (tells_nothing notice)) es told))
 AreTurns n first second waiting es told = ⊥
 
-abbrev pub IsPlay : List Bool → Line → List (Event ℕ) → List (Notice ℕ) → Type 0
+abbrev pub IsPlay : List Bool → EventLine → List (Event ℕ) → List (Notice ℕ) → Type 0
 IsPlay waiting (Ask actor request) es told = es ≡ event.Ask actor request ∷ []
 IsPlay waiting (Do actor request) es told = IsDone actor (event.Ask actor request) es told
 IsPlay waiting (Steps actor n) es told = AreSteps actor n es told
@@ -105,7 +105,7 @@ pub record IsSplit (es es-first es-then : List (Event ℕ)) (told told-first tol
   pub paired : length told-first ≡ length es-first
 
 -- one line after the other
-abbrev pub ArePlays : List Bool → List Line → List (Event ℕ) → List (Notice ℕ) → Type 0
+abbrev pub ArePlays : List Bool → List EventLine → List (Event ℕ) → List (Notice ℕ) → Type 0
 ArePlays waiting [] es told = (es ≡ []) × (told ≡ [])
 ArePlays waiting (line ∷ lines) es told =
     (es-first : List (Event ℕ)) × ((es-then : List (Event ℕ)) × ((told-first : List (Notice ℕ)) × ((told-then : List (Notice ℕ))

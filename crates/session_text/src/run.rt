@@ -16,7 +16,7 @@ ghost use Rattle.step_script.specs.declared.script.TheConstants.{STEP_LIMIT};
 use running_world::{Trace, World};
 use seq_model::{Event, Items, Memory, Notice, Refusal, Request, SEATS, Shape, State};
 use std::alloc::Global;
-use step_script::{Line, STEP_LIMIT, Script};
+use step_script::{EventLine, STEP_LIMIT, Script};
 
 /// What came of a script.
 #[derive(Drop)]
@@ -110,7 +110,7 @@ struct Runner {
 }
 
 impl Runner {
-    fn run_lines(&mut self, lines: &[Line]) -> Result<(), Memory>
+    fn run_lines(&mut self, lines: &[EventLine]) -> Result<(), Memory>
         ensures { OnOk result (HasPlayed (Keeps (ArePlays self.old.waiting.items lines.now) self.old.waiting.items self.new.waiting.items)
             self.old.world.parts self.old.notices self.new.world.parts self.new.notices) }
     {
@@ -140,27 +140,27 @@ impl Runner {
         })
     }
 
-    fn run_line(&mut self, line: &Line) -> Result<(), Memory>
+    fn run_line(&mut self, line: &EventLine) -> Result<(), Memory>
         ensures { OnOk result (HasPlayed (Keeps (IsPlay self.old.waiting.items line.now) self.old.waiting.items self.new.waiting.items)
             self.old.world.parts self.old.notices self.new.world.parts self.new.notices) }
     {
         match line {
-            Line::Ask(actor, request) => {
+            EventLine::Ask(actor, request) => {
                 self.ask(*actor, request)?;
                 Ok(())
             }
-            Line::Do(actor, request) => {
+            EventLine::Do(actor, request) => {
                 if self.ask(*actor, request)? {
                     self.steps(*actor, STEP_LIMIT)?;
                 }
                 Ok(())
             }
-            Line::Steps(actor, count) => self.steps(*actor, *count),
-            Line::Starve(actor) => {
+            EventLine::Steps(actor, count) => self.steps(*actor, *count),
+            EventLine::Starve(actor) => {
                 self.happen(Event::Starve(*actor))?;
                 Ok(())
             }
-            Line::Alternate(first, second) => self.alternate(*first, *second),
+            EventLine::Alternate(first, second) => self.alternate(*first, *second),
         }
     }
 

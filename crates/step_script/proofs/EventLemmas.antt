@@ -24,8 +24,8 @@ use Rattle.std.proofs.Common.{
   ◌∷◌,
 }
 use Rattle.std.proofs.lemmas.Fmt.{decimal_injective}
-use Rattle.step_script.specs.declared.script.Line.{Line}
-use Rattle.step_script.specs.declared.script.Line.TheVariants.{Ask, Do, Steps, Starve, Alternate}
+use Rattle.step_script.specs.declared.script.EventLine.{EventLine}
+use Rattle.step_script.specs.declared.script.EventLine.TheVariants.{Ask, Do, Steps, Starve, Alternate}
 use Rattle.step_script.specs.Events.{IsActor, IsAlternation, IsEvent, IsEventOf}
 use Rattle.text_lines.proofs.NumberLemmas.{lead_digit}
 
@@ -38,12 +38,12 @@ alt_is_no_actor actor is = search (rules, lead_digit actor (codes "alt") (small 
 one_actor : (token : List ℕ) (a b : ℕ) → IsActor token a → IsActor token b → a ≡ b
 one_actor token a b is-a is-b = decimal_injective a b (small token a is-a) (small token b is-b) (sym is-a.2 ∙ is-b.2)
 
-alt_event : (word one other : List ℕ) (line : Line) → word ≡ codes "alt" → IsEvent (word ∷ one ∷ other ∷ []) line
+alt_event : (word one other : List ℕ) (line : EventLine) → word ≡ codes "alt" → IsEvent (word ∷ one ∷ other ∷ []) line
     → IsAlternation (codes "alt" ∷ one ∷ other ∷ []) line
 alt_event word one other line alt (inl is) = rw (sym alt) is
 alt_event word one other line alt (inr is) = absurd (alt_is_no_actor is.0 (rw (sym alt) is.1))
 
-no_alternation : (actor : ℕ) (token : List ℕ) (tokens : List (List ℕ)) (line : Line) → IsActor token actor
+no_alternation : (actor : ℕ) (token : List ℕ) (tokens : List (List ℕ)) (line : EventLine) → IsActor token actor
     → IsAlternation (token ∷ tokens) line → ⊥
 no_alternation actor token [] line is alternation = elim alternation [ ]
 no_alternation actor token (one ∷ []) line is alternation = elim alternation [ ]
@@ -54,15 +54,15 @@ no_alternation actor token (one ∷ (other ∷ [])) (Starve a) is alternation = 
 no_alternation actor token (one ∷ (other ∷ (more ∷ tokens))) line is alternation = elim alternation [ ]
 no_alternation actor token (one ∷ other ∷ []) (Alternate first second) is alternation = alt_is_no_actor actor (rw alternation.0 at is)
 
-pub actor_event : (actor : ℕ) (token : List ℕ) (tokens : List (List ℕ)) (line : Line) → IsActor token actor → IsEvent (token ∷ tokens) line
+pub actor_event : (actor : ℕ) (token : List ℕ) (tokens : List (List ℕ)) (line : EventLine) → IsActor token actor → IsEvent (token ∷ tokens) line
     → IsEventOf actor tokens line
 actor_event actor token tokens line is (inl alternation) = absurd (no_alternation actor token tokens line is alternation)
 actor_event actor token tokens line is (inr event) = rw (one_actor token actor event.0 is event.1) event.2
 
 -- three tokens, of which the first is `alt`
-pub alternation_of : (ts : List (Bor (List ℕ))) (d : Bor (List ℕ)) (r : Option Line) (line : Line) → length ts < 4 → 3 ≤ length ts
+pub alternation_of : (ts : List (Bor (List ℕ))) (d : Bor (List ℕ)) (r : Option EventLine) (line : EventLine) → length ts < 4 → 3 ≤ length ts
     → (slice_index_or ts 0 d).now ≡ codes "alt"
-    → ((l : Line) → IsAlternation (codes "alt" ∷ (slice_index_or ts 1 d).now ∷ (slice_index_or ts 2 d).now ∷ []) l → r ≡ Some l)
+    → ((l : EventLine) → IsAlternation (codes "alt" ∷ (slice_index_or ts 1 d).now ∷ (slice_index_or ts 2 d).now ∷ []) l → r ≡ Some l)
     → IsEvent (map (λ token. token.now) ts) line → r ≡ Some line
 alternation_of [] d r line below least alt only event = absurd (omega (arith, least))
 alternation_of (a ∷ []) d r line below least alt only event = absurd (omega (arith, least))

@@ -26,8 +26,8 @@ use Rattle.std.proofs.Common.{
 use Rattle.std.specs.Int.{IsInRange}
 use Rattle.seq_model.specs.declared.held.Held.{Held}
 use Rattle.seq_model.specs.declared.held.Held.TheVariants.{Map, Bag, Pq, Queue}
-use Rattle.step_script.specs.declared.script.Line.{Line}
-use Rattle.step_script.specs.declared.script.Line.TheVariants.{Ask, Do, Steps, Starve, Alternate}
+use Rattle.step_script.specs.declared.script.EventLine.{EventLine}
+use Rattle.step_script.specs.declared.script.EventLine.TheVariants.{Ask, Do, Steps, Starve, Alternate}
 use Rattle.step_script.specs.declared.script.Collection.{Collection}
 use Rattle.step_script.specs.declared.line.ScriptLine.{ScriptLine}
 use Rattle.step_script.specs.declared.line.ScriptLine.TheVariants.{Words, Clock, Holds, Event}
@@ -38,7 +38,7 @@ use Rattle.text_lines.proofs.NumberLemmas.{first_byte}
 use lib.ListN.{get_or}
 
 -- a word that is no number and not `alt` begins no event
-no_alternation : (word : List ℕ) (rest : List (List ℕ)) (event : Line) → word ≢ codes "alt" → IsAlternation (word ∷ rest) event → ⊥
+no_alternation : (word : List ℕ) (rest : List (List ℕ)) (event : EventLine) → word ≢ codes "alt" → IsAlternation (word ∷ rest) event → ⊥
 no_alternation word [] event differs is = elim is [ ]
 no_alternation word (one ∷ []) event differs is = elim is [ ]
 no_alternation word (one ∷ (other ∷ [])) (Ask a request) differs is = elim is [ ]
@@ -51,7 +51,7 @@ no_alternation word (one ∷ (other ∷ (more ∷ rest))) event differs is = eli
 digit : (word : List ℕ) (actor : ℕ) → IsActor word actor → IsInRange 49 57 (get_or word 0 0)
 digit word actor is = rw is.2 (first_byte actor (omega (arith, is.1)) is.0)
 
-no_event : (word : List ℕ) (rest : List (List ℕ)) (event : Line) → word ≢ codes "alt" → (IsInRange 49 57 (get_or word 0 0) → ⊥)
+no_event : (word : List ℕ) (rest : List (List ℕ)) (event : EventLine) → word ≢ codes "alt" → (IsInRange 49 57 (get_or word 0 0) → ⊥)
     → IsEvent (word ∷ rest) event → ⊥
 no_event word rest event not_alt letter (inl is) = no_alternation word rest event not_alt is
 no_event word rest event not_alt letter (inr is) = letter (digit word is.0 is.1)
@@ -151,7 +151,7 @@ collection_line (t ∷ ts) d line some kind is = collection_only t.now (texts ts
 
 pub event_line : (ts : List (Bor (List ℕ))) (d : Bor (List ℕ)) (line : ScriptLine) → (slice_index_or ts 0 d).now ≢ codes "words"
     → (slice_index_or ts 0 d).now ≢ codes "clock" → (IsKind (slice_index_or ts 0 d).now → ⊥) → IsLine (texts ts) line
-    → (event : Line) × (line ≡ Event event) × IsEvent (texts ts) event
+    → (event : EventLine) × (line ≡ Event event) × IsEvent (texts ts) event
 event_line [] d (Words values) words clock kind is = elim is [ ]
 event_line [] d (Clock number) words clock kind is = elim is [ ]
 event_line [] d (Holds c) words clock kind is = elim is [ ]

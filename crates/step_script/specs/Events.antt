@@ -2,8 +2,8 @@
 use Rattle.std.specs.Prelude.{◌≡◌, ◌≢◌, ◌⊎◌, ℕ, ◌<◌, ◌≤◌, List, [], ◌∷◌, codes}
 use Rattle.std.specs.Fmt.{decimal}
 use Rattle.seq_model.specs.declared.limits.TheConstants.{ACTOR_LIMIT}
-use Rattle.step_script.specs.declared.script.Line.{Line}
-use Rattle.step_script.specs.declared.script.Line.TheVariants.{Ask, Do, Steps, Starve, Alternate}
+use Rattle.step_script.specs.declared.script.EventLine.{EventLine}
+use Rattle.step_script.specs.declared.script.EventLine.TheVariants.{Ask, Do, Steps, Starve, Alternate}
 use Rattle.step_script.specs.declared.script.TheConstants.{STEP_LIMIT}
 use Rattle.step_script.specs.Requests.{IsRequest}
 
@@ -19,7 +19,7 @@ IsSteps tokens n =
     ⊎ ((n ≡ STEP_LIMIT) × (tokens ≡ codes "go" ∷ []))
 
 -- what stands behind the actor of a line
-abbrev pub IsEventOf : ℕ → List (List ℕ) → Line → Type 0
+abbrev pub IsEventOf : ℕ → List (List ℕ) → EventLine → Type 0
 IsEventOf actor tokens (Ask a request) = (a ≡ actor) × IsRequest tokens request
 IsEventOf actor (word ∷ tokens) (Do a request) = (a ≡ actor) × (word ≡ codes "do") × IsRequest tokens request
 IsEventOf actor tokens (Steps a n) = (a ≡ actor) × IsSteps tokens n
@@ -27,15 +27,15 @@ IsEventOf actor tokens (Starve a) = (a ≡ actor) × (tokens ≡ codes "starve" 
 IsEventOf actor tokens line = ⊥
 
 -- the line of an actor
-abbrev pub IsOfActor : List (List ℕ) → Line → Type 0
+abbrev pub IsOfActor : List (List ℕ) → EventLine → Type 0
 IsOfActor (token ∷ tokens) line = (actor : ℕ) × IsActor token actor × IsEventOf actor tokens line
 IsOfActor [] line = ⊥
 
 -- `alt` and two actors
-abbrev pub IsAlternation : List (List ℕ) → Line → Type 0
+abbrev pub IsAlternation : List (List ℕ) → EventLine → Type 0
 IsAlternation (word ∷ one ∷ other ∷ []) (Alternate first second) = (word ≡ codes "alt") × IsActor one first ×
     IsActor other second × (first ≢ second)
 IsAlternation tokens line = ⊥
 
-abbrev pub IsEvent : List (List ℕ) → Line → Type 0
+abbrev pub IsEvent : List (List ℕ) → EventLine → Type 0
 IsEvent tokens line = IsAlternation tokens line ⊎ IsOfActor tokens line

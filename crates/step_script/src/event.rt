@@ -1,18 +1,18 @@
 //! The events of a script.
 ghost use Rattle.std.specs.Prelude.{◌≡◌, ℕ, IfSome, Some, map, codes, ◌∷◌, []};
-ghost use Rattle.step_script.specs.declared.script.Line.{Line};
+ghost use Rattle.step_script.specs.declared.script.EventLine.{EventLine};
 ghost use Rattle.step_script.specs.Events.{IsActor, IsAlternation, IsEvent, IsEventOf};
 
 use crate::request::read_request;
-use crate::script::{Line, STEP_LIMIT};
+use crate::script::{EventLine, STEP_LIMIT};
 use seq_model::ACTOR_LIMIT;
 use text_lines::number;
 
 /// The event that these tokens spell.
 #[tactic(auto, using(crate::proofs::EventLemmas::actor_event))]
-pub fn read_event(tokens: &[&str]) -> Option<Line>
+pub fn read_event(tokens: &[&str]) -> Option<EventLine>
     ensures found { IfSome result (IsEvent (map (λ token. token.now) tokens.now)) }
-    ensures only { (line : Line) → IsEvent (map (λ token. token.now) tokens.now) line → result ≡ Some line }
+    ensures only { (line : EventLine) → IsEvent (map (λ token. token.now) tokens.now) line → result ≡ Some line }
 {
     match tokens {
         ["alt", first, second] => read_alternation(first, second),
@@ -21,35 +21,35 @@ pub fn read_event(tokens: &[&str]) -> Option<Line>
     }
 }
 
-fn read_alternation(first: &str, second: &str) -> Option<Line>
+fn read_alternation(first: &str, second: &str) -> Option<EventLine>
     ensures found { IfSome result (IsAlternation (codes "alt" ∷ first.now ∷ second.now ∷ [])) }
-    ensures only { (line : Line) → IsAlternation (codes "alt" ∷ first.now ∷ second.now ∷ []) line → result ≡ Some line }
+    ensures only { (line : EventLine) → IsAlternation (codes "alt" ∷ first.now ∷ second.now ∷ []) line → result ≡ Some line }
 {
     let first = read_actor(first)?;
     let second = read_actor(second)?;
     if first == second {
         return None;
     }
-    Some(Line::Alternate(first, second))
+    Some(EventLine::Alternate(first, second))
 }
 
-fn read_event_of(actor: u32, tokens: &[&str]) -> Option<Line>
+fn read_event_of(actor: u32, tokens: &[&str]) -> Option<EventLine>
     ensures found { IfSome result (IsEventOf actor (map (λ token. token.now) tokens.now)) }
-    ensures only { (line : Line) → IsEventOf actor (map (λ token. token.now) tokens.now) line → result ≡ Some line }
+    ensures only { (line : EventLine) → IsEventOf actor (map (λ token. token.now) tokens.now) line → result ≡ Some line }
 {
     match tokens {
-        ["do", request @ ..] => Some(Line::Do(actor, read_request(request)?)),
-        ["step"] => Some(Line::Steps(actor, 1)),
+        ["do", request @ ..] => Some(EventLine::Do(actor, read_request(request)?)),
+        ["step"] => Some(EventLine::Steps(actor, 1)),
         ["step", count] => {
             let count = number(count)?;
             if count == 0 || count > STEP_LIMIT {
                 return None;
             }
-            Some(Line::Steps(actor, count))
+            Some(EventLine::Steps(actor, count))
         }
-        ["go"] => Some(Line::Steps(actor, STEP_LIMIT)),
-        ["starve"] => Some(Line::Starve(actor)),
-        request => Some(Line::Ask(actor, read_request(request)?)),
+        ["go"] => Some(EventLine::Steps(actor, STEP_LIMIT)),
+        ["starve"] => Some(EventLine::Starve(actor)),
+        request => Some(EventLine::Ask(actor, read_request(request)?)),
     }
 }
 

@@ -12,4 +12,4 @@ mod request;
 mod script;
 
 pub use parse::parse_steps;
-pub use script::{Collection, Line, STEP_LIMIT, Script};
+pub use script::{Collection, EventLine, STEP_LIMIT, Script};

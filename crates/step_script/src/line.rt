@@ -10,7 +10,7 @@ ghost use Rattle.step_script.specs.Lines.{AreNumbers, IsAbove, IsClock, IsCollec
 
 use crate::event::read_event;
 use crate::number::{clamped, pair};
-use crate::script::{Collection, Line};
+use crate::script::{Collection, EventLine};
 use seq_model::{Counts, Entries, Held, Items, Memory, QueueItems};
 use std::alloc::Global;
 use text_lines::number;
@@ -24,7 +24,7 @@ pub enum ScriptLine {
     Clock(u64),
     /// A collection.
     Holds(Collection),
-    Event(Line),
+    Event(EventLine),
 }
 
 /// The line that these tokens spell.

@@ -14,7 +14,7 @@ pub struct Collection {
 
 /// A line of a script's events.
 #[derive(Drop)]
-pub enum Line {
+pub enum EventLine {
     /// One request, and no step.
     Ask(u32, Request<u64>),
     /// A request, and steps of its actor until it is answered.
@@ -32,5 +32,5 @@ pub struct Script {
     pub words: Items<u64>,
     pub clock: u64,
     pub collections: Items<Collection>,
-    pub lines: Items<Line>,
+    pub lines: Items<EventLine>,
 }

@@ -3,7 +3,7 @@ use super::calls::Placed;
 use row_parts::script_of;
 use seq_model::{Refusal, Request};
 use std::alloc::Global;
-use step_script::Line;
+use step_script::EventLine;
 
 /// The calls of a script's lines with `; ` between.
 pub fn calls_of(alloc: Global, row: &str) -> Result<Vec<Placed<u64>>, Refusal> {
@@ -13,7 +13,7 @@ pub fn calls_of(alloc: Global, row: &str) -> Result<Vec<Placed<u64>>, Refusal> {
     calls
 }
 
-fn calls_in(alloc: Global, lines: &[Line]) -> Result<Vec<Placed<u64>>, Refusal> {
+fn calls_in(alloc: Global, lines: &[EventLine]) -> Result<Vec<Placed<u64>>, Refusal> {
     let mut calls = Vec::new(alloc);
     match add_calls(&mut calls, lines) {
         Ok(()) => Ok(calls),
@@ -24,16 +24,16 @@ fn calls_in(alloc: Global, lines: &[Line]) -> Result<Vec<Placed<u64>>, Refusal> 
     }
 }
 
-fn add_calls(calls: &mut Vec<Placed<u64>>, lines: &[Line]) -> Result<(), Refusal> {
+fn add_calls(calls: &mut Vec<Placed<u64>>, lines: &[EventLine]) -> Result<(), Refusal> {
     for line in lines {
         calls.push(call_of(line)?)?;
     }
     Ok(())
 }
 
-fn call_of(line: &Line) -> Result<Placed<u64>, Refusal> {
+fn call_of(line: &EventLine) -> Result<Placed<u64>, Refusal> {
     match line {
-        Line::Do(seat, Request::Call(call)) => Ok(Placed {
+        EventLine::Do(seat, Request::Call(call)) => Ok(Placed {
             seat: *seat,
             call: call.try_copy()?,
         }),

@@ -4,7 +4,7 @@ ghost use Rattle.table_tests.specs.Fit.{IsFit};
 use crate::shared::{Listed, Meeting, Page};
 use attempts::{Attempt, Pause, attempt_with};
 use seq_model::{Call, Refusal, Request};
-use step_script::Line;
+use step_script::EventLine;
 use transactions::TxSeat;
 use tx_table::TxTable;
 
@@ -130,7 +130,7 @@ fn attempt(
 }
 
 /// A transaction begins, makes the calls of these lines, and is left open.
-pub fn leave_open(page: &mut Page, table: &TxTable<u64>, seat: &mut TxSeat<u64>, lines: &[Line])
+pub fn leave_open(page: &mut Page, table: &TxTable<u64>, seat: &mut TxSeat<u64>, lines: &[EventLine])
     requires fit { IsFit table.now seat.old }
     ensures fit { IsFit table.now seat.new }
 {
@@ -138,7 +138,7 @@ pub fn leave_open(page: &mut Page, table: &TxTable<u64>, seat: &mut TxSeat<u64>,
     page.hear_done("left open", made);
 }
 
-fn make_lines(table: &TxTable<u64>, seat: &mut TxSeat<u64>, lines: &[Line]) -> Result<(), Refusal>
+fn make_lines(table: &TxTable<u64>, seat: &mut TxSeat<u64>, lines: &[EventLine]) -> Result<(), Refusal>
     requires fit { IsFit table.now seat.old }
     ensures fit { IsFit table.now seat.new }
 {
@@ -146,7 +146,7 @@ fn make_lines(table: &TxTable<u64>, seat: &mut TxSeat<u64>, lines: &[Line]) -> R
     make_each(table, seat, lines)
 }
 
-fn make_each(table: &TxTable<u64>, seat: &mut TxSeat<u64>, lines: &[Line]) -> Result<(), Refusal>
+fn make_each(table: &TxTable<u64>, seat: &mut TxSeat<u64>, lines: &[EventLine]) -> Result<(), Refusal>
     requires fit { IsFit table.now seat.old }
     ensures fit { IsFit table.now seat.new }
 {
@@ -161,7 +161,7 @@ pub fn repeat(
     page: &mut Page,
     table: &TxTable<u64>,
     seat: &mut TxSeat<u64>,
-    lines: &[Line],
+    lines: &[EventLine],
     times: u64,
 )
     requires fit { IsFit table.now seat.old }
@@ -174,7 +174,7 @@ pub fn repeat(
 fn make_often(
     table: &TxTable<u64>,
     seat: &mut TxSeat<u64>,
-    lines: &[Line],
+    lines: &[EventLine],
     times: u64,
 ) -> Result<(), Refusal>
     requires fit { IsFit table.now seat.old }
@@ -186,12 +186,12 @@ fn make_often(
     Ok(())
 }
 
-fn make_line(table: &TxTable<u64>, seat: &mut TxSeat<u64>, line: &Line) -> Result<(), Refusal>
+fn make_line(table: &TxTable<u64>, seat: &mut TxSeat<u64>, line: &EventLine) -> Result<(), Refusal>
     requires fit { IsFit table.now seat.old }
     ensures fit { IsFit table.now seat.new }
 {
     match line {
-        Line::Do(_, Request::Call(call)) => make_call(table, seat, call.try_copy()?),
+        EventLine::Do(_, Request::Call(call)) => make_call(table, seat, call.try_copy()?),
         _ => Err(Refusal::NoSuch),
     }
 }

@@ -8,7 +8,7 @@ use crate::shared::{Meeting, Order, Page, job_of, learn, say_last};
 use row_parts::script_of;
 use seq_model::Refusal;
 use std::alloc::Global;
-use step_script::{Line, Script};
+use step_script::{EventLine, Script};
 use text_lines::number;
 use transactions::TxSeat;
 use tx_table::TxTable;
@@ -138,12 +138,12 @@ fn answer_request(page: &mut Page, table: &TxTable<u64>, seat: &mut TxSeat<u64>,
     }
 }
 
-fn answer_line(page: &mut Page, table: &TxTable<u64>, seat: &mut TxSeat<u64>, line: Option<&Line>)
+fn answer_line(page: &mut Page, table: &TxTable<u64>, seat: &mut TxSeat<u64>, line: Option<&EventLine>)
     requires fit { IsFit table.now seat.old }
     ensures fit { IsFit table.now seat.new }
 {
     match line {
-        Some(Line::Do(_, request)) => ask(page, table, seat, request),
+        Some(EventLine::Do(_, request)) => ask(page, table, seat, request),
         _ => page.refuse(Refusal::NoSuch),
     }
 }

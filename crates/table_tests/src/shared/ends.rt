@@ -7,7 +7,7 @@ use row_parts::{print_reply, script_of};
 use seq_model::{AuditFault, Call, Memory, Record, Refusal, Reply, Request, State, Value, audit};
 use std::alloc::Global;
 use std::fmt::Write;
-use step_script::Line;
+use step_script::EventLine;
 use transactions::TxSeat;
 use tx_table::TxTable;
 
@@ -101,7 +101,7 @@ fn answer_call(
 ) -> Result<(), Refusal> {
     let script = script_of(*text.allocator(), call)?;
     let answered = match script.lines.as_slice().first() {
-        Some(Line::Do(_, Request::Call(call))) => make_call(text, last, row, call),
+        Some(EventLine::Do(_, Request::Call(call))) => make_call(text, last, row, call),
         _ => Err(Refusal::NoSuch),
     };
     drop(script);

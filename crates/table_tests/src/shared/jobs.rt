@@ -2,7 +2,7 @@
 use row_parts::script_of;
 use seq_model::{Memory, Refusal, Reply, Request};
 use std::alloc::Global;
-use step_script::{Line, Script};
+use step_script::{EventLine, Script};
 use tx_engine::{Ask, Job};
 
 /// A job that a row spells.
@@ -30,9 +30,9 @@ impl Job<u64> for Listed {
     }
 }
 
-fn next_call(line: Option<&Line>) -> Result<Ask<u64>, Memory> {
+fn next_call(line: Option<&EventLine>) -> Result<Ask<u64>, Memory> {
     match line {
-        Some(Line::Do(_, Request::Call(call))) => Ok(Ask::Call(call.try_copy()?)),
+        Some(EventLine::Do(_, Request::Call(call))) => Ok(Ask::Call(call.try_copy()?)),
         _ => Ok(Ask::Done),
     }
 }

@@ -1,8 +1,8 @@
 use Rattle.std.proofs.Common.{◌≡◌, ◌∙◌, ◌∷◌, [], ◌++◌, suc, ◌+◌, sym, ap, refl, subst, get_or, take, take_all, arith, List}
 use Rattle.std.proofs.Math.Seq.{take-suc}
 use Rattle.seq_model.specs.declared.event.Request.TheVariants.{Begin}
-use Rattle.step_script.specs.declared.script.Line.{Line}
-use Rattle.step_script.specs.declared.script.Line.TheVariants.{Ask}
+use Rattle.step_script.specs.declared.script.EventLine.{EventLine}
+use Rattle.step_script.specs.declared.script.EventLine.TheVariants.{Ask}
 use Rattle.session_text.specs.Plays.{ArePlays, HasPlayed, Keeps}
 use Rattle.session_text.proofs.PlayLemmas.{played_none, played_on, plays_after}
 use Rattle.session_text.proofs.run.Runner.run_lines.Goals as goal
@@ -28,5 +28,5 @@ returns c =
     let lines = c.args.lines.now in
     let start = c.args.self.now.waiting.items in
     let all = take_all c.loop-line.line-index lines (omega (arith, c.loop-line-test.false)) in
-    subst (λ (ls : List Line). HasPlayed (Keeps (ArePlays start ls) start c.loop-line.self.waiting.items) c.args.self.now.world.parts
+    subst (λ (ls : List EventLine). HasPlayed (Keeps (ArePlays start ls) start c.loop-line.self.waiting.items) c.args.self.now.world.parts
     c.args.self.now.notices c.loop-line.self.world.parts c.loop-line.self.notices) all c.loop-line.invariant
