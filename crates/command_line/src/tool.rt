@@ -216,7 +216,7 @@ fn refuse_words<W: Write, E: Write>(out: &mut W, err: &mut E, error: Error) -> u
     ensures starved { result ≡ MEMORY → HasBegun (E.contents err.old) (E.contents err.new) (line_of memory_text) }
 {
     match error.kind() {
-        ErrorKind::Memory => refuse_memory(err),
+        ErrorKind::OutOfMemory => refuse_memory(err),
         ErrorKind::DisplayHelp | ErrorKind::DisplayVersion => {
             status_of_write(err, write!(out, "{error}"))
         }

@@ -176,7 +176,7 @@ fn none_for(error: Error) -> Result<Option<String>, Memory>
     ensures none { IfOk result (λ file. (file ≡ None) × (kind_of error ≢ ErrorKind.Memory)) }
     ensures memory { IsErr result → kind_of error ≡ ErrorKind.Memory }
 {
-    if error.kind() == ErrorKind::Memory {
+    if error.kind() == ErrorKind::OutOfMemory {
         return Err(Memory);
     }
     Ok(None)

@@ -63,7 +63,7 @@ pub fn lists_of(alloc: Global, seed: u64, options: &Options) -> Result<Vec<Vec<A
 }
 
 pub fn memory(_memory: Memory) -> io::Error {
-    io::Error::from(io::ErrorKind::Memory)
+    io::Error::from(io::ErrorKind::OutOfMemory)
 }
 
 pub fn no_such_sessions() -> io::Error {

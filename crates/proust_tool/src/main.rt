@@ -85,7 +85,7 @@ fn words_of(rt: &HostRuntime) -> io::Result<Vec<String>> {
 
 fn refuse(rt: &HostRuntime, error: io::Error) -> u8 {
     let mut err = rt.stderr();
-    if error.kind() == io::ErrorKind::Memory {
+    if error.kind() == io::ErrorKind::OutOfMemory {
         return refuse_memory(&mut err);
     }
     fault(&mut err, REFUSED, "cannot read the words")

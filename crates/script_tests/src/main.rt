@@ -42,7 +42,7 @@ fn run<H: Threads + Wait + Clock + Sync>(threads: &H, rt: &HostRuntime) -> io::R
 }
 
 fn refuse(rt: &HostRuntime, error: &io::Error) -> u8 {
-    if error.kind() == io::ErrorKind::Memory {
+    if error.kind() == io::ErrorKind::OutOfMemory {
         let _ = rt.print("Memory\n");
         return MEMORY;
     }

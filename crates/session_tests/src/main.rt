@@ -25,7 +25,7 @@ const MEMORY: u8 = 2;
 fn main(rt: HostRuntime) -> ExitCode {
     let status = match io::read_to_string(rt.alloc(), rt.stdin()) {
         Ok(sections) => tell(&rt, answer_all(rt.alloc(), sections.as_str())),
-        Err(error) if error.kind() == io::ErrorKind::Memory => want(&rt),
+        Err(error) if error.kind() == io::ErrorKind::OutOfMemory => want(&rt),
         Err(_) => FAILED,
     };
     ExitCode::from(status)

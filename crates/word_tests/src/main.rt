@@ -33,12 +33,12 @@ fn run(rt: &HostRuntime) -> io::Result<()> {
     let rows = io::read_to_string(rt.alloc(), rt.stdin())?;
     match answer_all(rt.alloc(), rows.as_str()) {
         Ok(text) => rt.print(text.as_str()),
-        Err(_) => Err(io::Error::from(io::ErrorKind::Memory)),
+        Err(_) => Err(io::Error::from(io::ErrorKind::OutOfMemory)),
     }
 }
 
 fn refuse(rt: &HostRuntime, error: &io::Error) -> u8 {
-    if error.kind() == io::ErrorKind::Memory {
+    if error.kind() == io::ErrorKind::OutOfMemory {
         let _ = rt.print("Memory\n");
         return MEMORY;
     }
