@@ -212,7 +212,7 @@ fn refuse_words<W: Write, E: Write>(out: &mut W, err: &mut E, error: Error) -> u
     ensures kept { (out.new ≡ out.old) ⊎ IsInformation error }
     ensures unwritten { result ≡ REFUSED
         → (out.new ≡ out.old) ⊎ HasBegun (E.contents err.old) (E.contents err.new) (line_of unwritten_text) }
-    ensures memory { (result ≡ MEMORY) ↔ (kind_of error ≡ ErrorKind.Memory) }
+    ensures memory { (result ≡ MEMORY) ↔ (kind_of error ≡ ErrorKind.OutOfMemory) }
     ensures starved { result ≡ MEMORY → HasBegun (E.contents err.old) (E.contents err.new) (line_of memory_text) }
 {
     match error.kind() {

@@ -173,8 +173,8 @@ pub fn file_of(alloc: Global, words: &[String]) -> Result<Option<String>, Memory
 
 /// Refused words name no file; but words that could not be read for want of memory might.
 fn none_for(error: Error) -> Result<Option<String>, Memory>
-    ensures none { IfOk result (λ file. (file ≡ None) × (kind_of error ≢ ErrorKind.Memory)) }
-    ensures memory { IsErr result → kind_of error ≡ ErrorKind.Memory }
+    ensures none { IfOk result (λ file. (file ≡ None) × (kind_of error ≢ ErrorKind.OutOfMemory)) }
+    ensures memory { IsErr result → kind_of error ≡ ErrorKind.OutOfMemory }
 {
     if error.kind() == ErrorKind::OutOfMemory {
         return Err(Memory);
