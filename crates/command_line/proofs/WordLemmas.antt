@@ -13,7 +13,7 @@ use Rattle.command_line.specs.declared.work.Work.TheVariants.{Step}
 use Rattle.command_line.specs.Words.{AskForInformation, IsInformation, faults, file_word, if_none, task_by, task_of}
 
 -- an error that is not of memory is one of the words' faults
-pub is_fault : (kinds : Kinds) (error : Error) → HasKind kinds error → (kind_of error ≡ kind.Memory → ⊥)
+pub is_fault : (kinds : Kinds) (error : Error) → HasKind kinds error → (kind_of error ≡ kind.OutOfMemory → ⊥)
     → IsAmong (kind_of error) kinds
 is_fault kinds error (inl memory) other = absurd (other memory)
 is_fault kinds error (inr among) other = among
@@ -30,10 +30,10 @@ pub asks_for_information : (words : List Text) (error : Error) → HasKind (faul
     → AskForInformation words
 asks_for_information words error has (inl help) =
     inl (rw (sym help) (is_fault (faults words) error has (λ memory.
-    let no : kind.DisplayHelp ≡ kind.Memory = sym help ∙ memory in cc)))
+    let no : kind.DisplayHelp ≡ kind.OutOfMemory = sym help ∙ memory in cc)))
 asks_for_information words error has (inr version) =
     inr (rw (sym version) (is_fault (faults words) error has (λ memory.
-    let no : kind.DisplayVersion ≡ kind.Memory = sym version ∙ memory in cc)))
+    let no : kind.DisplayVersion ≡ kind.OutOfMemory = sym version ∙ memory in cc)))
 
 -- the subcommand that was met has its name, and what stands in FILE's place is in its rows
 some_is : {A : Type 0} (a b : A) → Some a ≡ Some b → a ≡ b
