@@ -21,7 +21,8 @@ use Rattle.word_machine.specs.Notices as told
 use Rattle.word_machine.proofs.Sets.{put-same}
 use Rattle.seq_model.specs.declared.call.Call.{Call}
 use Rattle.seq_model.specs.declared.call.Op.{Op}
-use Rattle.seq_model.specs.declared.call.Op.TheVariants.{Read, Write, Get, Put, Remove, Enqueue, Dequeue, Peek}
+use Rattle.seq_model.specs.declared.call.Op.TheVariants.{Read, Write, Remove, Len, Count, Add, Take, Least, Insert, TakeLeast, Enqueue}
+use Rattle.seq_model.specs.declared.call.Op.TheVariants.{Dequeue, Peek}
 use Rattle.seq_model.specs.declared.call.Reply.{Reply}
 use Rattle.seq_model.specs.declared.call.Reply.TheVariants as reply
 use Rattle.seq_model.specs.declared.event.Event.{Event}
@@ -66,98 +67,43 @@ use Rattle.tx_alone.specs.Alone.{IsSmall, weight, weights, IsPlain, ArePlain}
 -- ---- how many locations a call has
 module _ (V : Type 0) where
   map_few : (n : ℕ) (op : Op V) → IsSmall op → length (map_reads n op) ≤ weight op
-  map_few n (Get k) s = omega arith
-  map_few n (Put k v) s = omega arith
-  map_few n (Remove k) s = omega arith
-  map_few n Read s = omega arith
-  map_few n (Write v) s = omega arith
-  map_few n (Enqueue x) s = omega arith
-  map_few n Dequeue s = omega arith
-  map_few n Peek s = omega arith
-  map_few n op s = absurd s
+  map_few n Len s = absurd s
+  map_few n op s = omega arith
 
-  map_writes_few : (n : ℕ) (op : Op V) (r : Reply V) → IsSmall op → length (map_writes n op r) ≤ weight op
-  map_writes_few n (Get k) r s = omega arith
-  map_writes_few n (Put k v) r s = omega arith
-  map_writes_few n (Remove k) (reply.Value old) s = omega arith
-  map_writes_few n (Remove k) r s = omega arith
-  map_writes_few n Read r s = omega arith
-  map_writes_few n (Write v) r s = omega arith
-  map_writes_few n (Enqueue x) r s = omega arith
-  map_writes_few n Dequeue r s = omega arith
-  map_writes_few n Peek r s = omega arith
-  map_writes_few n op r s = absurd s
+  map_writes_few : (n : ℕ) (op : Op V) (r : Reply V) → length (map_writes n op r) ≤ weight op
+  map_writes_few n (Remove k) (reply.Value old) = omega arith
+  map_writes_few n op r = omega arith
 
-  bag_few : (n : ℕ) (op : Op V) → IsSmall op → length (multiset_reads n op) ≤ weight op
-  bag_few n (Get k) s = omega arith
-  bag_few n (Put k v) s = omega arith
-  bag_few n (Remove k) s = omega arith
-  bag_few n Read s = omega arith
-  bag_few n (Write v) s = omega arith
-  bag_few n (Enqueue x) s = omega arith
-  bag_few n Dequeue s = omega arith
-  bag_few n Peek s = omega arith
-  bag_few n op s = absurd s
+  bag_few : (n : ℕ) (op : Op V) → length (multiset_reads n op) ≤ weight op
+  bag_few n (Count x) = omega arith
+  bag_few n op = omega arith
 
-  bag_writes_few : (n : ℕ) (op : Op V) (r : Reply V) → IsSmall op → length (multiset_writes n op r) ≤ weight op
-  bag_writes_few n (Get k) r s = omega arith
-  bag_writes_few n (Put k v) r s = omega arith
-  bag_writes_few n (Remove k) r s = omega arith
-  bag_writes_few n Read r s = omega arith
-  bag_writes_few n (Write v) r s = omega arith
-  bag_writes_few n (Enqueue x) r s = omega arith
-  bag_writes_few n Dequeue r s = omega arith
-  bag_writes_few n Peek r s = omega arith
-  bag_writes_few n op r s = absurd s
+  bag_writes_few : (n : ℕ) (op : Op V) (r : Reply V) → length (multiset_writes n op r) ≤ weight op
+  bag_writes_few n (Add x) reply.Done = omega arith
+  bag_writes_few n (Take x) reply.Yes = omega arith
+  bag_writes_few n op r = omega arith
 
   pq_few : (n : ℕ) (op : Op V) (r : Reply V) → IsSmall op → length (priority_queue_reads n op r) ≤ weight op
-  pq_few n (Get k) r s = omega arith
-  pq_few n (Put k v) r s = omega arith
-  pq_few n (Remove k) r s = omega arith
-  pq_few n Read r s = omega arith
-  pq_few n (Write v) r s = omega arith
-  pq_few n (Enqueue x) r s = omega arith
-  pq_few n Dequeue r s = omega arith
-  pq_few n Peek r s = omega arith
-  pq_few n op r s = absurd s
+  pq_few n (Insert x) r s = absurd s
+  pq_few n TakeLeast r s = absurd s
+  pq_few n op r s = omega arith
 
   pq_writes_few : (n : ℕ) (op : Op V) (r : Reply V) (i : Note) → IsSmall op → length (priority_queue_writes n op r i) ≤ weight op
-  pq_writes_few n (Get k) r i s = omega arith
-  pq_writes_few n (Put k v) r i s = omega arith
-  pq_writes_few n (Remove k) r i s = omega arith
-  pq_writes_few n Read r i s = omega arith
-  pq_writes_few n (Write v) r i s = omega arith
-  pq_writes_few n (Enqueue x) r i s = omega arith
-  pq_writes_few n Dequeue r i s = omega arith
-  pq_writes_few n Peek r i s = omega arith
-  pq_writes_few n op r i s = absurd s
+  pq_writes_few n (Insert x) r i s = absurd s
+  pq_writes_few n TakeLeast r i s = absurd s
+  pq_writes_few n op r i s = omega arith
 
   queue_few : (n : ℕ) (op : Op V) (i : Note) → IsSmall op → length (queue_reads n op i) ≤ weight op
+  queue_few n Len i s = absurd s
   queue_few n (Enqueue x) (Index t) s = omega arith
-  queue_few n (Enqueue x) i s = omega arith
   queue_few n Dequeue (Index t) s = omega arith
-  queue_few n Dequeue i s = omega arith
   queue_few n Peek (Index t) s = omega arith
-  queue_few n Peek i s = omega arith
-  queue_few n (Get k) i s = omega arith
-  queue_few n (Put k v) i s = omega arith
-  queue_few n (Remove k) i s = omega arith
-  queue_few n Read i s = omega arith
-  queue_few n (Write v) i s = omega arith
-  queue_few n op i s = absurd s
+  queue_few n op i s = omega arith
 
-  queue_writes_few : (n : ℕ) (op : Op V) (r : Reply V) (i : Note) → IsSmall op → length (queue_writes n op r i) ≤ weight op
-  queue_writes_few n (Enqueue x) reply.Done (Index t) s = omega arith
-  queue_writes_few n (Enqueue x) r i s = omega arith
-  queue_writes_few n Dequeue (reply.Found x) (Index t) s = omega arith
-  queue_writes_few n Dequeue r i s = omega arith
-  queue_writes_few n Peek r i s = omega arith
-  queue_writes_few n (Get k) r i s = omega arith
-  queue_writes_few n (Put k v) r i s = omega arith
-  queue_writes_few n (Remove k) r i s = omega arith
-  queue_writes_few n Read r i s = omega arith
-  queue_writes_few n (Write v) r i s = omega arith
-  queue_writes_few n op r i s = absurd s
+  queue_writes_few : (n : ℕ) (op : Op V) (r : Reply V) (i : Note) → length (queue_writes n op r i) ≤ weight op
+  queue_writes_few n (Enqueue x) reply.Done (Index t) = omega arith
+  queue_writes_few n Dequeue (reply.Found x) (Index t) = omega arith
+  queue_writes_few n op r i = omega arith
 
 module _ {V : Type 0} where
   -- an outcome is that of the call that was asked
@@ -165,39 +111,25 @@ module _ {V : Type 0} where
   IsOf op None = Unit {0}
   IsOf op (Some r) = r.op ≡ op
 
-  bag_is : (op : Op V) (m : Multiset) → IsSmall op → IsOf op (bag.outcome_of op m)
-  bag_is (Get k) m s = tt
-  bag_is (Put k v) m s = tt
-  bag_is (Remove k) m s = tt
-  bag_is Read m s = tt
-  bag_is (Write v) m s = tt
-  bag_is (Enqueue x) m s = tt
-  bag_is Dequeue m s = tt
-  bag_is Peek m s = tt
-  bag_is op m s = absurd s
+  bag_is : (op : Op V) (m : Multiset) → IsOf op (bag.outcome_of op m)
+  bag_is (Count x) m = refl
+  bag_is (Add x) m = refl
+  bag_is (Take x) m = refl
+  bag_is op m = tt
 
   pq_is : (op : Op V) (m : pq.Shown) → IsSmall op → IsOf op (pq.outcome_of op m)
-  pq_is (Get k) m s = tt
-  pq_is (Put k v) m s = tt
-  pq_is (Remove k) m s = tt
-  pq_is Read m s = tt
-  pq_is (Write v) m s = tt
-  pq_is (Enqueue x) m s = tt
-  pq_is Dequeue m s = tt
-  pq_is Peek m s = tt
-  pq_is op m s = absurd s
+  pq_is Least m s = absurd s
+  pq_is (Insert x) m s = absurd s
+  pq_is TakeLeast m s = absurd s
+  pq_is op m s = tt
 
-  queue_is : (op : Op V) (m : queue.Shown) → IsSmall op → IsOf op (queue.outcome_of op m)
-  queue_is (Get k) m s = tt
-  queue_is (Put k v) m s = tt
-  queue_is (Remove k) m s = tt
-  queue_is Read m s = tt
-  queue_is (Write v) m s = tt
-  queue_is (Enqueue x) m s =
+  queue_is : (op : Op V) (m : queue.Shown) → IsOf op (queue.outcome_of op m)
+  queue_is (Enqueue x) m =
       cond_both {A = Outcome V} (nat_lt m.tail INDEX_LIMIT) _ _ (λ (r : Outcome V). r.op ≡ Enqueue x) (λ _. refl) (λ _. refl)
-  queue_is Dequeue m s = refl
-  queue_is Peek m s = refl
-  queue_is op m s = absurd s
+  queue_is Dequeue m = refl
+  queue_is Peek m = refl
+  queue_is Len m = refl
+  queue_is op m = tt
 
   map_is : (op : Op V) (m : FinMap nat_cmp V) → IsOf op (map.outcome_of op m)
   map_is op m = by (map_call op m)
@@ -209,21 +141,21 @@ module _ {V : Type 0} where
 
   is_of : (op : Op V) (s : Shown V) → IsSmall op → IsOf op (outcome_of op s)
   is_of op (OfMap m) s = map_is op m
-  is_of op (OfBag m) s = bag_is op m s
+  is_of op (OfBag m) s = bag_is op m
   is_of op (OfPq m) s = pq_is op m s
-  is_of op (OfQueue m) s = queue_is op m s
+  is_of op (OfQueue m) s = queue_is op m
 
   kind_reads : (n : ℕ) (k : Kind) (w : ℕ → Shown V) (r : Outcome V) → IsSmall r.op → length (reads_of n r (whole n k w)) ≤ weight r.op
   kind_reads n MapKind w r s = map_few V n r.op s
-  kind_reads n BagKind w r s = bag_few V n r.op s
+  kind_reads n BagKind w r s = bag_few V n r.op
   kind_reads n PqKind w r s = pq_few V n r.op r.reply s
   kind_reads n QueueKind w r s = queue_few V n r.op r.note s
 
   kind_writes : (n : ℕ) (k : Kind) (w : ℕ → Shown V) (r : Outcome V) → IsSmall r.op → length (writes_of n r (whole n k w)) ≤ weight r.op
-  kind_writes n MapKind w r s = map_writes_few V n r.op r.reply s
-  kind_writes n BagKind w r s = bag_writes_few V n r.op r.reply s
+  kind_writes n MapKind w r s = map_writes_few V n r.op r.reply
+  kind_writes n BagKind w r s = bag_writes_few V n r.op r.reply
   kind_writes n PqKind w r s = pq_writes_few V n r.op r.reply r.note s
-  kind_writes n QueueKind w r s = queue_writes_few V n r.op r.reply r.note s
+  kind_writes n QueueKind w r s = queue_writes_few V n r.op r.reply r.note
 
   abbrev FewIn : Op V → Option Block → ℕ → Option (Outcome V) → Type 0
   FewIn op b f o = (length (reads_in b f o) ≤ weight op) × (length (writes_in b f o) ≤ weight op)
