@@ -1,2 +1,1 @@
-pub mod ThereLemmas
 pub mod RoomLemmas

@@ -6,7 +6,7 @@ use Rattle.replay_log.specs.WorldProgress.{whose}
 use Rattle.replay_log.specs.Worlds.{happens, opened, run}
 use Rattle.session_worlds.specs.Asking.{Actions, AskAsSessions, MayHappen, Turn, events_of}
 use Rattle.session_worlds.specs.Serial.{begun_all}
-use Rattle.tx_alone.specs.Beside.{BeginsNoReader, TellsMisfit}
+use Rattle.tx_alone.specs.Beside.{BeginsNoReader, RefusesAsMistaken}
 use Rattle.vac_model.specs.Actions.{IsAllowed}
 use Rattle.vac_model.specs.Holdings.{Holdings}
 use Rattle.vacation_core.specs.Holding.{state_of}
@@ -20,4 +20,4 @@ SessionsFindRoom =
     → let first = opened blocks clock (state_of tables).words (state_of tables).held in
     let w = run first (events_of turns) in
     AskAsSessions actions first turns → BeginsNoReader a (events_of turns)
-    → (t : Turn) → whose t.0 ≡ a → MayHappen (begun_all actions first turns) w t → TellsMisfit (happens w t.0).1 → ⊥
+    → (t : Turn) → whose t.0 ≡ a → MayHappen (begun_all actions first turns) w t → RefusesAsMistaken (happens w t.0).1 → ⊥

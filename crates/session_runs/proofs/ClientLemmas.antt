@@ -69,17 +69,16 @@ reached h l = record {
   world = refl;
 }
 
-told_of : (h : History) (e : Event Entry) (c d : Parts Entry) (n : Notice Entry) → is_actor (whose e) ≡ true → IsLawful h
+pub told_of : (h : History) (e : Event Entry) (c d : Parts Entry) (n : Notice Entry) → is_actor (whose e) ≡ true → IsLawful h
     → IsWorld c (world_in h) → Feeds c e d n → n ≡ (happens (world_in h) e).1
 told_of h e c d n is l at f =
     f.told (state_of h.tables) (world_in h) (reached h l) at
     ∙ ap (λ (r : World Entry × Notice Entry). r.1) (cond-true (is_actor (whose e)) _ _ is)
 
-parts_of : (h : History) (t : Turn) (c d : Parts Entry) (n : Notice Entry) → is_actor (whose t.0) ≡ true → IsLawful h
-    → IsWorld c (world_in h) → Feeds c t.0 d n → IsWorld d (world_in (next h t))
-parts_of h t c d n is l at f =
-    subst (IsWorld d)
-    (ap (λ (r : World Entry × Notice Entry). r.0) (cond-true (is_actor (whose t.0)) _ _ is) ∙ sym (world_next h t))
+pub parts_of : (h : History) (e : Event Entry) (c d : Parts Entry) (n : Notice Entry) → is_actor (whose e) ≡ true → IsLawful h
+    → IsWorld c (world_in h) → Feeds c e d n → IsWorld d (happens (world_in h) e).0
+parts_of h e c d n is l at f =
+    subst (IsWorld d) (ap (λ (r : World Entry × Notice Entry). r.0) (cond-true (is_actor (whose e)) _ _ is))
     (f.parts (state_of h.tables) (world_in h) (reached h l) at)
 
 plain_next : (a : ℕ) (ts : List Turn) (t : Turn) → ArePlain a (events_of ts) → IsPlain a t.0 → ArePlain a (events_of (ts ++ t ∷ []))
@@ -112,7 +111,9 @@ module _ (a : ℕ) (tables : Holdings) where
     asked = (let more = commits_next x.history.turns t in omega (arith, more, asked));
     few = few;
     at = at;
-    parts = parts_of x.history t c d told (ap is_actor (own a t.0 plain) ∙ x.actor) x.lawful x.parts f;
+    parts =
+        subst (IsWorld d) (sym (world_next x.history t))
+        (parts_of x.history t.0 c d told (ap is_actor (own a t.0 plain) ∙ x.actor) x.lawful x.parts f);
   }
 
 -- ---- a request that is under way

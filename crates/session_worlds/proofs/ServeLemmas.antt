@@ -237,14 +237,14 @@ module _ (blocks : List Block) (stripes : HaveStripes blocks) (clock : ℕ) (val
 
   -- Events led to w. Each actor's transaction follows the session of its action, and began when no record of that actor had a greater
   -- number; the records are sessions, those of each actor being of these actions in its order.
-  record Serves (so_far : ℕ → List Action) (actions : Actions) (w : World Entry) : Type 0 where
-    events : List (Event Entry)
-    reached : run start events ≡ w
-    allowed : (a : ℕ) → IsAllowed (actions a)
-    seats : (a : ℕ) → IsFollowing (OwnUpTo a w.records) (session (actions a)) (w.seats a)
-    deals : List Deal
-    sessions : AreSessions deals w.records
-    own : (c : ℕ) → actions_of c deals w.records ≡ so_far c
+  pub record Serves (so_far : ℕ → List Action) (actions : Actions) (w : World Entry) : Type 0 where
+    pub events : List (Event Entry)
+    pub reached : run start events ≡ w
+    pub allowed : (a : ℕ) → IsAllowed (actions a)
+    pub seats : (a : ℕ) → IsFollowing (OwnUpTo a w.records) (session (actions a)) (w.seats a)
+    pub deals : List Deal
+    pub sessions : AreSessions deals w.records
+    pub own : (c : ℕ) → actions_of c deals w.records ≡ so_far c
 
   serial_there : (w : World Entry) (es : List (Event Entry)) → run start es ≡ w → IsSerial (record { words = values; held = held }) w
   serial_there w es is = subst (λ (u : World Entry). IsSerial (record { words = values; held = held }) u) is
@@ -427,8 +427,8 @@ module _ (blocks : List Block) (stripes : HaveStripes blocks) (clock : ℕ) (val
   asks_on so_far actions w a q s own =
       quietly so_far actions actions w (Ask a q) s (asked_records w a q) s.allowed (λ b isnt. refl) own
 
-  serves_on : (so_far : ℕ → List Action) (actions : Actions) (w : World Entry) (t : Turn) → Serves so_far actions w → MayHappen actions w t
-      → Serves (λ c. so_far c ++ committed_in c actions w t) (begun actions w t) (happens w t.0).0
+  pub serves_on : (so_far : ℕ → List Action) (actions : Actions) (w : World Entry) (t : Turn) → Serves so_far actions w
+      → MayHappen actions w t → Serves (λ c. so_far c ++ committed_in c actions w t) (begun actions w t) (happens w t.0).0
   serves_on so_far actions w (Ask a request.Begin, action) s may =
       begins_at so_far actions w a request.Begin action (w.seats a).stage refl s may
       (λ p f. (requests_follow (OwnUpTo a w.records) p w a request.Begin f tt).0)
@@ -460,7 +460,7 @@ module _ (blocks : List Block) (stripes : HaveStripes blocks) (clock : ℕ) (val
       (λ c. append_assoc (so_far c) (committed_in c actions w t) (committed_of c later u ts))
       (serves_all (λ c. so_far c ++ committed_in c actions w t) later u ts (serves_on so_far actions w t s may.0) may.1)
 
-  opens_serving : (actions : Actions) → ((a : ℕ) → IsAllowed (actions a)) → Serves (λ c. []) actions start
+  pub opens_serving : (actions : Actions) → ((a : ℕ) → IsAllowed (actions a)) → Serves (λ c. []) actions start
   opens_serving actions allowed = record {
     events = [];
     reached = refl;

@@ -28,8 +28,10 @@ use Rattle.replay_log.specs.Contents.{Block, HaveStripes}
 use Rattle.replay_log.specs.WorldAnswers.{IsRefusal, IsRefusedAt, IsStarved, is_there}
 use Rattle.replay_log.specs.WorldProgress.{whose}
 use Rattle.replay_log.specs.WorldRefusals.{IsCause, is_ending}
-use Rattle.replay_log.specs.Worlds.{World, Seat, Stage, After, Idle, Beginning, Open, Locking, Releasing, Closing, Cancelling, Leaving, Reading}
-use Rattle.replay_log.specs.Worlds.{Trying, Copying, Loading, Gating, Ready, Storing, Homing, Returning, acted, actor_of, asks, at_stage, because}
+use Rattle.replay_log.specs.Worlds.{World, Seat, Stage, After, Idle, Beginning, Open, Locking, Releasing, Closing, Cancelling, Leaving}
+use Rattle.replay_log.specs.Worlds.{Reading}
+use Rattle.replay_log.specs.Worlds.{Trying, Copying, Loading, Gating, Ready, Storing, Homing, Returning, acted, actor_of, asks, at_stage}
+use Rattle.replay_log.specs.Worlds.{because}
 use Rattle.replay_log.specs.Worlds.{ask_at, ask_op, calls_on, cancels, gives_up, commits, fits, happens, is_leaving, no_one, opened, run}
 use Rattle.replay_log.specs.Worlds.{starve_at, step_at}
 use Rattle.replay_log.proofs.AnswerLemmas.{NoRefusal, refused_step, starved_end, starves}
@@ -39,8 +41,10 @@ use Rattle.replay_log.proofs.RefusalLemmas.{keeps_cause, world_causes}
 use Rattle.replay_log.proofs.RequestLemmas.{happens_by}
 use Rattle.replay_log.proofs.SeatLemmas.{Linked}
 use Rattle.tx_alone.specs.Alone.{IsSmall, weight, weights}
-use Rattle.tx_alone.specs.Beside.{AreFitting, BeginsNoReader, IsFitting, IsMisfit, TellsMisfit}
-use Rattle.tx_alone.proofs.BoundLemmas.{BoundAt, acts_on, begins_bound, bound_more, calls_bound, cancels_on, commits_bound, due, gives_up_on}
+use Rattle.tx_alone.specs.Beside.{AreFitting, BeginsNoReader, IsFitting, IsNoReader, RefusesAsMistaken}
+use Rattle.tx_phases.specs.Phases.{IsMistaken}
+use Rattle.tx_alone.proofs.BoundLemmas.{BoundAt, acts_on, begins_bound, bound_more, calls_bound, cancels_on, commits_bound, due}
+use Rattle.tx_alone.proofs.BoundLemmas.{gives_up_on}
 use Rattle.tx_alone.proofs.BoundLemmas.{op_on, step_on}
 use Rattle.seq_model.specs.declared.call.Call.{Call}
 use Rattle.tx_alone.proofs.AloneLemmas.{allowed_no, by_notice, calls_on_no, copying_no, ending_goes, or_true, reads_no, same_cause}
@@ -51,8 +55,8 @@ use Rattle.tx_alone.proofs.FewLemmas.{gives_up_sized, sits, step_sized}
 abbrev HasRoom : ℕ → Type 0
 HasRoom n = n ≤ 4096
 
-memory_well : (o : Option Refusal) → o ≡ Some refusal.Memory → (c : Refusal) → o ≡ Some c → IsMisfit c → ⊥
-memory_well o e c is m = subst IsMisfit (same_cause c refusal.Memory (sym is ∙ e)) m
+memory_well : (o : Option Refusal) → o ≡ Some refusal.Memory → (c : Refusal) → o ≡ Some c → IsMistaken c → ⊥
+memory_well o e c is m = subst IsMistaken (same_cause c refusal.Memory (sym is ∙ e)) m
 
 none_some : (c : Refusal) → None ≡ Some c → ⊥
 none_some c e = cc
@@ -133,16 +137,16 @@ module _ {V : Type 0} where
       allowed_no w a x _ true (calls_on w a x (record { collection = t; op = op })) there short refl
       (calls_on_no w a x (record { collection = t; op = op }) h small few)
 
-  misfit_refused : (n : Notice V) → TellsMisfit n → IsRefusal n
-  misfit_refused (Refused b c) h = tt
-  misfit_refused n h = absurd h
+  mistaken_refused : (n : Notice V) → RefusesAsMistaken n → IsRefusal n
+  mistaken_refused (Refused b c) h = tt
+  mistaken_refused n h = absurd h
 
-  commits_tell : (w : World V) (a : ℕ) (x : Seat V) (es : Entries) → TellsMisfit (commits w a x es).1 → ⊥
+  commits_tell : (w : World V) (a : ℕ) (x : Seat V) (es : Entries) → RefusesAsMistaken (commits w a x es).1 → ⊥
   commits_tell w a x [] h = h
   commits_tell w a x (e ∷ es) h = h
 
   ask_tells : (w : World V) (a : ℕ) (st : Stage V) (q : Request V) → (w.seats a).stage ≡ st → IsFitting w a (Ask a q)
-      → Sized HasRoom (w.seats a) st (actor_of w a) → TellsMisfit (ask_at w a (w.seats a) st q).1 → ⊥
+      → Sized HasRoom (w.seats a) st (actor_of w a) → RefusesAsMistaken (ask_at w a (w.seats a) st q).1 → ⊥
   ask_tells w a Idle request.Begin at fit h t = t
   ask_tells w a Idle request.BeginRead at fit h t = t
   ask_tells w a Idle q at fit h t = t
@@ -150,36 +154,29 @@ module _ {V : Type 0} where
   ask_tells w a Open request.BeginRead at fit h t = t
   ask_tells w a Open (request.Call call) at fit h t =
       let f = fit refl at in
-      op_fits w a (w.seats a) call.target call.op h f.small f.there f.short f.room (misfit_refused _ t)
+      op_fits w a (w.seats a) call.target call.op h f.small f.there f.short f.room (mistaken_refused _ t)
   ask_tells w a Open request.Commit at fit h t = commits_tell w a (w.seats a) (actor_of w a).writes t
   ask_tells w a Open request.Abort at fit h t = t
   ask_tells w a st q at fit h t = t
 
   -- ---- a want of memory
-  starved_tells : (w : World V) (a : ℕ) (st : Stage V) (r : After V) → IsStarved w a st r → TellsMisfit r.1 → ⊥
-  starved_tells w a Idle r h t = subst (λ (s : After V). TellsMisfit s.1) h t
-  starved_tells w a Open r h t = subst (λ (s : After V). TellsMisfit s.1) h t
-  starved_tells w a Beginning r h t = subst TellsMisfit h.1 t
-  starved_tells w a (Storing ks) r h t = subst (λ (s : After V). TellsMisfit s.1) h t
-  starved_tells w a (Homing ks) r h t = subst (λ (s : After V). TellsMisfit s.1) h t
-  starved_tells w a Releasing r h t = subst (λ (s : After V). TellsMisfit s.1) h t
-  starved_tells w a (Returning ks) r h t = subst (λ (s : After V). TellsMisfit s.1) h t
-  starved_tells w a Cancelling r h t = subst (λ (s : After V). TellsMisfit s.1) h t
-  starved_tells w a Leaving r h t = subst (λ (s : After V). TellsMisfit s.1) h t
-  starved_tells w a (Reading l) r h t = subst TellsMisfit h.2 t
-  starved_tells w a (Trying asked tries) r h t = subst TellsMisfit h.2 t
-  starved_tells w a (Copying asked) r h t = subst TellsMisfit h.2 t
-  starved_tells w a (Loading o es) r h t = subst TellsMisfit h.2 t
-  starved_tells w a Locking r h t = subst TellsMisfit h.2 t
-  starved_tells w a (Gating got ks tries) r h t = subst TellsMisfit h.2 t
-  starved_tells w a (Ready ks) r h t = subst TellsMisfit h.2 t
-  starved_tells w a Closing r h t = subst TellsMisfit h.2 t
+  starved_tells : (w : World V) (a : ℕ) (st : Stage V) (r : After V) → IsStarved w a st r → RefusesAsMistaken r.1 → ⊥
+  starved_tells w a Idle r h t = subst (λ (s : After V). RefusesAsMistaken s.1) h t
+  starved_tells w a Open r h t = subst (λ (s : After V). RefusesAsMistaken s.1) h t
+  starved_tells w a Beginning r h t = subst RefusesAsMistaken h.1 t
+  starved_tells w a (Storing ks) r h t = subst (λ (s : After V). RefusesAsMistaken s.1) h t
+  starved_tells w a (Homing ks) r h t = subst (λ (s : After V). RefusesAsMistaken s.1) h t
+  starved_tells w a Releasing r h t = subst (λ (s : After V). RefusesAsMistaken s.1) h t
+  starved_tells w a (Returning ks) r h t = subst (λ (s : After V). RefusesAsMistaken s.1) h t
+  starved_tells w a Cancelling r h t = subst (λ (s : After V). RefusesAsMistaken s.1) h t
+  starved_tells w a Leaving r h t = subst (λ (s : After V). RefusesAsMistaken s.1) h t
+  starved_tells w a st r h t = subst RefusesAsMistaken h.2 t
 
-  -- ---- a cause that is noted is no misfit
+  -- ---- a cause that is noted is no mistake
   abbrev EndsWell : ℕ → World V → Type 0
-  EndsWell a w = is_ending (w.seats a).stage ≡ true → (c : Refusal) → (w.seats a).cause ≡ Some c → IsMisfit c → ⊥
+  EndsWell a w = is_ending (w.seats a).stage ≡ true → (c : Refusal) → (w.seats a).cause ≡ Some c → IsMistaken c → ⊥
 
-  found_well : (w : World V) (a : ℕ) (st : Stage V) (u : World V) (c : Refusal) → IsCause w a st u c → IsMisfit c → ⊥
+  found_well : (w : World V) (a : ℕ) (st : Stage V) (u : World V) (c : Refusal) → IsCause w a st u c → IsMistaken c → ⊥
   found_well w a st u refusal.NoSuch h m = h
   found_well w a st u refusal.TooLong h m = h
   found_well w a st u c h m = m
@@ -224,14 +221,7 @@ module _ {V : Type 0} where
   starve_ends_at w a (Returning ks) r at was h e c is m = true≢false was
   starve_ends_at w a Cancelling r at was h e c is m = true≢false was
   starve_ends_at w a Leaving r at was h e c is m = true≢false was
-  starve_ends_at w a (Reading l) r at was h e c is m = memory_well (r.0.seats a).cause h.1 c is m
-  starve_ends_at w a (Trying asked tries) r at was h e c is m = memory_well (r.0.seats a).cause h.1 c is m
-  starve_ends_at w a (Copying asked) r at was h e c is m = memory_well (r.0.seats a).cause h.1 c is m
-  starve_ends_at w a (Loading o es) r at was h e c is m = memory_well (r.0.seats a).cause h.1 c is m
-  starve_ends_at w a Locking r at was h e c is m = memory_well (r.0.seats a).cause h.1 c is m
-  starve_ends_at w a (Gating got ks tries) r at was h e c is m = memory_well (r.0.seats a).cause h.1 c is m
-  starve_ends_at w a (Ready ks) r at was h e c is m = memory_well (r.0.seats a).cause h.1 c is m
-  starve_ends_at w a Closing r at was h e c is m = memory_well (r.0.seats a).cause h.1 c is m
+  starve_ends_at w a st r at was h e c is m = memory_well (r.0.seats a).cause h.1 c is m
 
   starve_ends : (w : World V) (a : ℕ) → EndsWell a w → EndsWell a (happens w (Starve a)).0
   starve_ends w a h =
@@ -255,7 +245,7 @@ module _ {V : Type 0} where
           | inl was ↦ λ c is m. h was c (sym (keeps_cause w a was e) ∙ is) m
           | inr wasnt ↦ λ c is m. (
               let new = world_causes blocks clock values held events a stripes wasnt e in
-              found_well w a (w.seats a).stage u new.0 new.2 (subst IsMisfit (same_cause c new.0 (sym is ∙ new.1)) m))
+              found_well w a (w.seats a).stage u new.0 new.2 (subst IsMistaken (same_cause c new.0 (sym is ∙ new.1)) m))
         ]
 
     own_ends : (events : List (Event V)) (e : Event V) → whose e ≡ a → EndsWell a (run o events) → EndsWell a (happens (run o events) e).0
@@ -270,7 +260,7 @@ module _ {V : Type 0} where
         elim (cases_eq a (whose e)) [
           | inl same ↦ own_ends events e (sym same) h
           | inr ne ↦
-              subst (λ (x : Seat V). is_ending x.stage ≡ true → (c : Refusal) → x.cause ≡ Some c → IsMisfit c → ⊥)
+              subst (λ (x : Seat V). is_ending x.stage ≡ true → (c : Refusal) → x.cause ≡ Some c → IsMistaken c → ⊥)
               (sym ((happens_by w e).seats a ne)) h
         ]
 
@@ -295,15 +285,15 @@ module _ {V : Type 0} where
       pub few_open : (w.seats a).stage ≡ Open
           → (length (actor_of w a).reads ≤ weights (w.seats a).calls) × (length (actor_of w a).writes ≤ weights (w.seats a).calls)
       few_open at =
-          let h : IsFew (weights (w.seats a).calls) (actor_of w a) = subst (λ (st : Stage V). Sized HasRoom (w.seats a) st (actor_of w a)) at
-          sized in
+          let x = w.seats a in
+          let h : IsFew (weights x.calls) (actor_of w a) = subst (λ (st : Stage V). Sized HasRoom x st (actor_of w a)) at sized in
           (h.reads, h.writes)
 
       step_tells : (st : Stage V) (u : World V) (c : Refusal) → Sized HasRoom (w.seats a) st (actor_of w a) → (w.seats a).stage ≡ st
-          → IsRefusedAt w a st u c → (happens w (Step a)).1 ≡ Refused a c → IsMisfit c → ⊥
-      step_tells Idle u c h at is n m = subst IsMisfit is.0 m
-      step_tells Open u c h at is n m = subst IsMisfit is.0 m
-      step_tells Beginning u c h at is n m = subst IsMisfit is.0 m
+          → IsRefusedAt w a st u c → (happens w (Step a)).1 ≡ Refused a c → IsMistaken c → ⊥
+      step_tells Idle u c h at is n m = subst IsMistaken is.0 m
+      step_tells Open u c h at is n m = subst IsMistaken is.0 m
+      step_tells Beginning u c h at is n m = subst IsMistaken is.0 m
       step_tells (Copying asked) u c h at is n m =
           let none : NoRefusal (happens w (Step a)) = subst (λ (st : Stage V). NoRefusal (step_at w a (w.seats a) st)) (sym at)
           (copying_no w a (w.seats a) asked h.0 h.1 h.2) in
@@ -311,21 +301,22 @@ module _ {V : Type 0} where
       step_tells Leaving u c h at is n m = well (ap is_ending at) c is.0 m
       step_tells st u c h at is n m = is
 
-      own_tells : (e : Event V) → whose e ≡ a → IsFitting w a e → TellsMisfit (happens w e).1 → ⊥
+      own_tells : (e : Event V) → whose e ≡ a → IsFitting w a e → RefusesAsMistaken (happens w e).1 → ⊥
       own_tells (Ask b q) m f t =
           ask_tells w a (w.seats a).stage q refl (subst (λ i. IsFitting w a (Ask i q)) m f) sized
-          (subst (λ i. TellsMisfit (happens w (Ask i q)).1) m t)
+          (subst (λ i. RefusesAsMistaken (happens w (Ask i q)).1) m t)
       own_tells (Step b) m f t =
-          let n = subst (λ i. TellsMisfit (happens w (Step i)).1) m t in
+          let n = subst (λ i. RefusesAsMistaken (happens w (Step i)).1) m t in
           let st = (w.seats a).stage in
           let u = (happens w (Step a)).0 in
-          let why = by_notice a (IsRefusedAt w a st u) (happens w (Step a)).1 (refused_step w a (linked events)) (misfit_refused _ n) in
-          step_tells st u why.0 sized refl why.1 why.2 (subst TellsMisfit why.2 n)
+          let why = by_notice a (IsRefusedAt w a st u) (happens w (Step a)).1 (refused_step w a (linked events)) (mistaken_refused _ n) in
+          step_tells st u why.0 sized refl why.1 why.2 (subst RefusesAsMistaken why.2 n)
       own_tells (Starve b) m f t =
-          starved_tells w a (w.seats a).stage (happens w (Starve a)) (starves w a) (subst (λ i. TellsMisfit (happens w (Starve i)).1) m t)
+          starved_tells w a (w.seats a).stage (happens w (Starve a)) (starves w a)
+          (subst (λ i. RefusesAsMistaken (happens w (Starve i)).1) m t)
 
-      pub never_misfit : (e : Event V) → whose e ≡ a → IsFitting w a e → TellsMisfit (happens w e).1 → ⊥
-      never_misfit e m f t = own_tells e m f t
+      pub never_mistaken : (e : Event V) → whose e ≡ a → IsFitting w a e → RefusesAsMistaken (happens w e).1 → ⊥
+      never_mistaken e m f t = own_tells e m f t
 
 -- ---- no declared reader
 module _ {V : Type 0} (a : ℕ) where
@@ -377,37 +368,28 @@ module _ {V : Type 0} (a : ℕ) where
   starve_none_at w x Closing d = gives_up_none w (because x refusal.Memory) [] d
   starve_none_at w x st d = d
 
-  ask_none : (w : World V) (q : Request V) → BeginsNoReader a (Ask a q ∷ []) → IsNone w → IsNone (happens w (Ask a q)).0
+  ask_none : (w : World V) (q : Request V) → IsNoReader a (Ask a q) → IsNone w → IsNone (happens w (Ask a q)).0
   ask_none w request.Begin free d = begins_none w d
-  ask_none w request.BeginRead free d = absurd (free.0 refl)
+  ask_none w request.BeginRead free d = absurd (free refl)
   ask_none w (request.Call call) free d = calls_none w call d
   ask_none w request.Commit free d = commits_none w d
   ask_none w request.Abort free d = abort_none_at w (w.seats a).stage d
 
-  own_none : (w : World V) (e : Event V) → whose e ≡ a → BeginsNoReader a (e ∷ []) → IsNone w → IsNone (happens w e).0
+  own_none : (w : World V) (e : Event V) → whose e ≡ a → IsNoReader a e → IsNone w → IsNone (happens w e).0
   own_none w (Ask b q) m free d =
-      subst (λ i. IsNone (happens w (Ask i q)).0) (sym m) (ask_none w q (subst (λ i. BeginsNoReader a (Ask i q ∷ [])) m free) d)
+      subst (λ i. IsNone (happens w (Ask i q)).0) (sym m) (ask_none w q (subst (λ i. IsNoReader a (Ask i q)) m free) d)
   own_none w (Step b) m free d =
       subst (λ i. IsNone (happens w (Step i)).0) (sym m) (step_on (now w) a w (w.seats a) (w.seats a).stage (bound_now w d)).undeclared
   own_none w (Starve b) m free d =
       subst (λ i. IsNone (happens w (Starve i)).0) (sym m) (starve_none_at w (w.seats a) (w.seats a).stage d)
 
-  pub one_none : (w : World V) (e : Event V) → BeginsNoReader a (e ∷ []) → IsNone w → IsNone (happens w e).0
+  pub one_none : (w : World V) (e : Event V) → IsNoReader a e → IsNone w → IsNone (happens w e).0
   one_none w e free d =
       elim (cases_eq a (whose e)) [
         | inl same ↦ own_none w e (sym same) free d
         | inr ne ↦ ap (λ (y : Actor). y.declared) ((happens_by w e).actors a ne) ∙ d
       ]
 
-  pub split_none : (e : Event V) (es : List (Event V)) → BeginsNoReader a (e ∷ es) → BeginsNoReader a (e ∷ []) × BeginsNoReader a es
-  split_none (Ask b request.Begin) es h = (tt, h)
-  split_none (Ask b request.BeginRead) es h = ((h.0, tt), h.1)
-  split_none (Ask b (request.Call call)) es h = (tt, h)
-  split_none (Ask b request.Commit) es h = (tt, h)
-  split_none (Ask b request.Abort) es h = (tt, h)
-  split_none (Step b) es h = (tt, h)
-  split_none (Starve b) es h = (tt, h)
-
   pub all_none : (es : List (Event V)) (w : World V) → BeginsNoReader a es → IsNone w → IsNone (run w es)
   all_none [] w free d = d
-  all_none (e ∷ es) w free d = (let s = split_none e es free in all_none es (happens w e).0 s.1 (one_none w e s.0 d))
+  all_none (e ∷ es) w free d = all_none es (happens w e).0 free.1 (one_none w e free.0 d)

@@ -8,17 +8,10 @@ use Rattle.seq_model.specs.declared.event.Notice.{Notice}
 use Rattle.seq_model.specs.declared.event.Notice.TheVariants.{Refused}
 use Rattle.seq_model.specs.declared.event.Request.TheVariants as request
 use Rattle.seq_model.specs.declared.limits.TheConstants.{CALL_LIMIT}
-use Rattle.seq_model.specs.declared.refusal.Refusal.{Refusal}
-use Rattle.seq_model.specs.declared.refusal.Refusal.TheVariants.{NoSuch, TooLong}
 use Rattle.replay_log.specs.WorldAnswers.{is_there}
 use Rattle.replay_log.specs.Worlds.{World, Open, happens}
 use Rattle.tx_alone.specs.Alone.{IsSmall, weight, weights}
-
--- a refusal of which the call itself is the cause
-abbrev pub IsMisfit : Refusal → Type 0
-IsMisfit NoSuch = Unit {0}
-IsMisfit TooLong = Unit {0}
-IsMisfit cause = ⊥
+use Rattle.tx_phases.specs.Phases.{IsMistaken}
 
 module _ {V : Type 0} where
   -- The call is on a word, a key of a map or an end of a queue; there is what it asks of; and behind the calls that actor a has made, it is
@@ -39,12 +32,16 @@ module _ {V : Type 0} where
   AreFitting w a [] = Unit {0}
   AreFitting w a (e ∷ es) = IsFitting w a e × AreFitting (happens w e).0 a es
 
-  abbrev pub TellsMisfit : Notice V → Type 0
-  TellsMisfit (Refused a cause) = IsMisfit cause
-  TellsMisfit n = ⊥
+  -- it refuses a call for a fault of the call itself
+  abbrev pub RefusesAsMistaken : Notice V → Type 0
+  RefusesAsMistaken (Refused a cause) = IsMistaken cause
+  RefusesAsMistaken n = ⊥
 
-  -- a begins no declared reader
+  -- a begins no declared reader by it
+  abbrev pub IsNoReader : ℕ → Event V → Type 0
+  IsNoReader a (Ask b request.BeginRead) = b ≢ a
+  IsNoReader a e = Unit {0}
+
   abbrev pub BeginsNoReader : ℕ → List (Event V) → Type 0
   BeginsNoReader a [] = Unit {0}
-  BeginsNoReader a (Ask b request.BeginRead ∷ es) = (b ≢ a) × BeginsNoReader a es
-  BeginsNoReader a (e ∷ es) = BeginsNoReader a es
+  BeginsNoReader a (e ∷ es) = IsNoReader a e × BeginsNoReader a es

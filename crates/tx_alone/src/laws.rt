@@ -7,7 +7,7 @@ ghost use Rattle.replay_log.specs.Contents.{Block, HaveStripes};
 ghost use Rattle.replay_log.specs.WorldProgress.{whose};
 ghost use Rattle.replay_log.specs.Worlds.{Open, actor_of, happens, opened, run};
 ghost use Rattle.tx_alone.specs.Alone.{IsNeverRefused, weights};
-ghost use Rattle.tx_alone.specs.Beside.{AreFitting, BeginsNoReader, IsFitting, TellsMisfit};
+ghost use Rattle.tx_alone.specs.Beside.{AreFitting, BeginsNoReader, IsFitting, RefusesAsMistaken};
 
 use seq_model::Value;
 
@@ -33,7 +33,7 @@ pub fn beside_others<V: Value>()
     ensures never { (blocks : List Block) (clock : ℕ) (values : List ℕ) (held : List (Held V)) (events : List (Event V)) (a : ℕ) →
         HaveStripes blocks → AreFitting (opened blocks clock values held) a events →
         let w = run (opened blocks clock values held) events in
-        (e : Event V) → whose e ≡ a → IsFitting w a e → TellsMisfit (happens w e).1 → ⊥ }
+        (e : Event V) → whose e ≡ a → IsFitting w a e → RefusesAsMistaken (happens w e).1 → ⊥ }
     ensures undeclared { (blocks : List Block) (clock : ℕ) (values : List ℕ) (held : List (Held V)) (events : List (Event V)) (a : ℕ) →
         BeginsNoReader a events → (actor_of (run (opened blocks clock values held) events) a).declared ≡ false }
 {}

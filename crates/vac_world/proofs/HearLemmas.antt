@@ -1,7 +1,7 @@
 -- What a client keeps of its session, by what it is told.
 -- What a step tells says where its transaction goes on, and so does a want of memory; so what the client kept before is what it is to keep,
 -- or what it is to have as it hears of an answer.
-use Rattle.std.proofs.Common.{◌≡◌, ℕ, Bool, true, false, cond, List, [], ◌∷◌, ◌++◌, inl, inr, refl, sym, ◌∙◌, ap, subst}
+use Rattle.std.proofs.Common.{◌≡◌, ℕ, Bool, true, false, true≢false, cond, List, [], ◌∷◌, ◌++◌, inl, inr, refl, sym, ◌∙◌, ap, subst}
 use Rattle.std.specs.Prelude.{Option, Some, None}
 use Rattle.seq_model.specs.declared.call.Call.{Call}
 use Rattle.seq_model.specs.declared.call.Reply.{Reply}
@@ -12,8 +12,8 @@ use Rattle.seq_model.specs.declared.refusal.Refusal.{Refusal}
 use Rattle.seq_model.specs.declared.refusal.Refusal.TheVariants.{Memory as OutOfMemory}
 use Rattle.replay_log.specs.WorldAnswers.{IsStarved}
 use Rattle.replay_log.specs.WorldRefusals.{is_ending}
-use Rattle.replay_log.specs.Worlds.{After, World, Stage, Idle, Beginning, Open, Locking, Releasing, Closing, Cancelling, Leaving, Reading}
-use Rattle.replay_log.specs.Worlds.{Trying, Copying, Loading, Gating, Ready, Storing, Homing, Returning}
+use Rattle.replay_log.specs.Worlds.{After, World, Stage, Idle, Beginning, Open, Releasing, Cancelling, Leaving, Reading}
+use Rattle.replay_log.specs.Worlds.{Trying, Copying, Loading, Storing, Homing, Returning}
 use Rattle.vac_model.specs.declared.action.Action.{Action}
 use Rattle.tx_engine.specs.Programs.{after, asked, replies_of}
 use Rattle.vacation_core.specs.declared.entry.Entry.{Entry}
@@ -23,9 +23,6 @@ use Rattle.vac_world.specs.Clients.{asks_of, has_open, is_under_way, left, with_
 use Rattle.vac_world.specs.Running.{HearsAt, IsOpen, IsOpenWith, KeepsAt}
 use Rattle.vac_world.specs.declared.client.Client.{Client}
 use Rattle.vac_world.specs.declared.client.OpenSession.{OpenSession}
-
-true_false : true ≡ false → ⊥
-true_false e = cc
 
 -- ---- the session that is under way
 
@@ -60,25 +57,25 @@ done_finished (Some o) done action fault h = ap (λ a. done ++ a ∷ []) h.0
 
 pub closed : (o : Option OpenSession) → is_under_way o ≡ false → o ≡ None
 closed None h = refl
-closed (Some o) h = absurd (true_false h)
+closed (Some o) h = absurd (true≢false h)
 
 -- ---- at rest
 
 none_open : (o : Option OpenSession) → o ≡ None → is_under_way o ≡ true → ⊥
-none_open o e h = true_false (sym h ∙ ap is_under_way e)
+none_open o e h = true≢false (sym h ∙ ap is_under_way e)
 
 -- a client without a session stands at rest, and only there
 pub at_rest : (at : Phase Entry) (c : Client) (action : Action) (fault : Option Refusal) (done : List Action) → has_open c ≡ false
     → KeepsAt at c action fault done → at ≡ Rests
 at_rest Rests c action fault done none k = refl
 at_rest Begins c action fault done none k =
-    absurd (true_false (sym (is_open c.current action fault (open_of c.current action fault [] k.0)) ∙ none))
+    absurd (true≢false (sym (is_open c.current action fault (open_of c.current action fault [] k.0)) ∙ none))
 at_rest (Stands calls) c action fault done none k = absurd k
 at_rest (Calls calls call) c action fault done none k =
-    absurd (true_false (sym (is_open c.current action fault (open_of c.current action fault (replies_of calls) k.0)) ∙ none))
-at_rest (Commits calls) c action fault done none k = absurd (true_false (sym (is_open c.current action fault k.0) ∙ none))
-at_rest Committed c action fault done none k = absurd (true_false (sym (is_open c.current action fault k.0) ∙ none))
-at_rest Ends c action fault done none k = absurd (true_false (sym (is_open c.current action fault k.0) ∙ none))
+    absurd (true≢false (sym (is_open c.current action fault (open_of c.current action fault (replies_of calls) k.0)) ∙ none))
+at_rest (Commits calls) c action fault done none k = absurd (true≢false (sym (is_open c.current action fault k.0) ∙ none))
+at_rest Committed c action fault done none k = absurd (true≢false (sym (is_open c.current action fault k.0) ∙ none))
+at_rest Ends c action fault done none k = absurd (true≢false (sym (is_open c.current action fault k.0) ∙ none))
 
 abbrev IsRest : Phase Entry → Type 0
 IsRest Rests = Unit {0}
@@ -90,6 +87,13 @@ busy Rests c action fault done some k e = none_open c.current k.0 some
 busy at c action fault done some k e = subst IsRest (sym e) tt
 
 -- ---- a step
+
+-- what is being given up
+pub ending_phase : (calls : List (Call Entry × Reply Entry)) (st : Stage Entry) → is_ending st ≡ true → phase_at calls st ≡ Ends
+ending_phase calls Cancelling e = refl
+ending_phase calls Leaving e = refl
+ending_phase calls (Returning ks) e = refl
+ending_phase calls st e = absurd (true≢false (sym e))
 
 module _ (c : Client) (action : Action) (fault : Option Refusal) where
   keeps_as : (at to : Phase Entry) (done : List Action) → to ≡ at → KeepsAt at c action fault done → KeepsAt to c action fault done
@@ -128,12 +132,6 @@ module _ (c : Client) (action : Action) (fault : Option Refusal) where
 
   -- ---- a want of memory
 
-  ends_phase : (calls : List (Call Entry × Reply Entry)) (st : Stage Entry) → is_ending st ≡ true → phase_at calls st ≡ Ends
-  ends_phase calls Cancelling e = refl
-  ends_phase calls Leaving e = refl
-  ends_phase calls (Returning ks) e = refl
-  ends_phase calls st e = absurd (true_false (sym e))
-
   idle_phase : (calls : List (Call Entry × Reply Entry)) (st : Stage Entry) → st ≡ Idle → phase_at calls st ≡ Rests
   idle_phase calls st e = ap (phase_at calls) e
 
@@ -146,7 +144,7 @@ module _ (c : Client) (action : Action) (fault : Option Refusal) where
       → c.done ≡ done → HearsAt r.1 (phase (r.0.seats a)) c action fault done
   given_up a r done ending quiet current same =
       hears_as Quiet r.1 (phase (r.0.seats a)) done quiet
-      (keeps_as Ends (phase (r.0.seats a)) done (ends_phase (r.0.seats a).calls (r.0.seats a).stage ending) (current, same))
+      (keeps_as Ends (phase (r.0.seats a)) done (ending_phase (r.0.seats a).calls (r.0.seats a).stage ending) (current, same))
 
   unheard : (w : World Entry) (a : ℕ) (r : After Entry) (at : Phase Entry) (done : List Action) → phase (w.seats a) ≡ at → r ≡ (w, Quiet)
       → KeepsAt at c action fault done → HearsAt r.1 (phase (r.0.seats a)) c action fault done
@@ -176,7 +174,4 @@ module _ (c : Client) (action : Action) (fault : Option Refusal) where
       given_up a r done s.0 s.2 (open_of c.current action fault (replies_of calls) k.0) k.1
   starve_hears w a calls (Loading o left) r done some stands k s =
       given_up a r done s.0 s.2 (open_of c.current action fault (replies_of calls) k.0) k.1
-  starve_hears w a calls Locking r done some stands k s = given_up a r done s.0 s.2 k.0 k.1
-  starve_hears w a calls (Gating got ks tries) r done some stands k s = given_up a r done s.0 s.2 k.0 k.1
-  starve_hears w a calls (Ready ks) r done some stands k s = given_up a r done s.0 s.2 k.0 k.1
-  starve_hears w a calls Closing r done some stands k s = given_up a r done s.0 s.2 k.0 k.1
+  starve_hears w a calls st r done some stands k s = given_up a r done s.0 s.2 k.0 k.1

@@ -1,7 +1,8 @@
--- No call of a session of a play is refused. Between events no transaction stands open: a session that goes on asks as long as each request is
--- answered at once, and ends with one under way. So a refusal that leaves a transaction open is its call's, as NoSuch or TooLong; and what
--- its history has come to is a world of clients, in which no session is told those.
-use Rattle.std.proofs.Common.{◌≡◌, ℕ, Bool, true, false, cond, List, [], ◌∷◌, ◌++◌, Option, None, inl, inr, refl, sym, ◌∙◌, ap, subst}
+-- No call of a session of a play is refused. Between events no transaction stands open: a session that goes on asks as long as each
+-- request is answered at once, and ends with one under way. So a refusal that leaves a transaction open is its call's, as NoSuch or
+-- TooLong; and what its history has come to is a world of clients, in which no session is told those.
+use Rattle.std.proofs.Common.{◌≡◌, ℕ, Bool, true, false, true≢false, cond, List, [], ◌∷◌, ◌++◌, Option, None, inl, inr, refl, sym, ◌∙◌, ap}
+use Rattle.std.proofs.Common.{subst}
 use Rattle.std.specs.Prelude.{is_some}
 use Rattle.std.proofs.lemmas.Bool.{cases_eq}
 use Rattle.word_machine.specs.World.{put}
@@ -21,15 +22,16 @@ use Rattle.replay_log.specs.WorldAnswers.{IsStarved}
 use Rattle.replay_log.specs.WorldProgress.{whose}
 use Rattle.replay_log.specs.WorldRefusals.{is_ending}
 use Rattle.replay_log.specs.WorldTraces.{committed_by}
-use Rattle.replay_log.specs.Worlds.{After, World, Seat, Stage, Idle, Beginning, Open, Locking, Releasing, Closing, Cancelling, Leaving, Reading}
-use Rattle.replay_log.specs.Worlds.{Trying, Copying, Loading, Gating, Ready, Storing, Homing, Returning, happens}
+use Rattle.replay_log.specs.Worlds.{After, World, Seat, Stage, Idle, Beginning, Open, Releasing, Cancelling, Leaving}
+use Rattle.replay_log.specs.Worlds.{Storing, Homing, Returning, happens}
 use Rattle.replay_log.proofs.AnswerLemmas.{starves}
 use Rattle.replay_log.proofs.RequestLemmas.{happens_by}
-use Rattle.tx_alone.specs.Beside.{BeginsNoReader, IsMisfit, TellsMisfit}
+use Rattle.tx_alone.specs.Beside.{BeginsNoReader, IsNoReader, RefusesAsMistaken}
 use Rattle.tx_engine.specs.declared.job.Ask.TheVariants as ask
 use Rattle.tx_engine.specs.Programs.{Asks, Answers, GivesUp, after, asked, replies_of}
 use Rattle.tx_phases.proofs.PhaseLemmas.{steps_move}
-use Rattle.tx_phases.specs.Phases.{AskMoves, CallMoves, IsMistaken, Phase, Rests, Begins, Stands, Calls, Commits, Committed, Ends, StepMoves}
+use Rattle.tx_phases.specs.Phases.{AskMoves, CallMoves, IsMistaken, Phase, Rests, Begins, Stands, Calls, Commits, Committed, Ends}
+use Rattle.tx_phases.specs.Phases.{StepMoves}
 use Rattle.tx_phases.specs.Phases.{phase, phase_at}
 use Rattle.vac_model.specs.declared.action.Action.{Action}
 use Rattle.vac_model.specs.Actions.{IsAllowed}
@@ -45,40 +47,23 @@ use Rattle.vac_world.specs.declared.events.VacEvent.TheVariants.{Start, Step, St
 use Rattle.vac_world.specs.Plays.{AreAllowed, Play, aborts, asks_on, at_open, begins, ends, ends_for, hears, if_replied, left_of, moved}
 use Rattle.vac_world.specs.Plays.{played, played_all, seat_in, takes, told, turned, unplayed}
 use Rattle.vac_world.specs.Rooms.{AreNotMistaken, PlaysFindRoom}
+use Rattle.vac_world.proofs.HearLemmas.{ending_phase}
 use Rattle.vac_world.proofs.PlayLemmas.{IsSound, May, at_now, called_at, open_calls, replied_next, sound_ends, sound_turn}
 use Rattle.vac_world.proofs.PlayLemmas.{sound_unplayed}
-
-true_false : true ≡ false → ⊥
-true_false e = cc
 
 -- ---- no declared reader
 abbrev IsNoRead : Event Entry → Type 0
 IsNoRead (event.Ask b request.BeginRead) = ⊥
 IsNoRead e = Unit {0}
 
-one_free : (b : ℕ) (e : Event Entry) → IsNoRead e → BeginsNoReader b (e ∷ [])
-one_free b (event.Ask c request.BeginRead) h = absurd h
-one_free b (event.Ask c request.Begin) h = tt
-one_free b (event.Ask c (request.Call call)) h = tt
-one_free b (event.Ask c request.Commit) h = tt
-one_free b (event.Ask c request.Abort) h = tt
-one_free b (event.Step c) h = tt
-one_free b (event.Starve c) h = tt
-
-then_free : (b : ℕ) (e : Event Entry) (es fs : List (Event Entry)) → (BeginsNoReader b es → BeginsNoReader b fs)
-    → BeginsNoReader b (e ∷ es) → BeginsNoReader b (e ∷ fs)
-then_free b (event.Ask c request.BeginRead) es fs f h = (h.0, f h.1)
-then_free b (event.Ask c request.Begin) es fs f h = f h
-then_free b (event.Ask c (request.Call call)) es fs f h = f h
-then_free b (event.Ask c request.Commit) es fs f h = f h
-then_free b (event.Ask c request.Abort) es fs f h = f h
-then_free b (event.Step c) es fs f h = f h
-then_free b (event.Starve c) es fs f h = f h
+no_reader : (b : ℕ) (e : Event Entry) → IsNoRead e → IsNoReader b e
+no_reader b (event.Ask c request.BeginRead) h = absurd h
+no_reader b e h = tt
 
 free_on : (b : ℕ) (ts : List Turn) (t : Turn) → IsNoRead t.0 → BeginsNoReader b (events_of ts)
     → BeginsNoReader b (events_of (ts ++ t ∷ []))
-free_on b [] t no_read h = one_free b t.0 no_read
-free_on b (s ∷ ts) t no_read h = then_free b s.0 (events_of ts) (events_of (ts ++ t ∷ [])) (free_on b ts t no_read) h
+free_on b [] t no_read h = (no_reader b t.0 no_read, tt)
+free_on b (s ∷ ts) t no_read h = (h.0, free_on b ts t no_read h.1)
 
 -- ---- what holds between events
 abbrev IsBetween : Phase Entry → Type 0
@@ -132,24 +117,20 @@ turn_but a p e action own no_read may f =
     }
 
 -- nothing that a client may do next is told NoSuch or TooLong
-none_told : (a : ℕ) (p : Play) (e : Event Entry) (action : Action) → whose e ≡ a → May p e action → FindsBut a p → TellsMisfit (told e p) → ⊥
+none_told : (a : ℕ) (p : Play) (e : Event Entry) (action : Action) → whose e ≡ a → May p e action → FindsBut a p
+    → RefusesAsMistaken (told e p) → ⊥
 none_told a p e action own may f =
     let h = p.history in
     let l = f.sound.lawful in
     sessions_find_room h.blocks h.clock h.tables h.actions h.turns a l.allowed l.stripes l.suits l.asks (f.free a) (e, action) own may
 
-mistaken_misfit : (c : Refusal) → IsMistaken c → IsMisfit c
-mistaken_misfit refusal.NoSuch h = tt
-mistaken_misfit refusal.TooLong h = tt
-mistaken_misfit c h = absurd h
-
 -- ---- a session goes on
-replied_finds : (a : ℕ) (n : Notice Entry) (calls : List (Call Entry × Reply Entry)) (call : Call Entry) (next : Reply Entry → Play) (q : Play)
-    (to : Phase Entry) → FindsBut a q → phase (seat_in a q) ≡ to → CallMoves calls call n to → (TellsMisfit n → ⊥)
+replied_finds : (a : ℕ) (n : Notice Entry) (calls : List (Call Entry × Reply Entry)) (call : Call Entry) (next : Reply Entry → Play)
+    (q : Play) (to : Phase Entry) → FindsBut a q → phase (seat_in a q) ≡ to → CallMoves calls call n to → (RefusesAsMistaken n → ⊥)
     → ((r : Reply Entry) → to ≡ Stands (calls ++ (call, r) ∷ []) → Finds (next r)) → Finds (if_replied a n next q)
 replied_finds a (Answered b (answer.Replied r)) calls call next q to f at m none goes = goes r m
 replied_finds a (Answered b w) calls call next q to f at m none goes = absurd m
-replied_finds a (Refused b cause) calls call next q to f at m none goes = absurd (none (mistaken_misfit cause m.1))
+replied_finds a (Refused b cause) calls call next q to f at m none goes = absurd (none m.1)
 replied_finds a Quiet calls call next q to f at (inl e) none goes = rests a q (Calls calls call) (at ∙ e) tt f
 replied_finds a Quiet calls call next q to f at (inr e) none goes = rests a q Ends (at ∙ e) tt f
 
@@ -212,26 +193,26 @@ not_open calls Open p q h = absurd h
 not_open calls st p q h = refl
 
 refused_find : (a b : ℕ) (cause : Refusal) (q : Play) (to : Phase Entry) → phase (seat_in a q) ≡ to → IsBetween to
-    → (IsMisfit cause → ⊥) → FindsBut a q → Finds (hears a (Refused b cause) q)
+    → (IsMistaken cause → ⊥) → FindsBut a q → Finds (hears a (Refused b cause) q)
 refused_find a b cause q to at h none f =
     let x = seat_in a q in
     subst Finds (sym (not_open x.calls x.stage (aborts a cause q) (ends a cause q) (subst IsBetween (sym at) h)))
-    (ends_find a a cause q (λ _ m. none (mistaken_misfit cause m)) (rests a q to at h f))
+    (ends_find a a cause q (λ _ m. none m) (rests a q to at h f))
 
 no_fault : (a : ℕ) (o : Option Refusal) (q : Play) → o ≡ None → Finds q → Finds (ends_for a o q)
 no_fault a o q e f = subst (λ (r : Option Refusal). Finds (ends_for a r q)) (sym e) f
 
 -- ---- a step
 call_finds : (a : ℕ) (calls : List (Call Entry × Reply Entry)) (call : Call Entry) (n : Notice Entry) (to : Phase Entry) (q : Play)
-    → CallMoves calls call n to → (TellsMisfit n → ⊥) → FindsBut a q → phase (seat_in a q) ≡ to → Finds (hears a n q)
+    → CallMoves calls call n to → (RefusesAsMistaken n → ⊥) → FindsBut a q → phase (seat_in a q) ≡ to → Finds (hears a n q)
 call_finds a calls call (Answered b (answer.Replied r)) to q m none f at = goes_find a q (calls ++ (call, r) ∷ []) f (at ∙ m)
 call_finds a calls call (Answered b w) to q m none f at = absurd m
-call_finds a calls call (Refused b cause) to q m none f at = absurd (none (mistaken_misfit cause m.1))
+call_finds a calls call (Refused b cause) to q m none f at = absurd (none m.1)
 call_finds a calls call Quiet to q (inl e) none f at = rests a q (Calls calls call) (at ∙ e) tt f
 call_finds a calls call Quiet to q (inr e) none f at = rests a q Ends (at ∙ e) tt f
 
 step_finds : (a : ℕ) (before : Phase Entry) (made : Bool) (n : Notice Entry) (to : Phase Entry) (q : Play) → IsBetween before
-    → StepMoves before made n to → (TellsMisfit n → ⊥) → FindsBut a q → phase (seat_in a q) ≡ to → Finds (hears a n q)
+    → StepMoves before made n to → (RefusesAsMistaken n → ⊥) → FindsBut a q → phase (seat_in a q) ≡ to → Finds (hears a n q)
 step_finds a Rests false (Refused b cause) to q h m none f at = refused_find a b cause q Rests (at ∙ m) tt none f
 step_finds a Begins false (Answered b (answer.Begun rv)) to q h m none f at = goes_find a q [] f (at ∙ m)
 step_finds a Begins false (Refused b cause) to q h m none f at = refused_find a b cause q Rests (at ∙ m) tt none f
@@ -251,12 +232,6 @@ step_finds a Ends false (Refused b cause) to q h m none f at = refused_find a b 
 step_finds a before made n to q h m none f at = absurd m
 
 -- ---- a want of memory
-ending_phase : (calls : List (Call Entry × Reply Entry)) (st : Stage Entry) → is_ending st ≡ true → phase_at calls st ≡ Ends
-ending_phase calls Cancelling e = refl
-ending_phase calls Leaving e = refl
-ending_phase calls (Returning ks) e = refl
-ending_phase calls st e = absurd (true_false (sym e))
-
 hears_quiet : (a : ℕ) (n : Notice Entry) (q : Play) → n ≡ Quiet → Finds q → Finds (hears a n q)
 hears_quiet a n q e f = subst (λ (m : Notice Entry). Finds (hears a m q)) (sym e) f
 
@@ -271,8 +246,9 @@ starve_stays a w r q e h at f =
     hears_quiet a r.1 q (ap (λ (s : After Entry). s.1) e)
     (rests a q (phase (w.seats a)) (at ∙ ap (λ (s : After Entry). phase (s.0.seats a)) e) h f)
 
-starve_finds : (a : ℕ) (w : World Entry) (st : Stage Entry) (r : After Entry) (q : Play) → (st ≡ Idle → ⊥) → IsBetween (phase_at (w.seats a).calls st)
-    → IsBetween (phase (w.seats a)) → IsStarved w a st r → phase (seat_in a q) ≡ phase (r.0.seats a) → FindsBut a q → Finds (hears a r.1 q)
+starve_finds : (a : ℕ) (w : World Entry) (st : Stage Entry) (r : After Entry) (q : Play) → (st ≡ Idle → ⊥)
+    → IsBetween (phase_at (w.seats a).calls st) → IsBetween (phase (w.seats a)) → IsStarved w a st r
+    → phase (seat_in a q) ≡ phase (r.0.seats a) → FindsBut a q → Finds (hears a r.1 q)
 starve_finds a w Idle r q busy o h s at f = absurd (busy refl)
 starve_finds a w Open r q busy o h s at f = absurd o
 starve_finds a w Beginning r q busy o h s at f =
@@ -284,14 +260,7 @@ starve_finds a w Releasing r q busy o h s at f = starve_stays a w r q s h at f
 starve_finds a w (Returning ks) r q busy o h s at f = starve_stays a w r q s h at f
 starve_finds a w Cancelling r q busy o h s at f = starve_stays a w r q s h at f
 starve_finds a w Leaving r q busy o h s at f = starve_stays a w r q s h at f
-starve_finds a w (Reading l) r q busy o h s at f = starve_ends a r q s.0 s.2 at f
-starve_finds a w (Trying asked tries) r q busy o h s at f = starve_ends a r q s.0 s.2 at f
-starve_finds a w (Copying asked) r q busy o h s at f = starve_ends a r q s.0 s.2 at f
-starve_finds a w (Loading o2 left) r q busy o h s at f = starve_ends a r q s.0 s.2 at f
-starve_finds a w Locking r q busy o h s at f = starve_ends a r q s.0 s.2 at f
-starve_finds a w (Gating got ks tries) r q busy o h s at f = starve_ends a r q s.0 s.2 at f
-starve_finds a w (Ready ks) r q busy o h s at f = starve_ends a r q s.0 s.2 at f
-starve_finds a w Closing r q busy o h s at f = starve_ends a r q s.0 s.2 at f
+starve_finds a w st r q busy o h s at f = starve_ends a r q s.0 s.2 at f
 
 -- ---- events
 abbrev IsIdle : Stage Entry → Type 0
@@ -302,28 +271,32 @@ idle_or : (st : Stage Entry) (p q : Play) → (st ≡ Idle → Finds p) → ((st
 idle_or Idle p q f g = f refl
 idle_or st p q f g = g (λ e. subst IsIdle (sym e) tt)
 
+takes_find : (a : ℕ) (e : Event Entry) (p : Play) → whose e ≡ a → IsNoRead e → May p e (action_in a p.history) → Finds p
+    → (((seat_in a p).stage ≡ Idle → ⊥) → (RefusesAsMistaken (told e p) → ⊥) → FindsBut a (moved a e p)
+    → Finds (hears a (told e p) (moved a e p))) → Finds (takes a e p)
+takes_find a e p own no_read may f heard =
+    let action = action_in a p.history in
+    let q = moved a e p in
+    idle_or (seat_in a p).stage p (hears a (told e p) q) (λ _. f)
+    (λ busy. heard busy (none_told a p e action own may (but a p f)) (turn_but a p e action own no_read may (but a p f)))
+
 takes_step : (a : ℕ) (p : Play) → Finds p → Finds (takes a (event.Step a) p)
 takes_step a p f =
     let h = p.history in
-    let w = world_in h in
+    let x = (world_in h).seats a in
     let e = event.Step a in
-    let action = action_in a h in
-    let q = moved a e p in
-    let g = turn_but a p e action refl tt tt (but a p f) in
-    idle_or (seat_in a p).stage p (hears a (told e p) q) (λ _. f)
-    (λ _. step_finds a (phase (w.seats a)) (is_some (committed_by (w.seats a) (w.seats a).stage)) (told e p) (phase ((happens w e).0.seats a)) q
-    (f.between a) (steps_move w a) (none_told a p e action refl tt (but a p f)) g (phase_next a h (e, action)))
+    takes_find a e p refl tt tt f (λ _ none g.
+    step_finds a (phase x) (is_some (committed_by x x.stage)) (told e p) (phase ((happens (world_in h) e).0.seats a)) (moved a e p)
+    (f.between a) (steps_move (world_in h) a) none g (phase_next a h (e, action_in a h)))
 
 takes_starve : (a : ℕ) (p : Play) → Finds p → Finds (takes a (event.Starve a) p)
 takes_starve a p f =
     let h = p.history in
     let w = world_in h in
     let e = event.Starve a in
-    let action = action_in a h in
-    let q = moved a e p in
-    let g = turn_but a p e action refl tt tt (but a p f) in
-    idle_or (seat_in a p).stage p (hears a (told e p) q) (λ _. f)
-    (λ busy. starve_finds a w (w.seats a).stage (happens w e) q busy (f.between a) (f.between a) (starves w a) (phase_next a h (e, action)) g)
+    takes_find a e p refl tt tt f (λ busy none g.
+    starve_finds a w (w.seats a).stage (happens w e) (moved a e p) busy (f.between a) (f.between a) (starves w a)
+    (phase_next a h (e, action_in a h)) g)
 
 begins_find : (a : ℕ) (action : Action) (p : Play) → IsAllowed action → Finds p → Finds (begins a action p)
 begins_find a action p allowed f =
@@ -356,7 +329,7 @@ all_find [] p allowed f = f
 all_find (Start a action ∷ es) p allowed f =
     all_find es (played p (Start a action)) allowed.1
     (if_actor (is_actor a) _ _ (λ _. begins_find a action p allowed.0 f)
-    (λ isnt. ends_find a a refusal.NoSuch p (λ is m. true_false (sym is ∙ isnt)) f))
+    (λ isnt. ends_find a a refusal.NoSuch p (λ is m. true≢false (sym is ∙ isnt)) f))
 all_find (Step a ∷ es) p allowed f = all_find es (played p (Step a)) allowed.1 (if_actor (is_actor a) _ _ (λ _. takes_step a p f) (λ _. f))
 all_find (Starve a ∷ es) p allowed f =
     all_find es (played p (Starve a)) allowed.1 (if_actor (is_actor a) _ _ (λ _. takes_starve a p f) (λ _. f))
