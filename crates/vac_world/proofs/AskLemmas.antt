@@ -42,7 +42,8 @@ use Rattle.vac_world.specs.declared.client.Client.{Client}
 use Rattle.vac_world.specs.declared.world.VacWorld.{VacWorld}
 use Rattle.vac_world.proofs.HearLemmas.{asks_is, open_failed, open_joined, open_of}
 use Rattle.vac_world.proofs.PlayLemmas.{at_now, called_at, open_calls, replied_next}
-use Rattle.vac_world.proofs.TurnLemmas.{client_as, client_at, on_turned, others_turned, own_told, parts_of}
+use Rattle.vac_world.proofs.TurnLemmas.{client_as, client_at, on_turned, others_turned, own_told}
+use Rattle.session_runs.proofs.ClientLemmas.{parts_of}
 use Rattle.vac_world.specs.Running.{IsOpenWith}
 use Rattle.vac_world.proofs.TurnLemmas.{on_set, others_set, own_set, all_of, actor_at}
 use Rattle.tx_engine.proofs.ProgramLemmas.{same_call}

@@ -242,17 +242,12 @@ starve_stands a p =
     let w = world_in p.history in
     unanswered_stands (told (event.Starve a) p) (phase (seat_in a (moved a (event.Starve a) p))) (starved w a (w.seats a) (w.seats a).stage)
 
-sound_takes_step : (a : ℕ) (p : Play) → IsSound p → IsSound (takes a (event.Step a) p)
-sound_takes_step a p s =
-    let q = moved a (event.Step a) p in
-    at_idle_by (seat_in a p).stage p (hears a (told (event.Step a) p) q) s
-    (sound_hears a (told (event.Step a) p) q (step_stands a p) (sound_turn p (event.Step a) (action_in a p.history) tt s))
-
-sound_takes_starve : (a : ℕ) (p : Play) → IsSound p → IsSound (takes a (event.Starve a) p)
-sound_takes_starve a p s =
-    let q = moved a (event.Starve a) p in
-    at_idle_by (seat_in a p).stage p (hears a (told (event.Starve a) p) q) s
-    (sound_hears a (told (event.Starve a) p) q (starve_stands a p) (sound_turn p (event.Starve a) (action_in a p.history) tt s))
+sound_takes : (a : ℕ) (e : Event Entry) (p : Play) → May p e (action_in a p.history) → StandsBy (told e p) (phase (seat_in a (moved a e p)))
+    → IsSound p → IsSound (takes a e p)
+sound_takes a e p may stands s =
+    let q = moved a e p in
+    at_idle_by (seat_in a p).stage p (hears a (told e p) q) s
+    (sound_hears a (told e p) q stands (sound_turn p e (action_in a p.history) may s))
 
 sound_begins : (a : ℕ) (action : Action) (p : Play) → IsAllowed action → IsSound p → IsSound (begins a action p)
 sound_begins a action p allowed s =
@@ -264,8 +259,12 @@ sound_all [] p allowed s = s
 sound_all (Start a action ∷ es) p allowed s =
     sound_all es (played p (Start a action)) allowed.1
     (if_by (is_actor a) _ _ (sound_begins a action p allowed.0 s) (sound_ends a _ p s))
-sound_all (Step a ∷ es) p allowed s = sound_all es (played p (Step a)) allowed.1 (if_by (is_actor a) _ _ (sound_takes_step a p s) s)
-sound_all (Starve a ∷ es) p allowed s = sound_all es (played p (Starve a)) allowed.1 (if_by (is_actor a) _ _ (sound_takes_starve a p s) s)
+sound_all (Step a ∷ es) p allowed s =
+    sound_all es (played p (Step a)) allowed.1
+    (if_by (is_actor a) _ _ (sound_takes a (event.Step a) p tt (step_stands a p) s) s)
+sound_all (Starve a ∷ es) p allowed s =
+    sound_all es (played p (Starve a)) allowed.1
+    (if_by (is_actor a) _ _ (sound_takes a (event.Starve a) p tt (starve_stands a p) s) s)
 
 pub sound_unplayed : (blocks : List Block) (tables : Holdings) → HaveStripes blocks → Suit blocks (state_of tables).held → IsBalanced tables
     → IsSound (unplayed blocks tables)

@@ -51,18 +51,28 @@ acts_other a d r ds rs other = cond-false (eqb r.0 a) _ _ (ne_eqb r.0 a other)
 
 -- ---- one record
 
+-- the actor of the record is the client at place i, this one, and so many of its sessions were told of
+pub record IsEntryAt (cs : List Client) (ns : List ℕ) (r : ℕ × Record Entry) (i : ℕ) (c : Client) (place : ℕ) : Type 0 where
+  pub actor : r.0 ≡ suc i
+  pub client : slice_get cs i ≡ Some c
+  pub within : i < length ns
+  pub told : place ≡ get_or ns i 0
+
 module _ (cs : List Client) (ns : List ℕ) (d : Deal) (r : ℕ × Record Entry) (ds : List Deal) (rs : List (ℕ × Record Entry))
     (are : AreOwn cs ns (d ∷ ds) (r ∷ rs)) where
   -- the next session of its actor
   own_next : drop (told_of ns r.0) (sessions_in cs r.0) ≡ d.0 ∷ (actions_of r.0 ds rs ++ (are.own r.0).0)
   own_next = sym (are.own r.0).1 ∙ ap (λ xs. xs ++ (are.own r.0).0) (acts_own d r ds rs)
 
-  next_is : (i : ℕ) (c : Client) (place : ℕ) (s : Action) → r.0 ≡ suc i → slice_get cs i ≡ Some c → place ≡ get_or ns i 0
-      → slice_get (sessions_of c) place ≡ Some s → s ≡ d.0
-  next_is i c place s at got is found =
-      let there : drop place (sessions_of c) ≡ d.0 ∷ (actions_of r.0 ds rs ++ (are.own r.0).0) =
-      (λ j. drop (is j) (sessions_found (sym got j))) ∙ (λ j. drop (told_of ns (sym at j)) (sessions_in cs (sym at j))) ∙ own_next in
-      some_same s d.0 (sym found ∙ (drop_first (sessions_of c) place d.0 _ there).0)
+  next_left : (i : ℕ) (c : Client) (place : ℕ) → IsEntryAt cs ns r i c place
+      → drop place (sessions_of c) ≡ d.0 ∷ (actions_of r.0 ds rs ++ (are.own r.0).0)
+  next_left i c place at =
+      (λ j. drop (at.told j) (sessions_found (sym at.client j)))
+      ∙ (λ j. drop (told_of ns (sym at.actor j)) (sessions_in cs (sym at.actor j))) ∙ own_next
+
+  next_is : (i : ℕ) (c : Client) (place : ℕ) (s : Action) → IsEntryAt cs ns r i c place → slice_get (sessions_of c) place ≡ Some s → s ≡ d.0
+  next_is i c place s at found =
+      some_same s d.0 (sym found ∙ (drop_first (sessions_of c) place d.0 _ (next_left i c place at)).0)
 
   is_whole : after (session d.0) (replies_of r.1.calls) ≡ Answers d.1
   is_whole = follows_after r.1.calls (session d.0) (Answers d.1) are.sessions.0.whole
@@ -120,13 +130,34 @@ actor_in cs ns r h = by r.0 _ (own_next cs ns h.deal r h.deals h.records h.are)
     by zero ys e = absurd (none_first h.deal.0 ys e)
     by (suc i) ys e = (omega arith, let lt = found i (told_of ns (suc i)) (slice_get cs i) ys refl e in omega (arith, lt))
 
+-- a number that was found is the one that stands there
+same_found : (ns : List ℕ) (i n : ℕ) → i < length ns → slice_get ns i ≡ Some n → n ≡ get_or ns i 0
+same_found ns i n lt found = some_same_number n (get_or ns i 0) (sym found ∙ slice_get-get_or ns i 0 lt)
+  where
+    some_same_number : (x y : ℕ) → Some x ≡ Some y → x ≡ y
+    some_same_number x y e = cc
+
+-- which is at its place
+pub is_at : (cs : List Client) (ns : List ℕ) (r : ℕ × Record Entry) (c : Client) (place : ℕ) → HaveFirst cs ns r → length ns ≡ length cs
+    → (r.0 - 1 < length cs → slice_get cs (r.0 - 1) ≡ Some c) → (r.0 - 1 < length ns → slice_get ns (r.0 - 1) ≡ Some place)
+    → IsEntryAt cs ns r (r.0 - 1) c place
+is_at cs ns r c place h count client told =
+    let there = actor_in cs ns r h in
+    let some = there.0 in
+    let lt = there.1 in
+    let within : r.0 - 1 < length ns = omega (arith, lt, count) in
+    record {
+      actor = omega (arith, some);
+      client = client lt;
+      within = within;
+      told = same_found ns (r.0 - 1) place within (told within);
+    }
+
 -- and has a session that is to be told of
 pub session_in : (cs : List Client) (ns : List ℕ) (r : ℕ × Record Entry) (i : ℕ) (c : Client) (place : ℕ) → HaveFirst cs ns r
-    → r.0 ≡ suc i → slice_get cs i ≡ Some c → place ≡ get_or ns i 0 → slice_get (sessions_of c) place ≡ None → ⊥
-session_in cs ns r i c place h at got is none =
-    let there : drop place (sessions_of c) ≡ h.deal.0 ∷ (actions_of r.0 h.deals h.records ++ (h.are.own r.0).0) =
-    (λ j. drop (is j) (sessions_found (sym got j))) ∙ (λ j. drop (told_of ns (sym at j)) (sessions_in cs (sym at j)))
-    ∙ own_next cs ns h.deal r h.deals h.records h.are in
+    → IsEntryAt cs ns r i c place → slice_get (sessions_of c) place ≡ None → ⊥
+session_in cs ns r i c place h at none =
+    let there = next_left cs ns h.deal r h.deals h.records h.are i c place at in
     none_some h.deal.0 (sym none ∙ (drop_first (sessions_of c) place h.deal.0 _ there).0)
 
 answers_same : (x y : ActionReply) → ◌≡◌ {A = SessionProgram} (Answers x) (Answers y) → x ≡ y
@@ -134,26 +165,24 @@ answers_same x y e = cc
 
 -- its session is done by its receipt
 pub first_done : (cs : List Client) (ns : List ℕ) (r : ℕ × Record Entry) (i : ℕ) (c : Client) (place : ℕ) (s : Action) → HaveFirst cs ns r
-    → r.0 ≡ suc i → slice_get cs i ≡ Some c → place ≡ get_or ns i 0 → slice_get (sessions_of c) place ≡ Some s
-    → asked (after (session s) (replies_of r.1.calls)) ≡ ask.Done
-first_done cs ns r i c place s h at got is found =
-    let same = next_is cs ns h.deal r h.deals h.records h.are i c place s at got is found in
+    → IsEntryAt cs ns r i c place → slice_get (sessions_of c) place ≡ Some s → asked (after (session s) (replies_of r.1.calls)) ≡ ask.Done
+first_done cs ns r i c place s h at found =
+    let same = next_is cs ns h.deal r h.deals h.records h.are i c place s at found in
     ap (λ (a : Action). asked (after (session a) (replies_of r.1.calls))) same
     ∙ ap asked (is_whole cs ns h.deal r h.deals h.records h.are)
 
 pub told_one : (cs : List Client) (ns : List ℕ) (r : ℕ × Record Entry) (i : ℕ) (c : Client) (place : ℕ) (s : Action) (reply : ActionReply)
-    → r.0 ≡ suc i → slice_get cs i ≡ Some c → i < length ns → place ≡ get_or ns i 0 → slice_get (sessions_of c) place ≡ Some s
-    → after (session s) (replies_of r.1.calls) ≡ Answers reply
+    → IsEntryAt cs ns r i c place → slice_get (sessions_of c) place ≡ Some s → after (session s) (replies_of r.1.calls) ≡ Answers reply
     → IsToldOne cs ns (slice_set ns i (place + 1)) r (r.0, r.1.number, r.1.writes, reply)
-told_one cs ns r i c place s reply at got within is found answers = record {
+told_one cs ns r i c place s reply at found answers = record {
   goes = λ d ds rs are.
-      let same : s ≡ d.0 = next_is cs ns d r ds rs are i c place s at got is found in
+      let same : s ≡ d.0 = next_is cs ns d r ds rs are i c place s at found in
       let told : reply ≡ d.1 =
       answers_same reply d.1
       (sym answers ∙ ap (λ (a : Action). after (session a) (replies_of r.1.calls)) same ∙ is_whole cs ns d r ds rs are) in
       let here : get_or (slice_set ns i (place + 1)) i 0 ≡ suc (get_or ns i 0) =
-      get_or-set_same ns i (place + 1) 0 within ∙ next place ∙ ap suc is in (
-        rest_are cs ns d r ds rs are i 0 (slice_set ns i (place + 1)) at here
+      get_or-set_same ns i (place + 1) 0 at.within ∙ next place ∙ ap suc at.told in (
+        rest_are cs ns d r ds rs are i 0 (slice_set ns i (place + 1)) at.actor here
             (λ j apart. get_or-set_other ns i j (place + 1) 0 apart),
         ap (λ (x : ActionReply). (r.0, r.1.number, r.1.writes, x)) told,
       );
@@ -209,10 +238,3 @@ has_first cs all whole ns left later r is t = by t.deals (subst (λ xs. AreOwn c
     by : (ds : List Deal) → AreOwn cs ns ds (r ∷ later) → HaveFirst cs ns r
     by [] are = absurd are.sessions
     by (d ∷ ds) are = record { deal = d; deals = ds; records = later; are = are }
-
--- a number that was found is the one that stands there
-pub same_found : (ns : List ℕ) (i n : ℕ) → i < length ns → slice_get ns i ≡ Some n → n ≡ get_or ns i 0
-same_found ns i n lt found = some_same_number n (get_or ns i 0) (sym found ∙ slice_get-get_or ns i 0 lt)
-  where
-    some_same_number : (x y : ℕ) → Some x ≡ Some y → x ≡ y
-    some_same_number x y e = cc

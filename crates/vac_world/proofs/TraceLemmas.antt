@@ -35,7 +35,7 @@ use Rattle.vac_world.specs.declared.world.VacWorld.{VacWorld}
 use Rattle.vac_world.proofs.HalfDoneLemmas.{holds_tables}
 use Rattle.vac_world.proofs.HearLemmas.{done_finished}
 use Rattle.vac_world.proofs.PlayLemmas.{serial_play}
-use Rattle.vac_world.proofs.TurnLemmas.{reached}
+use Rattle.session_runs.proofs.ClientLemmas.{reached}
 use Rattle.std.proofs.lemmas.Bool.Decides.{nat_tests}
 
 -- ---- the sessions that a client keeps

@@ -1,8 +1,9 @@
 -- An event that is fed to the running world is a turn more in the play.
 -- It leaves what all other clients keep. What its own client is told of it says where its transaction goes on.
-use Rattle.std.proofs.Common.{◌≡◌, ℕ, ◌+◌, ◌<◌, ◌≤◌, true, false, List, [], ◌∷◌, ◌++◌, length, inl, inr, refl, sym, ◌∙◌, ap, subst, arith}
+use Rattle.std.proofs.Common.{◌≡◌, ℕ, ◌+◌, ◌<◌, ◌≤◌, true, false, true≢false, List, [], ◌∷◌, ◌++◌, length, inl, inr, refl, sym, ◌∙◌, ap}
+use Rattle.std.proofs.Common.{subst, arith}
 use Rattle.std.specs.Prelude.{if◌then◌else◌, Option, Some, None, slice_get, slice_set}
-use Rattle.std.proofs.lemmas.Bool.{cases_eq, cond-true}
+use Rattle.std.proofs.lemmas.Bool.{cases_eq}
 use Rattle.std.proofs.lemmas.List.{append-nil}
 use Rattle.word_machine.proofs.Sets.{put-other}
 use Rattle.seq_model.specs.declared.event.Event.{Event}
@@ -17,21 +18,20 @@ use Rattle.replay_log.proofs.AnswerLemmas.{starves}
 use Rattle.replay_log.proofs.RequestLemmas.{happens_by}
 use Rattle.vac_model.specs.declared.action.Action.{Action}
 use Rattle.vacation_core.specs.declared.entry.Entry.{Entry}
-use Rattle.vacation_core.specs.Holding.{state_of}
 use Rattle.running_world.specs.Feeds.{Feeds}
 use Rattle.running_world.specs.Worlds.{WorldShown}
 use Rattle.running_world.specs.Parts.{IsWorld}
 use Rattle.world_parts.specs.declared.opening.TheConstants.{ACTORS}
 use Rattle.world_parts.specs.declared.parts.Parts.{Parts}
 use Rattle.session_worlds.specs.Asking.{Actions, Turn, at_idle, begun}
-use Rattle.session_worlds.specs.Histories.{History, IsLawful, action_in, done_in, later, opening_of, world_in}
+use Rattle.session_worlds.specs.Histories.{History, action_in, done_in, later, opening_of, world_in}
 use Rattle.session_worlds.specs.Serial.{begun_all}
 use Rattle.session_worlds.proofs.AloneLemmas.{none_in}
 use Rattle.session_worlds.proofs.HistoryLemmas.{action_next, done_next, lawful_next, phase_next, steps_to, world_next}
 use Rattle.tx_phases.specs.Phases.{Phase, phase}
 use Rattle.tx_engine.specs.declared.job.Ask.{Ask as Asked}
 use Rattle.vac_world.specs.Clients.{asks_next, has_open}
-use Rattle.vac_world.specs.Plays.{Play, moved, told, turned}
+use Rattle.vac_world.specs.Plays.{IsMoveOf, Play, moved, told, turned}
 use Rattle.vac_world.specs.Running.{AsksNext, HasPlace, Hears, HearsAt, IsClient, IsHearing, IsOn, IsPlay, KeepsAt, Others}
 use Rattle.vac_world.specs.declared.client.Client.{Client}
 use Rattle.vac_world.specs.declared.world.VacWorld.{VacWorld}
@@ -41,7 +41,7 @@ use Rattle.std.proofs.lemmas.Bool.Decides.{nat_tests}
 pub use Rattle.world_parts.proofs.WorldLemmas.{set_here, set_length, set_there}
 use Rattle.step_core.proofs.Lists.{some_at}
 use Rattle.tx_engine.proofs.ProgramLemmas.{some_same}
-pub use Rattle.session_runs.proofs.ClientLemmas.{reached}
+use Rattle.session_runs.proofs.ClientLemmas.{parts_of, told_of}
 
 -- ---- places
 
@@ -58,18 +58,6 @@ pub client_at : (i : ℕ) (v : VacWorld) → HasPlace i v → (c : Client) × (s
 client_at i v place = some_at v.clients.items i (let lt = place.inside in let n = place.count in omega (arith, lt, n))
 
 -- ---- a turn of the running world
-
-pub told_of : (p : Play) (e : Event Entry) (c d : Parts Entry) (n : Notice Entry) → is_actor (whose e) ≡ true → IsLawful p.history
-    → IsWorld c (world_in p.history) → Feeds c e d n → n ≡ told e p
-told_of p e c d n is l at f =
-    f.told (state_of p.history.tables) (world_in p.history) (reached p.history l) at
-    ∙ ap (λ (r : World Entry × Notice Entry). r.1) (cond-true (is_actor (whose e)) _ _ is)
-
-pub parts_of : (h : History) (e : Event Entry) (c d : Parts Entry) (n : Notice Entry) → is_actor (whose e) ≡ true → IsLawful h
-    → IsWorld c (world_in h) → Feeds c e d n → IsWorld d (happens (world_in h) e).0
-parts_of h e c d n is l at f =
-    subst (IsWorld d) (ap (λ (r : World Entry × Notice Entry). r.0) (cond-true (is_actor (whose e)) _ _ is))
-    (f.parts (state_of h.tables) (world_in h) (reached h l) at)
 
 -- an event of the actor of this number is one of the client at its place
 pub fed_at : (c d : Parts Entry) (e : ℕ → Event Entry) (a b : ℕ) (m n : Notice Entry) → a ≡ b → m ≡ n → Feeds c (e a) d m
@@ -150,10 +138,7 @@ absent_turned p e action is absent a isnt =
     done_other p.history e action a (λ same. both a (whose e) same is isnt) ∙ absent a isnt
   where
     both : (a b : ℕ) → a ≡ b → is_actor b ≡ true → is_actor a ≡ false → ⊥
-    both a b same is isnt = true_false (sym is ∙ ap is_actor (sym same) ∙ isnt)
-      where
-        true_false : true ≡ false → ⊥
-        true_false e = cc
+    both a b same is isnt = true≢false (sym is ∙ ap is_actor (sym same) ∙ isnt)
 
 pub on_turned : (i : ℕ) (v u : VacWorld) (p : Play) (e : Event Entry) (action : Action) (n : Notice Entry) → i < ACTORS → whose e ≡ i + 1
     → May p e action → Feeds v.world.parts e u.world.parts n → u.clients.items ≡ v.clients.items → u.aborted ≡ v.aborted → IsOn v p
@@ -174,7 +159,7 @@ on_turned i v u p e action n inside own may f clients aborted on =
 pub own_told : (i : ℕ) (v u : VacWorld) (p : Play) (e : Event Entry) (n : Notice Entry) → i < ACTORS → whose e ≡ i + 1
     → Feeds v.world.parts e u.world.parts n → IsOn v p → n ≡ told e p
 own_told i v u p e n inside own f on =
-    told_of p e v.world.parts u.world.parts n (ap is_actor own ∙ actor_at i inside) on.lawful on.parts f
+    told_of p.history e v.world.parts u.world.parts n (ap is_actor own ∙ actor_at i inside) on.lawful on.parts f
 
 -- ---- a client that changes
 
@@ -258,36 +243,40 @@ starve_hearing p a c n same some k =
           (subst (λ (act : Action). HearsAt r.1 (phase (r.0.seats a)) c act (p.faults a) (done_in a h)) (sym does) hears));
     }
 
--- the client at place i is told of a step, or a want of memory, of its session
-pub hears_step : (i : ℕ) (v u : VacWorld) (c : Client) (p : Play) (n : Notice Entry) → i < ACTORS → slice_get v.clients.items i ≡ Some c
-    → has_open c ≡ true → Feeds v.world.parts (event.Step (i + 1)) u.world.parts n → u.clients.items ≡ v.clients.items
-    → u.aborted ≡ v.aborted → IsPlay v p → Hears i n u (moved (i + 1) (event.Step (i + 1)) p)
-hears_step i v u c p n inside got some f clients aborted k =
-    let a = i + 1 in
-    let e = event.Step a in
-    let same : n ≡ told e p = own_told i v u p e n inside refl f k.on in
-    record {
-      on = on_turned i v u p e (action_in a p.history) n inside refl tt f clients aborted k.on;
-      others = others_turned i v u p e (action_in a p.history) refl clients (λ j d apart there. k.clients j d there);
-      own = λ d there.
-          let is : c ≡ d = some_same c d (sym got ∙ ap (λ (cs : List Client). slice_get cs i) (sym clients) ∙ there) in
-          step_hearing p a d n same (ap has_open (sym is) ∙ some)
-          (k.clients i d (ap (λ (cs : List Client). slice_get cs i) (sym clients) ∙ there));
-    }
+pub move_own : (a : ℕ) (e : Event Entry) → IsMoveOf a e → whose e ≡ a
+move_own a (event.Step b) m = m
+move_own a (event.Starve b) m = m
+move_own a e m = absurd m
 
-pub hears_starve : (i : ℕ) (v u : VacWorld) (c : Client) (p : Play) (n : Notice Entry) → i < ACTORS → slice_get v.clients.items i ≡ Some c
-    → has_open c ≡ true → Feeds v.world.parts (event.Starve (i + 1)) u.world.parts n → u.clients.items ≡ v.clients.items
-    → u.aborted ≡ v.aborted → IsPlay v p → Hears i n u (moved (i + 1) (event.Starve (i + 1)) p)
-hears_starve i v u c p n inside got some f clients aborted k =
+move_may : (p : Play) (a : ℕ) (e : Event Entry) (action : Action) → IsMoveOf a e → May p e action
+move_may p a (event.Step b) action m = tt
+move_may p a (event.Starve b) action m = tt
+move_may p a e action m = absurd m
+
+move_hearing : (p : Play) (a : ℕ) (e : Event Entry) (c : Client) (n : Notice Entry) → IsMoveOf a e → n ≡ told e p → has_open c ≡ true
+    → IsClient c a p → IsHearing n c a (moved a e p)
+move_hearing p a (event.Step b) c n m same some k =
+    subst (λ d. n ≡ told (event.Step d) p → IsHearing n c a (moved a (event.Step d) p)) (sym m)
+    (λ at. step_hearing p a c n at some k) same
+move_hearing p a (event.Starve b) c n m same some k =
+    subst (λ d. n ≡ told (event.Starve d) p → IsHearing n c a (moved a (event.Starve d) p)) (sym m)
+    (λ at. starve_hearing p a c n at some k) same
+move_hearing p a e c n m same some k = absurd m
+
+-- the client at place i is told of a step, or a want of memory, of its session
+pub hears_move : (i : ℕ) (e : Event Entry) (v u : VacWorld) (c : Client) (p : Play) (n : Notice Entry) → i < ACTORS → IsMoveOf (i + 1) e
+    → slice_get v.clients.items i ≡ Some c → has_open c ≡ true → Feeds v.world.parts e u.world.parts n
+    → u.clients.items ≡ v.clients.items → u.aborted ≡ v.aborted → IsPlay v p → Hears i n u (moved (i + 1) e p)
+hears_move i e v u c p n inside m got some f clients aborted k =
     let a = i + 1 in
-    let e = event.Starve a in
-    let same : n ≡ told e p = own_told i v u p e n inside refl f k.on in
+    let own = move_own a e m in
+    let same : n ≡ told e p = own_told i v u p e n inside own f k.on in
     record {
-      on = on_turned i v u p e (action_in a p.history) n inside refl tt f clients aborted k.on;
-      others = others_turned i v u p e (action_in a p.history) refl clients (λ j d apart there. k.clients j d there);
+      on = on_turned i v u p e (action_in a p.history) n inside own (move_may p a e (action_in a p.history) m) f clients aborted k.on;
+      others = others_turned i v u p e (action_in a p.history) own clients (λ j d apart there. k.clients j d there);
       own = λ d there.
           let is : c ≡ d = some_same c d (sym got ∙ ap (λ (cs : List Client). slice_get cs i) (sym clients) ∙ there) in
-          starve_hearing p a d n same (ap has_open (sym is) ∙ some)
+          move_hearing p a e d n m same (ap has_open (sym is) ∙ some)
           (k.clients i d (ap (λ (cs : List Client). slice_get cs i) (sym clients) ∙ there));
     }
 

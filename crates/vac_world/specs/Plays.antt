@@ -1,5 +1,5 @@
 -- What events make of clients, and of the world on which their sessions run: a session's next request is asked as its last is answered.
-use Rattle.std.specs.Prelude.{ℕ, List, [], ◌∷◌, ◌++◌, Option, Some, None, if◌then◌else◌}
+use Rattle.std.specs.Prelude.{◌≡◌, ℕ, List, [], ◌∷◌, ◌++◌, Option, Some, None, if◌then◌else◌}
 use Rattle.word_machine.specs.World.{put}
 use Rattle.seq_model.specs.declared.call.Reply.{Reply}
 use Rattle.seq_model.specs.declared.event.Answer.TheVariants as answer
@@ -94,9 +94,19 @@ hears a n p = p
 
 -- ---- events
 
+-- a step of actor a, or a want of memory
+abbrev pub IsMoveOf : ℕ → Event Entry → Type 0
+IsMoveOf a (event.Step b) = b ≡ a
+IsMoveOf a (event.Starve b) = b ≡ a
+IsMoveOf a e = ⊥
+
 -- an event of a session that is under way; without one nothing happens
 abbrev pub takes : ℕ → Event Entry → Play → Play
 takes a e p = at_idle (seat_in a p).stage p (hears a (told e p) (moved a e p))
+
+-- so it is of each client; there may be none of this number
+abbrev pub taken : ℕ → Event Entry → Play → Play
+taken a e p = if is_actor a then takes a e p else p
 
 -- a session begins where none is under way
 abbrev pub begins : ℕ → Action → Play → Play
@@ -105,8 +115,8 @@ begins a action p =
 
 abbrev pub played : Play → VacEvent → Play
 played p (Start a action) = if is_actor a then begins a action p else ends a NoSuch p
-played p (Step a) = if is_actor a then takes a (event.Step a) p else p
-played p (Starve a) = if is_actor a then takes a (event.Starve a) p else p
+played p (Step a) = taken a (event.Step a) p
+played p (Starve a) = taken a (event.Starve a) p
 
 abbrev pub played_all : Play → List VacEvent → Play
 played_all p [] = p

@@ -3,7 +3,6 @@ ghost use Rattle.std.specs.Prelude.{◌≡◌, ℕ, ◌+◌, ◌<◌, length, If
 ghost use Rattle.conflict.specs.Refusals.{IsStripeCount};
 ghost use Rattle.seq_model.specs.declared.call.Call.{Call as ACall};
 ghost use Rattle.seq_model.specs.declared.event.Answer.TheVariants as answer;
-ghost use Rattle.seq_model.specs.declared.event.Event.TheVariants as event;
 ghost use Rattle.seq_model.specs.declared.event.Notice.TheVariants.{Answered, Refused};
 ghost use Rattle.running_world.specs.Feeds.{Feeds, IsPlaceOf};
 ghost use Rattle.tx_engine.specs.declared.job.Ask.TheVariants as ask;
@@ -12,7 +11,8 @@ ghost use Rattle.vac_model.specs.Actions.{IsAllowed};
 ghost use Rattle.vac_model.specs.Balanced.{IsBalanced};
 ghost use Rattle.vac_world.specs.declared.events.VacEvent.TheVariants as happening;
 ghost use Rattle.vac_world.specs.Openings.{AreNew, unplayed_on};
-ghost use Rattle.vac_world.specs.Plays.{AreAllowed, MayHappen, Play, begins, ends, hears, played, played_all, seat_in, takes};
+ghost use Rattle.vac_world.specs.Plays.{AreAllowed, IsMoveOf, MayHappen, Play, begins, ends, hears, played, played_all, seat_in};
+ghost use Rattle.vac_world.specs.Plays.{taken, takes};
 ghost use Rattle.vac_world.specs.Running.{AsksNext, AsksOn, Abandons, Called, GoesOn, HasPlace, HasPlay, Hears, IsPlay, Mistaken, Refusing};
 
 use crate::client::Client;
@@ -298,30 +298,29 @@ impl VacWorld {
         }
     }
 
-    /// A step of the session that is under way at this place.
-    fn take_step(&mut self, i: usize) -> Result<(), Memory>
-        requires { HasPlace i self.old }
-        ensures { OnOk result ((p : Play) → IsPlay self.old p → IsPlay self.new (takes (i + 1) (event.Step (i + 1)) p)) }
+    /// An event of the session that is under way at this place.
+    fn take_at(&mut self, i: usize, event: Event<Entry>) -> Result<(), Memory>
+        requires place { HasPlace i self.old }
+        requires own { IsMoveOf (i + 1) event }
+        ensures { OnOk result ((p : Play) → IsPlay self.old p → IsPlay self.new (takes (i + 1) event p)) }
     {
-        let actor = actor_at(i);
         if self.clients[i].is_busy() {
-            let notice = self.feed(Event::Step(actor))?;
+            let notice = self.feed(event)?;
             return self.hear(i, notice);
         }
         Ok(())
     }
 
-    /// A want of memory of the session that is under way at this place.
-    fn take_want(&mut self, i: usize) -> Result<(), Memory>
-        requires { HasPlace i self.old }
-        ensures { OnOk result ((p : Play) → IsPlay self.old p → IsPlay self.new (takes (i + 1) (event.Starve (i + 1)) p)) }
+    /// An event of the session of this client, where there is such a client.
+    fn take(&mut self, actor: u32, event: Event<Entry>) -> Result<(), Memory>
+        requires play { HasPlay self.old }
+        requires own { IsMoveOf actor event }
+        ensures { OnOk result ((p : Play) → IsPlay self.old p → IsPlay self.new (taken actor event p)) }
     {
-        let actor = actor_at(i);
-        if self.clients[i].is_busy() {
-            let notice = self.feed(Event::Starve(actor))?;
-            return self.hear(i, notice);
+        match place_of(actor) {
+            Some(i) => self.take_at(i, event),
+            None => Ok(()),
         }
-        Ok(())
     }
 
     fn begin(&mut self, i: usize, action: &Action) -> Result<(), Memory>
@@ -350,26 +349,6 @@ impl VacWorld {
         }
     }
 
-    fn step(&mut self, actor: u32) -> Result<(), Memory>
-        requires { HasPlay self.old }
-        ensures { OnOk result ((p : Play) → IsPlay self.old p → IsPlay self.new (played p (happening.Step actor))) }
-    {
-        match place_of(actor) {
-            Some(i) => self.take_step(i),
-            None => Ok(()),
-        }
-    }
-
-    fn starve(&mut self, actor: u32) -> Result<(), Memory>
-        requires { HasPlay self.old }
-        ensures { OnOk result ((p : Play) → IsPlay self.old p → IsPlay self.new (played p (happening.Starve actor))) }
-    {
-        match place_of(actor) {
-            Some(i) => self.take_want(i),
-            None => Ok(()),
-        }
-    }
-
     /// What this event makes of the clients and of their world.
     fn play(&mut self, event: &VacEvent) -> Result<(), Memory>
         requires play { HasPlay self.old }
@@ -378,8 +357,8 @@ impl VacWorld {
     {
         match event {
             VacEvent::Start(actor, action) => self.start(*actor, action),
-            VacEvent::Step(actor) => self.step(*actor),
-            VacEvent::Starve(actor) => self.starve(*actor),
+            VacEvent::Step(actor) => self.take(*actor, Event::Step(*actor)),
+            VacEvent::Starve(actor) => self.take(*actor, Event::Starve(*actor)),
         }
     }
 

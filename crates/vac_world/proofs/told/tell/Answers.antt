@@ -1,6 +1,6 @@
-use Rattle.std.proofs.Common.{◌-◌, ◌<◌, refl, arith, length}
+use Rattle.std.proofs.Common.{◌-◌, refl, arith}
 use Rattle.std.proofs.lemmas.Option.{slice_get_read}
-use Rattle.vac_world.proofs.ToldLemmas.{actor_in, first_done, same_found, session_in, told_one}
+use Rattle.vac_world.proofs.ToldLemmas.{actor_in, first_done, is_at, session_in, told_one}
 use Rattle.vac_world.proofs.told.tell.Goals as goal
 
 pub overflow_sub-i : goal.overflow_sub-i
@@ -27,47 +27,28 @@ unreachable-requires c =
     let r = c.args.entry.now in
     let ns = c.args.told.now.items in
     let cs = c.args.clients.now in
-    let there = actor_in cs ns r c.requires.own in
-    let n = c.requires.count in
-    let some = there.0 in
-    let lt = there.1 in
-    let within : r.0 - 1 < length ns = omega (arith, lt, n) in
-    session_in cs ns r (r.0 - 1) c.index-clients-i.result c.index-place.result.now c.requires.own (omega (arith, some))
-    (slice_get_read cs _ (r.0 - 1) c.index-clients-i.result refl lt c.index-clients-i.is)
-    (same_found ns (r.0 - 1) c.index-place.result.now within
-    (slice_get_read ns _ (r.0 - 1) c.index-place.result.now refl within c.index-place.ensures))
-    c.in_default.ensures.there
+    session_in cs ns r (r.0 - 1) c.index-clients-i.result c.index-place.result.now c.requires.own
+    (is_at cs ns r c.index-clients-i.result c.index-place.result.now c.requires.own c.requires.count
+    (λ lt. slice_get_read cs _ (r.0 - 1) c.index-clients-i.result refl lt c.index-clients-i.is)
+    (λ lt. slice_get_read ns _ (r.0 - 1) c.index-place.result.now refl lt c.index-place.ensures)) c.in_default.ensures.there
 
 pub reply-requires : goal.reply-requires
 reply-requires c =
     let r = c.args.entry.now in
     let ns = c.args.told.now.items in
     let cs = c.args.clients.now in
-    let there = actor_in cs ns r c.requires.own in
-    let n = c.requires.count in
-    let some = there.0 in
-    let lt = there.1 in
-    let within : r.0 - 1 < length ns = omega (arith, lt, n) in
     first_done cs ns r (r.0 - 1) c.index-clients-i.result c.index-place.result.now c.in-Some.session.now c.requires.own
-    (omega (arith, some))
-    (slice_get_read cs _ (r.0 - 1) c.index-clients-i.result refl lt c.index-clients-i.is)
-    (same_found ns (r.0 - 1) c.index-place.result.now within
-    (slice_get_read ns _ (r.0 - 1) c.index-place.result.now refl within c.index-place.ensures))
-    c.in-Some.ensures.there
+    (is_at cs ns r c.index-clients-i.result c.index-place.result.now c.requires.own c.requires.count
+    (λ lt. slice_get_read cs _ (r.0 - 1) c.index-clients-i.result refl lt c.index-clients-i.is)
+    (λ lt. slice_get_read ns _ (r.0 - 1) c.index-place.result.now refl lt c.index-place.ensures)) c.in-Some.ensures.there
 
 pub returns-clause-told : goal.returns-clause-told
 returns-clause-told c =
     let r = c.args.entry.now in
     let ns = c.args.told.now.items in
     let cs = c.args.clients.now in
-    let there = actor_in cs ns r c.requires.own in
-    let n = c.requires.count in
-    let some = there.0 in
-    let lt = there.1 in
-    let within : r.0 - 1 < length ns = omega (arith, lt, n) in
     told_one cs ns r (r.0 - 1) c.index-clients-i.result c.index-place.result.now c.in-Some.session.now c.in_ok-reply.reply
-    (omega (arith, some))
-    (slice_get_read cs _ (r.0 - 1) c.index-clients-i.result refl lt c.index-clients-i.is) within
-    (same_found ns (r.0 - 1) c.index-place.result.now within
-    (slice_get_read ns _ (r.0 - 1) c.index-place.result.now refl within c.index-place.ensures))
-    c.in-Some.ensures.there c.in_ok-reply.ensures
+    (is_at cs ns r c.index-clients-i.result c.index-place.result.now c.requires.own c.requires.count
+    (λ lt. slice_get_read cs _ (r.0 - 1) c.index-clients-i.result refl lt c.index-clients-i.is)
+    (λ lt. slice_get_read ns _ (r.0 - 1) c.index-place.result.now refl lt c.index-place.ensures)) c.in-Some.ensures.there
+    c.in_ok-reply.ensures
