@@ -1,5 +1,5 @@
 //! What a call on a copied collection is going to do: its outcome, the locations that have to be read for it, and what it writes.
-ghost use Rattle.std.specs.Prelude.{◌≡◌, ◌+◌, ◌<◌, ◌≤◌, ◌^◌, [], ◌∷◌, IfOk, OnOk, Some, true};
+ghost use Rattle.std.specs.Prelude.{◌≡◌, ◌+◌, ◌<◌, ◌≤◌, ◌^◌, [], ◌∷◌, IfOk, IsSome, OnOk, Some, true};
 ghost use Rattle.conflict.specs.Footprints.{all_below};
 ghost use Rattle.replay_log.specs.Base.{stripes_of};
 ghost use Rattle.replay_log.specs.Contents.{shifted};
@@ -16,7 +16,7 @@ use crate::footprints::{with_known, with_known_below};
 use crate::room::{has_room, has_room_below, surely_fits};
 use crate::writes::{Writes, with_next};
 use conflict::Outcome;
-use seq_model::{Memory, Op, Value};
+use seq_model::{Memory, Op, Refusal, Value};
 use shadow::KeyPlace;
 use std::collections::VecDeque;
 use step_core::Actor;
@@ -124,7 +124,7 @@ fn weigh_outcome<V: Value>(
 /// Answers whether what a call reads and writes fits the sets of the transaction, before memory is asked for lists of it. The call's outcome
 /// after the accepted ones is put into its place; and where they fit, so are the locations that it reads, with the editions with which they
 /// were copied, and those that it writes, each with the edition after the copied one, whatever these places hold. The collection begins at
-/// location `first`. A call of another kind of collection is refused.
+/// location `first`.
 pub fn weigh<V: Value>(
     outcome: &mut Option<Outcome<V>>,
     left: &mut VecDeque<(u32, u64)>,
@@ -136,15 +136,18 @@ pub fn weigh<V: Value>(
 ) -> Result<bool, Memory>
     requires stripes { 0 < stripes_of (base_in copied.now) }
     requires range { first + places_in copied.now ≤ 2 ^ 32 }
+    requires known { IsSome (answer_of copied.now op.now) }
     ensures outcome { IfOk result (λ fits. answer_of copied.now op.now ≡ outcome.new) }
     ensures weighed { IfOk result (λ fits. (o : Outcome V) × (outcome.new ≡ Some o)
         × IsWeighed (actor_of words.now) copied.now first o left.new.items writes.new.items fits) }
 {
-    if let Err(_) = copied.outcome(op, outcome) {
-        return Err(Memory);
+    match copied.outcome(op, outcome) {
+        Ok(()) => {}
+        Err(Refusal::Memory) => return Err(Memory),
+        Err(_) => unreachable!(),
     }
     match outcome {
         Some(found) => weigh_outcome(left, writes, words, copied, first, found),
-        None => Err(Memory),
+        None => unreachable!(),
     }
 }

@@ -208,6 +208,7 @@ module _ {V : Type 0} where
       among = among;
       stripes = positive_at w.blocks k block.0 all.own.stripes (in_world block.0 block.1);
       is = is.fit block.0 block.1;
+      known = ap (λ (c : Option Block). worlds.is_known c asked.op) (sym (in_world block.0 block.1)) ∙ goes.known;
       unheld = unheld;
       holds = λ x d found took. (copy_for block.0 x d block.1 found took).holds;
     }

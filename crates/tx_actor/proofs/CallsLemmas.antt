@@ -3,7 +3,7 @@
 -- edition. Where it has not, its seat has not copied the piece, and the gate is tried.
 use Rattle.std.proofs.Common.{◌≡◌, ℕ, ◌+◌, ◌^◌, ◌<◌, ◌≤◌, true, false, ◌&&◌, cond, ltb, length, List, [], ◌∷◌, Option, Some, None, refl}
 use Rattle.std.proofs.Common.{sym, ap, subst, ◌∙◌, arith}
-use Rattle.std.specs.Prelude.{Contains, slice_get}
+use Rattle.std.specs.Prelude.{Contains, IsSome, slice_get}
 use Rattle.std.proofs.lemmas.Bool.{cond-true, cond-false}
 use Rattle.tx_sets.specs.Entries.{Entries, lookup}
 use Rattle.word_machine.specs.Actor as machine
@@ -58,6 +58,7 @@ use Rattle.actor_copies.proofs.KeptLemmas.{first_at}
 use Rattle.tx_actor.proofs.OwnAsksLemmas.{comes_owns}
 use Rattle.tx_actor.proofs.OwnsLemmas.{owns_by}
 use Rattle.actor_copies.proofs.TakingLemmas.{some_copy}
+use Rattle.actor_copies.proofs.WeighedLemmas.{held_answers}
 use Rattle.tx_actor.proofs.PreparesLemmas.{alike_owns, alike_seat}
 
 -- the writes of an accepted call are those that are ready
@@ -251,9 +252,9 @@ module _ {V : Type 0} where
   not_held_at cs i k op c is at holds = ap (λ q. holds_of q op) (first_at cs i k c at (sym (is.2 c at)) is.1) ∙ holds
 
   pub may_prepare : (v : BlocksView) (r : TxActor V) (i f k : ℕ) (op : Op V) → IsHeldAt r.copies.items i k op → CanCall v r
-      → may_ask (words.actor_of r.words) op ≡ true → ((b : Block) → block_of v.blocks k ≡ Some b → f + size b < 2 ^ 32)
+      → is_known (block_of v.blocks k) op ≡ true → may_ask (words.actor_of r.words) op ≡ true → ((b : Block) → block_of v.blocks k ≡ Some b → f + size b < 2 ^ 32)
       → MayPrepare r i f op
-  may_prepare v r i f k op h can may within =
+  may_prepare v r i f k op h can known may within =
       let c = h.copy in
       let b = can.blocks k c.copied h.of in
       let same : (d : CopyOf V) → slice_get r.copies.items i ≡ Some d → c ≡ d = λ d at. some_copy c d (sym h.at ∙ at) in
@@ -263,6 +264,8 @@ module _ {V : Type 0} where
       ∙ sized (stripes_of (base_in c.copied)) (shown_of (base_in c.copied)) in
       let below = within b.block b.there in
       let range : f + places_in c.copied ≤ 2 ^ 32 = omega (arith, below, places) in
+      let answers : IsSome (answer_of c.copied op) =
+      held_answers b.block c.copied op b.some b.kind (ap (λ (o : Option Block). is_known o op) (sym b.there) ∙ known) h.holds in
       record {
         there = h.there;
         rests = can.rests;
@@ -270,6 +273,7 @@ module _ {V : Type 0} where
         stripes = λ d at. subst (λ (z : CopyOf V). 0 < stripes_of (base_in z.copied)) (same d at) some;
         range = λ d at. subst (λ (z : CopyOf V). f + places_in z.copied ≤ 2 ^ 32) (same d at) range;
         held = λ d at. subst (λ (z : CopyOf V). holds_call z.copied op ≡ true) (same d at) h.holds;
+        known = λ d at. subst (λ (z : CopyOf V). IsSome (answer_of z.copied op)) (same d at) answers;
       }
 
   piece_there : (v : BlocksView) (w : World V) (a : ℕ) (r : TxActor V) (i k : ℕ) (op : Op V) → OwnsCopies r w a

@@ -5,7 +5,7 @@
 -- another edition, so that the world does not accept it.
 use Rattle.std.proofs.Common.{◌≡◌, inl, inr, eq-eqb, eqb-true, ℕ, ◌+◌, ◌<◌, ◌≤◌, ◌^◌, ◌==◌, ◌&&◌, Bool, true, false, cond, length, List, []}
 use Rattle.std.proofs.Common.{◌∷◌, Option, Some, refl, sym, ap, subst, ◌∙◌, arith}
-use Rattle.std.specs.Prelude.{slice_get}
+use Rattle.std.specs.Prelude.{IsSome, slice_get}
 use Rattle.std.proofs.lemmas.Bool.{cond-true, cond-false}
 use Rattle.std.specs.Global.{Vec}
 use Rattle.tx_sets.specs.Entries.{Entries, lookup}
@@ -36,7 +36,7 @@ use Rattle.actor_copies.specs.declared.copies.Copied.{Copied}
 use Rattle.actor_copies.specs.declared.copies.CopyOf.{CopyOf}
 use Rattle.actor_copies.specs.declared.copies.Found.{Found}
 use Rattle.actor_copies.specs.Copied.{IsCopyFor, IsTaken}
-use Rattle.actor_copies.specs.Copies.{IsFound, holds_call}
+use Rattle.actor_copies.specs.Copies.{IsFound, answer_of, holds_call}
 use Rattle.actor_copies.specs.Footprints.{base_in, places_in, reads_in, with_known, writes_in}
 use Rattle.actor_copies.specs.Kept.{copy_of, has_piece}
 use Rattle.actor_copies.specs.Owns.{AreOfBlocks, IsOfBlock}
@@ -48,6 +48,7 @@ use Rattle.actor_copies.proofs.CallingLemmas.{not_read}
 use Rattle.actor_copies.proofs.FootprintLemmas.{sized}
 use Rattle.actor_copies.proofs.GoingLemmas.{GoesOn, fresh}
 use Rattle.actor_copies.proofs.TakingLemmas.{kept_same, some_copy, taken_copies, taken_goes_back, taken_in_block, taken_pieces, taken_there}
+use Rattle.actor_copies.proofs.WeighedLemmas.{held_answers}
 use Rattle.tx_actor.specs.declared.actor.Asked.{Asked}
 use Rattle.tx_actor.specs.declared.actor.Stage.TheVariants as stage
 use Rattle.tx_actor.specs.declared.actor.Told.{Told}
@@ -112,6 +113,7 @@ module _ {V : Type 0} where
           can.holds found d is here,
           subst (λ m. 0 < m) (sym of.1) can.stripes,
           omega (arith, within, places),
+          held_answers can.block d asked.op can.stripes of.0 can.known (can.holds found d is here),
         ));
   }
 
@@ -128,6 +130,7 @@ module _ {V : Type 0} where
         may = may.may;
         stripes = λ c at. subst (λ (z : CopyOf V). 0 < stripes_of (base_in z.copied)) (same c at) copy.1;
         range = λ c at. subst (λ (z : CopyOf V). f + places_in z.copied ≤ 2 ^ 32) (same c at) copy.2;
+        known = λ c at. subst (λ (z : CopyOf V). IsSome (answer_of z.copied asked.op)) (same c at) copy.3;
         held = λ c at. subst (λ (z : CopyOf V). holds_call z.copied asked.op ≡ true) (same c at) copy.0;
       }
 

@@ -229,6 +229,7 @@ module _ {V : Type 0} where
     among = c.among;
     stripes = c.stripes;
     is = c.is;
+    known = c.known;
     unheld = c.unheld;
     holds = c.holds;
   }

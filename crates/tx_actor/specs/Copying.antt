@@ -1,5 +1,5 @@
 -- What a call makes of an actor that holds the gate of its collection, and is given the base.
-use Rattle.std.specs.Prelude.{◌≡◌, ◌⊎◌, ℕ, ◌+◌, ◌<◌, ◌≤◌, ◌^◌, true, false, Option, Some, None, length}
+use Rattle.std.specs.Prelude.{◌≡◌, ◌⊎◌, ℕ, ◌+◌, ◌<◌, ◌≤◌, ◌^◌, true, false, Option, Some, None, IsSome, length}
 use Rattle.std.specs.Global.{Vec}
 use Rattle.std.specs.declared.alloc.Global.{Global}
 use Rattle.std.specs.declared.collections.VecDeque.{VecDeque}
@@ -19,7 +19,7 @@ use Rattle.actor_copies.specs.declared.copies.Copied.{Copied}
 use Rattle.actor_copies.specs.declared.copies.CopyOf.{CopyOf}
 use Rattle.actor_copies.specs.declared.copies.Found.{Found}
 use Rattle.actor_copies.specs.Copied.{CopiesGoOn, IsCopyFor, IsTaken}
-use Rattle.actor_copies.specs.Copies.{IsFound, holds_call, holds_of}
+use Rattle.actor_copies.specs.Copies.{IsFound, answer_of, holds_call, holds_of}
 use Rattle.actor_copies.specs.Footprints.{base_in, places_in}
 use Rattle.actor_copies.specs.Kept.{HaveSame, copy_of}
 use Rattle.actor_copies.specs.Owns.{AreOfBlocks}
@@ -49,6 +49,7 @@ pub record CanCopy {V : Type 0} (v : BlocksView) (r : TxActor V) (base : Base V)
   pub among : asked.collection < length v.blocks
   pub stripes : 0 < block.stripes
   pub is : IsBaseOf block base
+  pub known : worlds.is_known (Some block) asked.op ≡ true
   pub unheld : holds_of (copy_of r.copies.items asked.collection) asked.op ≡ false
   pub holds : (x : Found V) (d : Copied V) → IsFound base asked.op x
       → IsTaken block.stripes x (copy_of r.copies.items asked.collection) d → holds_call d asked.op ≡ true
@@ -87,7 +88,7 @@ module _ {V : Type 0} where
     pub kinds : (c : Copied V) → copy_of r.copies.items asked.collection ≡ Some c → kind_of (shown_of (base_in c)) ≡ kind_of (shown_of base)
     pub unheld : holds_of (copy_of r.copies.items asked.collection) asked.op ≡ false
     pub copy : (d : Copied V) → IsTaken n found (copy_of r.copies.items asked.collection) d
-        → (holds_call d asked.op ≡ true) × (0 < stripes_of (base_in d)) × (f + places_in d ≤ 2 ^ 32)
+        → (holds_call d asked.op ≡ true) × (0 < stripes_of (base_in d)) × (f + places_in d ≤ 2 ^ 32) × IsSome (answer_of d asked.op)
 
   -- what the call touches of the base is taken, or the locations of the call don't fit the sets
   abbrev pub AreReadyAt : BlocksView → (r u : TxActor V) → Base V → Asked V → Option (ℕ × Prepared V) → Type 0

@@ -1,5 +1,5 @@
 -- What making a call ready leaves of an actor, and what it gives.
-use Rattle.std.specs.Prelude.{◌≡◌, ℕ, ◌+◌, ◌<◌, ◌≤◌, ◌^◌, Bool, true, false, List, Option, Some, None, length, slice_get}
+use Rattle.std.specs.Prelude.{◌≡◌, ℕ, ◌+◌, ◌<◌, ◌≤◌, ◌^◌, Bool, true, false, List, Option, Some, None, IsSome, length, slice_get}
 use Rattle.std.specs.Vec.{vec_capacity, vec_len}
 use Rattle.std.specs.declared.alloc.Global.{Global}
 use Rattle.std.specs.declared.collections.VecDeque.{VecDeque}
@@ -43,8 +43,8 @@ pub record HasRoomFor {V : Type 0} (u : TxActor V) (i : ℕ) (o : Outcome V) (n 
   pub few : length u.words.writes.entries ≤ LOCATION_LIMIT
   pub ready : (c : CopyOf V) → slice_get u.copies.items i ≡ Some c → IsReady o c.copied
 
--- A call on the copy at this place, of a collection that begins at location f, may be made ready: the copy holds it, its locations are
--- numbers, and the word actor rests; a declared reader asks for no change.
+-- A call on the copy at this place, of a collection that begins at location f, may be made ready: the copy holds and answers it, its
+-- locations are numbers, and the word actor rests; a declared reader asks for no change.
 pub record MayPrepare {V : Type 0} (r : TxActor V) (i f : ℕ) (op : Op V) : Type 0 where
   pub there : i < length r.copies.items
   pub rests : r.words.place ≡ place.Open
@@ -52,6 +52,7 @@ pub record MayPrepare {V : Type 0} (r : TxActor V) (i f : ℕ) (op : Op V) : Typ
   pub stripes : (c : CopyOf V) → slice_get r.copies.items i ≡ Some c → 0 < stripes_of (base_in c.copied)
   pub range : (c : CopyOf V) → slice_get r.copies.items i ≡ Some c → f + places_in c.copied ≤ 2 ^ 32
   pub held : (c : CopyOf V) → slice_get r.copies.items i ≡ Some c → holds_call c.copied op ≡ true
+  pub known : (c : CopyOf V) → slice_get r.copies.items i ≡ Some c → IsSome (answer_of c.copied op)
 
 -- whether the locations of an outcome fit the sets of r
 abbrev pub fits : {V : Type 0} → TxActor V → (f : ℕ) → Copied V → Outcome V → Bool

@@ -14,8 +14,7 @@ use Rattle.tx_actor.proofs.actor.TxActor.calls_held.Goals as goal
 pub prepares-requires : goal.prepares-requires
 prepares-requires g c =
     may_prepare c.args.blocks.now c.args.self.now c.args.place c.first_of-first.result c.args.collection c.args.op c.requires.held
-    c.requires.can
-    c.requires.may c.first_of-first.ensures.within
+    c.requires.can c.requires.known c.requires.may c.first_of-first.ensures.within
 
 pub returns-in-Some-clause-ok : goal.returns-in-Some-clause-ok
 returns-in-Some-clause-ok g c =
