@@ -10,7 +10,7 @@ use Rattle.seq_model.specs.declared.event.Request.{Request}
 use Rattle.replay_log.proofs.EventLemmas.{opened_linked, run-append, run_linked}
 use Rattle.replay_log.proofs.SeatLemmas.{StageOk}
 use Rattle.replay_log.specs.Seats.{World, Seat, After, actor_of}
-use Rattle.replay_log.specs.Worlds.{ask_at, ask_open, happens, run, starve_at}
+use Rattle.replay_log.specs.Worlds.{ask_at, happens, run, starve_at}
 use Rattle.step_core.specs.Shown as words
 use Rattle.actor_words.specs.Blocks.{BlocksView}
 use Rattle.actor_words.specs.Dispatch.{is_loading}
@@ -19,9 +19,9 @@ use Rattle.atomic_steps.proofs.OneStep.{one_step}
 use Rattle.atomic_steps.proofs.OwnEvents.{own_event}
 use Rattle.atomic_steps.specs.Own.{Alike}
 use Rattle.atomic_steps.specs.Steps.{OnlyOwn}
-use Rattle.tx_actor.specs.Asks.{Asks, Stands}
+use Rattle.tx_actor.specs.Asks.{Asks}
 use Rattle.tx_actor.specs.Dispatch.{Starves}
-use Rattle.tx_actor.specs.Keeping.{IsRunning, KeepsIn}
+use Rattle.tx_actor.specs.Keeping.{IsRunning}
 use Rattle.tx_actor.specs.Running.{Does, Runs, seat_of, stage_of}
 use Rattle.tx_actor.specs.declared.actor.Stage as own
 use Rattle.tx_actor.specs.declared.actor.Stage.TheVariants as stage
@@ -40,7 +40,7 @@ use Rattle.tx_table.specs.Turns as turns
 use Rattle.tx_turns.specs.Asked.{Answers, HasAsked, HasTaken, Starved}
 use Rattle.tx_turns.specs.Ties.{Ties, laid_in}
 use Rattle.actor_turns.proofs.SeatLemmas.{asked_as, starved_as}
-use Rattle.tx_turns.proofs.TurnLemmas.{laid_as, own_place}
+use Rattle.tx_turns.proofs.TurnLemmas.{own_place}
 
 module _ {V : Type 0} where
   asked_last : (a : ℕ) (w : World V) (es : List (Event V)) (e : Event V)
@@ -173,23 +173,3 @@ module _ {V : Type 0} where
       sym (ap (λ (y : machine.Actor). y.reads) is)
       ∙ (has_no_sets there.boosted.words a linked.base.inv.machine (ap (λ (y : machine.Actor). y.declared) is ∙ d)
       (ap (λ (y : machine.Actor). y.place) h.alike.boosted.actor ∙ rests)).0
-
-  -- a request that is at rest in its transaction, where the locations lie as b says
-  pub asked_open : (t : TxTable V) (s u : table.Seat V) (r q : TxActor V) (n : Told V) (x : Request V) (f : ℕ → World V → After V)
-      (b : BlocksView) → b.words ≡ seated.words_in t → b.blocks ≡ seated.blocks_in t → Ties t s r → HasAsked s x u → r.stage ≡ stage.Open
-      → ((a : ℕ) (w : World V) → ask_open w a (seat_of r) x ≡ f a w) → KeepsIn b r q → Asks b r q n f
-      → Ties t u q × Answers (opening_of t) s x n
-  asked_open t s u r q n x f b e g ties has at is keeps asks =
-      let laid = laid_as t b e g in
-      asked t s u r q n x f ties has (subst (λ (v : BlocksView). IsRunning v r → IsRunning v q) laid keeps.running ties.running)
-      (λ a w. at_its_stage r stage.Open x at a w ∙ is a w) (subst (λ (v : BlocksView). Asks v r q n f) laid asks)
-
-  -- where memory was refused
-  pub stands_open : (t : TxTable V) (s : table.Seat V) (r q : TxActor V) (b : BlocksView) → b.words ≡ seated.words_in t
-      → b.blocks ≡ seated.blocks_in t → Ties t s r → KeepsIn b r q → Stands r q → Ties t s q
-  stands_open t s r q b e g ties keeps stands =
-      stays_tied t s r q ties stands
-      (subst (λ (v : BlocksView). IsRunning v r → IsRunning v q) (laid_as t b e g) keeps.running ties.running)
-
-  pub quiet_open : (r : TxActor V) → r.stage ≡ stage.Open → is_loading (stage_of r.stage) ≡ false
-  quiet_open r at = ap (λ (k : own.Stage V). is_loading (stage_of k)) at

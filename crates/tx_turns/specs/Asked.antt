@@ -1,10 +1,8 @@
 -- What a request makes of a seat, and what it is answered at once.
-use Rattle.std.specs.Prelude.{◌≡◌, ℕ, [], ◌∷◌, ◌++◌}
+use Rattle.std.specs.Prelude.{◌≡◌, [], ◌∷◌, ◌++◌}
 use Rattle.seq_model.specs.declared.event.Event.{Event}
 use Rattle.seq_model.specs.declared.event.Event.TheVariants.{Ask, Starve}
-use Rattle.seq_model.specs.declared.call.Op.TheVariants.{Read, Write}
 use Rattle.seq_model.specs.declared.event.Request.{Request}
-use Rattle.seq_model.specs.declared.event.Request.TheVariants.{Call}
 use Rattle.replay_log.specs.Seats.{World}
 use Rattle.replay_log.specs.Worlds.{happens}
 use Rattle.tx_actor.specs.Running.{notice_of}
@@ -25,13 +23,6 @@ module _ {V : Type 0} where
     pub taken : HasTaken s (Starve 0) u
     pub own : acts o u ≡ (happens (acts o s) (Starve (actor s))).0
     pub tells : notice_of (actor s) n ≡ (happens (acts o s) (Starve (actor s))).1
-
-  -- the requests on a word
-  abbrev pub read_of : ℕ → Request V
-  read_of word = Call (record { target = word; op = Read })
-
-  abbrev pub write_of : ℕ → ℕ → Request V
-  write_of word value = Call (record { target = word; op = Write value })
 
   -- the definitions answer the request so, in the own world of the seat
   abbrev pub Answers : World V → Seat V → Request V → Told V → Type 0

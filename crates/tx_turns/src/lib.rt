@@ -9,5 +9,5 @@
 mod asks;
 mod words;
 
-pub use asks::{ask_abort, ask_begin, ask_begin_read, ask_commit, ask_read, ask_write, starve};
+pub use asks::{ask_abort, ask_begin, ask_begin_read, starve};
 pub use words::{close, commit, step_word, store_first};
