@@ -20,7 +20,7 @@ use transactions::TxSeat;
 use tx_table::TxTable;
 use vac_model::{Action, Tables};
 use vacation_core::{Entry, Session, state_of};
-use workers::{Report, run_workers};
+use workers::{Report, run_workers_owned};
 
 /// The most attempts of a session.
 const TRIES: u64 = 1_000_000;
@@ -155,7 +155,7 @@ fn timed<R: Runtime + AllocGlobal + Threads + Wait + Sync>(
     requires some { (1 ≤ length sessions.items) × (length sessions.items ≤ ACTOR_LIMIT) }
 {
     let start = Instant::now(rt);
-    let (seat, report) = run_workers(rt, rt.alloc(), table, seat, sessions, TRIES, tries);
+    let (seat, report) = run_workers_owned(rt, rt.alloc(), table, seat, sessions, TRIES, tries);
     let seconds = seconds_since(rt, start);
     drop(seat);
     let whole = is_whole(&report);

@@ -19,7 +19,7 @@ use transactions::TxSeat;
 use tx_table::{SHARES, TxTable};
 use vac_model::{Action, Tables};
 use vacation_core::{Entry, Session, state_of};
-use workers::{Report, run_workers};
+use workers::{Report, run_workers_owned};
 
 /// What has come of the sessions of lists of actions.
 #[derive(Drop)]
@@ -112,7 +112,7 @@ pub fn serve_allowed<R: Threads + Wait + Sync, P: Pause + Sync>(
 {
     let sessions = all_sessions(alloc, lists)?;
     let (table, seat) = open(alloc, tables, stripes)?;
-    let (seat, report) = run_workers(rt, alloc, &table, seat, sessions, tries, pause);
+    let (seat, report) = run_workers_owned(rt, alloc, &table, seat, sessions, tries, pause);
     let report = report?;
     let state = close(table, seat)?;
     let tables = tables_left(alloc, &state)?;

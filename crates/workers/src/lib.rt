@@ -17,5 +17,5 @@ mod way;
 pub use attempts::{NoPause, Pause};
 pub use causes::LastAbort;
 pub use report::Report;
-pub use run::run_workers;
+pub use run::{run_workers, run_workers_owned};
 pub use tries::retry;

@@ -15,7 +15,7 @@ use std::sync::Wait;
 use std::thread::Threads;
 use transactions::TxSeat;
 use tx_table::TxTable;
-use workers::{Report, run_workers};
+use workers::{Report, run_workers_owned};
 
 /// So many attempts no job needs.
 const TRIES: u64 = 1_000_000;
@@ -82,7 +82,7 @@ fn race_lists<R: Threads + Wait + Sync>(
 {
     let meeting = Meeting::new(lists.len() as u64, Order::LastIsFirst);
     ration.refuse(place);
-    let (mut seat, report) = run_workers(rt, alloc, table, seat, lists, TRIES, &meeting);
+    let (mut seat, report) = run_workers_owned(rt, alloc, table, seat, lists, TRIES, &meeting);
     let was_refused = ration.lift();
     drop(meeting);
     let missed = keep_report(report, receipts);

@@ -11,7 +11,7 @@ use std::sync::Wait;
 use std::thread::Threads;
 use transactions::TxSeat;
 use tx_table::TxTable;
-use workers::{Report, run_workers};
+use workers::{Report, run_workers_owned};
 
 /// The workers' lists that these rows spell; the run fails where there are none, or more than 64, or no attempts.
 pub fn run_lists<R: Threads + Wait + Sync>(
@@ -74,7 +74,7 @@ fn run_seat<R: Threads + Wait + Sync>(
 {
     let meeting = Meeting::new(limits.meet, limits.order);
     let alloc = page.alloc();
-    let (seat, report) = run_workers(rt, alloc, table, seat, lists, limits.tries, &meeting);
+    let (seat, report) = run_workers_owned(rt, alloc, table, seat, lists, limits.tries, &meeting);
     let is_refused = hear(page, report, limits, wants_of(rows));
     page.hear_meeting(meeting);
     go_on(page, table, seat, is_refused)

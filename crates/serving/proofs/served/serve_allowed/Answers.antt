@@ -6,15 +6,15 @@ use Rattle.serving.proofs.ListLemmas.{as_many}
 use Rattle.serving.proofs.RunLemmas.{are_balanced, holds_some, served_so}
 use Rattle.serving.proofs.served.serve_allowed.Goals as goal
 
-pub run_workers-seat-requires-clause-lists : goal.run_workers-seat-requires-clause-lists
-run_workers-seat-requires-clause-lists g c κs within =
+pub run_workers_owned-seat-requires-clause-lists : goal.run_workers_owned-seat-requires-clause-lists
+run_workers_owned-seat-requires-clause-lists g c κs within =
     let many = as_many c.in_ok-sessions.sessions.items c.args.lists.now c.in_ok-sessions.ensures in
     let some = c.requires.lists.0 in
     let few = c.requires.lists.1 in
     (omega (arith, many, some), omega (arith, many, few))
 
-pub run_workers-seat-requires-clause-shares : goal.run_workers-seat-requires-clause-shares
-run_workers-seat-requires-clause-shares g c κs within =
+pub run_workers_owned-seat-requires-clause-shares : goal.run_workers_owned-seat-requires-clause-shares
+run_workers_owned-seat-requires-clause-shares g c κs within =
     let many = as_many c.in_ok-sessions.sessions.items c.args.lists.now c.in_ok-sessions.ensures in
     let all : (view c.in_ok-table.seat.seat).shares ≡ SHARES = λ i. (c.in_ok-table.ensures.seat_is i).shares in
     let few = c.requires.lists.1 in
@@ -26,7 +26,7 @@ tables_left-requires g c =
     served_so c.args.tables.now c.args.stripes (jobs_of c.args.lists.now) _ c.in_ok-table.table c.args.tries c.in_ok-table.seat _ _
     c.in_ok-report.report
     c.in_ok-state.state c.requires.balanced c.requires.allowed c.in_ok-sessions.ensures c.in_ok-table.ensures
-    c.run_workers-seat.ensures.ready c.run_workers-seat.ensures.report c.run_workers-seat.ensures.gains c.in_ok-report.was
+    c.run_workers_owned-seat.ensures.ready c.run_workers_owned-seat.ensures.report c.run_workers_owned-seat.ensures.gains c.in_ok-report.was
     c.in_ok-state.ensures in
     holds_some c.args.tables.now _ c.in_ok-state.state x.2
 
@@ -36,7 +36,7 @@ returns g c =
     served_so c.args.tables.now c.args.stripes (jobs_of c.args.lists.now) _ c.in_ok-table.table c.args.tries c.in_ok-table.seat _ _
     c.in_ok-report.report
     c.in_ok-state.state c.requires.balanced c.requires.allowed c.in_ok-sessions.ensures c.in_ok-table.ensures
-    c.run_workers-seat.ensures.ready c.run_workers-seat.ensures.report c.run_workers-seat.ensures.gains c.in_ok-report.was
+    c.run_workers_owned-seat.ensures.ready c.run_workers_owned-seat.ensures.report c.run_workers_owned-seat.ensures.gains c.in_ok-report.was
     c.in_ok-state.ensures in
     record {
       outcomes = x.0;

@@ -2,7 +2,7 @@ use Rattle.std.proofs.Common.{arith}
 use Rattle.workers.proofs.ReportLemmas.{flat_gained, is_report, lists_fit, missed_fit}
 use Rattle.workers.proofs.TaskLemmas.{keeps_gains}
 use Rattle.workers.specs.Trees.{gained}
-use Rattle.workers.proofs.run.run_workers.Goals as goal
+use Rattle.workers.proofs.run.run_workers_owned.Goals as goal
 
 pub filled-requires-clause-receipts : goal.filled-requires-clause-receipts
 filled-requires-clause-receipts g c =
