@@ -11,8 +11,7 @@ use Rattle.seq_model.specs.Entries.{IsRising}
 use Rattle.seq_model.proofs.EntryLemmas.{below_at, both_true, find_below, fresh_rising, or_else}
 use Rattle.conflict.specs.Multisets.{get_with, one_fewer, some_copies}
 use Rattle.conflict.specs.Places.{same_key, key_itself}
-use Rattle.base_pq.specs.Joined.{lesser}
-use Rattle.base_pq.specs.Laid.{first_kept, laid}
+use Rattle.base_pq.specs.Laid.{first_kept, laid, lesser}
 use Rattle.base_pq.proofs.LeastLemmas.{IsLeastOf, least_is, least_of_both, least_unique}
 
 -- what is laid over it, or else what is there

@@ -1,81 +1,84 @@
 -- Room for changes, stripe by stripe.
 --
--- The changes are gone through twice. First what was asked of each stripe that they fall on is set to 0: so far, either as many of the
--- changes that are left fall on a stripe as of all, or nothing is asked of it. Then each asks one place more of its stripe, and finds it
--- there: what was asked of a stripe, with what is left to ask, is what all changes ask, and there is room for what was asked.
-use Rattle.std.proofs.Common.{◌≡◌, ◌≢◌, ◌⊎◌, ℕ, zero, suc, ◌+◌, ◌<◌, ◌≤◌, true, false, cond, nat_eq, List, [], ◌∷◌, length, get_or, set}
-use Rattle.std.proofs.Common.{drop}
-use Rattle.std.proofs.Common.{OnOk, Result, Ok, Err, Option, Some, None, inl, inr, refl, sym, ap, subst, ◌∙◌, arith}
-use Rattle.std.proofs.Math.ListN.{drop_of_length-le}
+-- The changes are gone through twice. First each takes a place of its stripe: so far, what is free in a stripe and what has been taken
+-- there are together no less than what was free, and all that is free and all that has been taken fit into the list. So where there was
+-- room for all changes, a place is free for the next one. Then each gives its place back, and as many are free in a stripe as were left
+-- there and have been given back: as many as changes fall on it, at least.
+use Rattle.std.proofs.Common.{◌≡◌, ◌≢◌, ℕ, zero, suc, ◌+◌, ◌-◌, ◌<◌, ◌≤◌, true, false, cond, nat_eq, List, [], ◌∷◌, length, get_or, set, sum, sum_by}
+use Rattle.std.proofs.Common.{drop, take, is_err, IsOk, OnOk, Result, Ok, Err, Option, Some, None, refl, sym, ap, subst, ◌∙◌, arith}
 use Rattle.std.proofs.lemmas.Bool.Decides.{nat_tests}
-use Rattle.std.proofs.lemmas.List.{drop_more, get_or-set_same, get_or-set_other, map-set}
+use Rattle.std.proofs.lemmas.List.{get_or-set_same, get_or-set_other}
+use Rattle.std.proofs.lemmas.List.Sums.{get_or-le-sum_by, sum_by-cons, sum_by-drop_more, sum_by-set, sum_by-take-le, sum_by_more}
 use Rattle.conflict.specs.declared.change.Change.{Change}
 use Rattle.conflict.specs.declared.change.Change.TheVariants as change
 use Rattle.conflict.specs.Places.{mod_below, none_some, some_same}
-use Rattle.base_pq.specs.StripeView.{StripeView}
-use Rattle.base_pq.specs.Joined.{rooms}
-use Rattle.base_pq.specs.Room.{HasRoom, IsFresh, IsNoLess, LeavesRoom, falling, room_taken, stripe_of}
+use Rattle.base_pq.specs.Room.{HasRoom, IsNoLess, LeavesRoom, fallen, falling, room_taken, some_room, stripe_of}
 
-pub on_ok : {E P Q : Type 0} (r : Result (Unit {0}) E) → (P → Q) → OnOk r P → OnOk r Q
-on_ok (Ok x) f h = f h
-on_ok (Err e) f h = h
+pub ok_of : {T E P : Type 0} (r : Result T E) → is_err r ≡ false → OnOk r P → P
+ok_of (Ok x) fine h = h
+ok_of (Err e) fine h = cc
 
--- ---- the room of a stripe
-pub room_is : (ss : List StripeView) (i : ℕ) (d : StripeView) → i < length ss → get_or (rooms ss) i 0 ≡ (get_or ss i d).room
-room_is [] i d lt = absurd (omega (arith, lt))
-room_is (s ∷ ss) zero d lt = refl
-room_is (s ∷ ss) (suc i) d lt = room_is ss i d (omega (arith, lt))
+pub not_ok : {T E : Type 0} (r : Result T E) → is_err r ≡ true → IsOk r → ⊥
+not_ok (Ok x) failed h = cc
+not_ok (Err e) failed h = cc
 
-rooms_set : (ss : List StripeView) (i : ℕ) (s : StripeView) → rooms (set ss i s) ≡ set (rooms ss) i s.room
-rooms_set ss i s = map-set (λ s. s.room) ss i s
-
-long_rooms : (ss : List StripeView) → length (rooms ss) ≡ length ss
-long_rooms [] = refl
-long_rooms (s ∷ ss) = ap suc (long_rooms ss)
-
-pub room_set : (ss : List StripeView) (i : ℕ) (s : StripeView) → i < length ss → get_or (rooms (set ss i s)) i 0 ≡ s.room
-room_set ss i s lt =
-    ap (λ rs. get_or rs i 0) (rooms_set ss i s)
-    ∙ get_or-set_same (rooms ss) i s.room 0 (subst (λ n. i < n) (sym (long_rooms ss)) lt)
-
-pub room_else : (ss : List StripeView) (i j : ℕ) (s : StripeView) → j ≢ i → get_or (rooms (set ss i s)) j 0 ≡ get_or (rooms ss) j 0
-room_else ss i j s ne = ap (λ rs. get_or rs j 0) (rooms_set ss i s) ∙ get_or-set_other (rooms ss) i j s.room 0 ne
-
--- a stripe has no less room than before
-pub no_less : (ss : List StripeView) (i : ℕ) (d s : StripeView) → i < length ss → (get_or ss i d).room ≤ s.room
-    → IsNoLess (rooms ss) (rooms (set ss i s))
-no_less ss i d s lt le j =
-    elim (nat_eq j i) as (λ b. nat_eq j i ≡ b → get_or (rooms ss) j 0 ≤ get_or (rooms (set ss i s)) j 0) [
-      | true ↦ λ t.
-          let is : j ≡ i = grind (arith, nat_tests) in
-          let before = ap (λ k. get_or (rooms ss) k 0) is ∙ room_is ss i d lt in
-          let after = ap (λ k. get_or (rooms (set ss i s)) k 0) is ∙ room_set ss i s lt in
-          omega (arith, before, after, le)
-      | false ↦ λ t. let ne : j ≢ i = grind (arith, nat_tests) in let same = room_else ss i j s ne in omega (arith, same)
-    ] refl
-
--- it has one place fewer at most
-pub one_less : (ss : List StripeView) (i : ℕ) (d s : StripeView) → i < length ss → (get_or ss i d).room ≤ s.room + 1 → (j : ℕ)
-    → get_or (rooms ss) j 0 ≤ get_or (rooms (set ss i s)) j 0 + room_taken j (Some i)
-one_less ss i d s lt le j =
-    elim (nat_eq i j) as (λ b. nat_eq i j ≡ b → get_or (rooms ss) j 0 ≤ get_or (rooms (set ss i s)) j 0 + cond b 1 0) [
-      | true ↦ λ t.
-          let is : j ≡ i = grind (arith, nat_tests) in
-          let before = ap (λ k. get_or (rooms ss) k 0) is ∙ room_is ss i d lt in
-          let after = ap (λ k. get_or (rooms (set ss i s)) k 0) is ∙ room_set ss i s lt in
-          omega (arith, before, after, le)
-      | false ↦ λ t. let ne : j ≢ i = grind (arith, nat_tests) in let same = room_else ss i j s ne in omega (arith, same)
-    ] refl
-
-pub no_less_trans : (xs ys zs : List ℕ) → IsNoLess xs ys → IsNoLess ys zs → IsNoLess xs zs
-no_less_trans xs ys zs h k i = let a = h i in let b = k i in omega (arith, a, b)
-
--- ---- the room that an element takes
+-- ---- the places of one stripe
 pub place_here : (i j : ℕ) → i ≡ j → room_taken i (Some j) ≡ 1
 place_here i j is = let t : nat_eq j i ≡ true = grind (arith, nat_tests) in ap (λ b. cond b 1 0) t
 
 pub place_else : (i j : ℕ) → i ≢ j → room_taken i (Some j) ≡ 0
 place_else i j ne = let t : nat_eq j i ≡ false = grind (arith, nat_tests) in ap (λ b. cond b 1 0) t
+
+-- a stripe has one place fewer
+pub one_less : (xs : List ℕ) (at i : ℕ) → at < length xs → 0 < get_or xs at 0
+    → get_or xs i 0 ≤ get_or (set xs at (get_or xs at 0 - 1)) i 0 + room_taken i (Some at)
+one_less xs at i inside some =
+    elim (nat_eq i at) as (λ b. nat_eq i at ≡ b → get_or xs i 0 ≤ get_or (set xs at (get_or xs at 0 - 1)) i 0 + room_taken i (Some at)) [
+      | true ↦ λ t.
+          let is : i ≡ at = grind (arith, nat_tests) in
+          let was = ap (λ k. get_or xs k 0) is in
+          let now = ap (λ k. get_or (set xs at (get_or xs at 0 - 1)) k 0) is ∙ get_or-set_same xs at (get_or xs at 0 - 1) 0 inside in
+          let one = place_here i at is in
+          omega (arith, was, now, one, some)
+      | false ↦ λ t.
+          let ne : i ≢ at = grind (arith, nat_tests) in
+          let same = get_or-set_other xs at i (get_or xs at 0 - 1) 0 ne in
+          omega (arith, same)
+    ] refl
+
+-- a stripe has one place more
+one_more : (xs : List ℕ) (at i : ℕ) → at < length xs
+    → get_or (set xs at (get_or xs at 0 + 1)) i 0 ≡ get_or xs i 0 + room_taken i (Some at)
+one_more xs at i inside =
+    elim (nat_eq i at) as (λ b. nat_eq i at ≡ b → get_or (set xs at (get_or xs at 0 + 1)) i 0 ≡ get_or xs i 0 + room_taken i (Some at)) [
+      | true ↦ λ t.
+          let is : i ≡ at = grind (arith, nat_tests) in
+          let was = ap (λ k. get_or xs k 0) is in
+          let now = ap (λ k. get_or (set xs at (get_or xs at 0 + 1)) k 0) is ∙ get_or-set_same xs at (get_or xs at 0 + 1) 0 inside in
+          let one = place_here i at is in
+          omega (arith, was, now, one)
+      | false ↦ λ t.
+          let ne : i ≢ at = grind (arith, nat_tests) in
+          let same = get_or-set_other xs at i (get_or xs at 0 + 1) 0 ne in
+          let none = place_else i at ne in
+          omega (arith, same, none)
+    ] refl
+
+-- ---- the places of all stripes
+pub free_inside : (xs : List ℕ) (i : ℕ) → 0 < get_or xs i 0 → i < length xs
+free_inside [] i some = absurd (omega (arith, some))
+free_inside (x ∷ xs) zero some = omega arith
+free_inside (x ∷ xs) (suc i) some = let rest = free_inside xs i some in omega (arith, rest)
+
+pub free_in_all : (xs : List ℕ) (i : ℕ) → i < length xs → get_or xs i 0 ≤ sum xs
+free_in_all xs i inside = get_or-le-sum_by (λ x. x) xs i 0 inside
+
+pub sum_less : (xs : List ℕ) (at : ℕ) → at < length xs → 0 < get_or xs at 0 → sum (set xs at (get_or xs at 0 - 1)) + 1 ≡ sum xs
+sum_less xs at inside some =
+    let all = sum_by-set (λ x. x) xs at (get_or xs at 0 - 1) 0 inside in omega (arith, all, some)
+
+sum_more : (xs : List ℕ) (at : ℕ) → at < length xs → sum (set xs at (get_or xs at 0 + 1)) ≡ sum xs + 1
+sum_more xs at inside = let all = sum_by-set (λ x. x) xs at (get_or xs at 0 + 1) 0 inside in omega (arith, all)
 
 module _ {V : Type 0} where
   -- ---- changes
@@ -83,14 +86,6 @@ module _ {V : Type 0} where
   stripe_inside n j (change.Add x) pos e = subst (λ i. i < n) (some_same _ _ e) (mod_below x n pos)
   stripe_inside n j (change.Take x) pos e = subst (λ i. i < n) (some_same _ _ e) (mod_below x n pos)
   stripe_inside n j c pos e = absurd (none_some j e)
-
-  pub few_fall : (n i : ℕ) (cs : List (Change V)) → falling n i cs ≤ length cs
-  few_fall n i [] = omega arith
-  few_fall n i (c ∷ cs) = let one = at_most_one (stripe_of n c) in let rest = few_fall n i cs in omega (arith, one, rest)
-    where
-      at_most_one : (o : Option ℕ) → room_taken i o ≤ 1
-      at_most_one None = omega arith
-      at_most_one (Some j) = elim (nat_eq j i) as (λ b. cond b 1 0 ≤ 1) [ true ↦ omega arith | false ↦ omega arith ]
 
   pub room_of_one : (n j : ℕ) (room : List ℕ) (c : Change V) → HasRoom n room (c ∷ []) → stripe_of n c ≡ Some j → j < n
       → 0 < get_or room j 0
@@ -107,128 +102,109 @@ module _ {V : Type 0} where
       → ((i : ℕ) → get_or before i 0 ≤ get_or now i 0 + room_taken i (stripe_of n c)) → LeavesRoom n (c ∷ []) before now
   room_left n before now c took more h i lt = let a = h i lt in let b = took i in omega (arith, a, b)
 
-  -- ---- what is asked, counted anew
-  abbrev pub IsFreshSoFar : ℕ → List ℕ → (left all : List (Change V)) → Type 0
-  IsFreshSoFar n asked left all = (i : ℕ) → i < n → (falling n i left ≡ falling n i all) ⊎ (get_or asked i 0 ≡ 0)
+  -- ---- changes one after another
+  falling_sum : (n i : ℕ) (cs : List (Change V)) → falling n i cs ≡ sum_by (λ c. room_taken i (stripe_of n c)) cs
+  falling_sum n i [] = refl
+  falling_sum n i (c ∷ cs) =
+      ap (λ k. room_taken i (stripe_of n c) + k) (falling_sum n i cs) ∙ sym (sum_by-cons (λ c. room_taken i (stripe_of n c)) c cs)
 
-  pub fresh_at_end : (n k : ℕ) (asked : List ℕ) (all : List (Change V)) → length all ≤ k → IsFreshSoFar n asked (drop k all) all
-      → IsFresh n asked all
-  fresh_at_end n k asked all long h i lt = elim (h i lt) [
-    | inl e ↦ inl (sym e ∙ ap (falling n i) (drop_of_length-le all long))
-    | inr e ↦ inr e
-  ]
+  falls_more : (n i k : ℕ) (cs : List (Change V)) (c : Change V) (o : Option ℕ) → k < length cs → get_or cs k c ≡ c → stripe_of n c ≡ o
+      → falling n i (take (k + 1) cs) ≡ falling n i (take k cs) + room_taken i o
+  falls_more n i k cs c o low at some =
+      falling_sum n i (take (k + 1) cs) ∙ sum_by_more (λ c. room_taken i (stripe_of n c)) cs k c low
+      ∙ (λ j. sym (falling_sum n i (take k cs)) j + room_taken i ((ap (stripe_of n) at ∙ some) j))
 
-  -- what is left after a change that falls on stripe j
-  pub falls_one : (n k i j : ℕ) (all : List (Change V)) (c : Change V) → k < length all → get_or all k c ≡ c → stripe_of n c ≡ Some j
-      → falling n i (drop k all) ≡ room_taken i (Some j) + falling n i (drop (k + 1) all)
-  falls_one n k i j all c low at some =
-      ap (falling n i) (drop_more all k c low) ∙ ap (λ d. falling n i (d ∷ drop (k + 1) all)) at
-      ∙ ap (λ o. room_taken i o + falling n i (drop (k + 1) all)) some
+  pub falls_within : (n i k : ℕ) (cs : List (Change V)) → falling n i (take k cs) ≤ falling n i cs
+  falls_within n i k cs =
+      let part = falling_sum n i (take k cs) in
+      let all = falling_sum n i cs in
+      let within = sum_by-take-le (λ c. room_taken i (stripe_of n c)) cs k in
+      omega (arith, part, all, within)
 
-  pub falls_none : (n k i : ℕ) (all : List (Change V)) (c : Change V) → k < length all → get_or all k c ≡ c → stripe_of n c ≡ None
-      → falling n i (drop k all) ≡ falling n i (drop (k + 1) all)
-  falls_none n k i all c low at none =
-      let z = ap (falling n i) (drop_more all k c low) ∙ ap (λ d. falling n i (d ∷ drop (k + 1) all)) at
-      ∙ ap (λ o. room_taken i o + falling n i (drop (k + 1) all)) none in
-      omega (arith, z)
+  fallen_more : (n k : ℕ) (cs : List (Change V)) (c : Change V) (o : Option ℕ) → k < length cs → get_or cs k c ≡ c → stripe_of n c ≡ o
+      → fallen n (take (k + 1) cs) ≡ fallen n (take k cs) + some_room o
+  fallen_more n k cs c o low at some =
+      sum_by_more (λ c. some_room (stripe_of n c)) cs k c low
+      ∙ ap (λ p. fallen n (take k cs) + some_room p) (ap (stripe_of n) at ∙ some)
 
-  pub fresh_none : (n k : ℕ) (asked : List ℕ) (all : List (Change V)) (c : Change V) → k < length all → get_or all k c ≡ c
-      → stripe_of n c ≡ None → IsFreshSoFar n asked (drop k all) all → IsFreshSoFar n asked (drop (k + 1) all) all
-  fresh_none n k asked all c low at none h i lt = elim (h i lt) [
-    | inl e ↦ inl (sym (falls_none n k i all c low at none) ∙ e)
-    | inr e ↦ inr e
-  ]
+  fallen_left : (n k : ℕ) (cs : List (Change V)) (c : Change V) (o : Option ℕ) → k < length cs → get_or cs k c ≡ c → stripe_of n c ≡ o
+      → fallen n (drop k cs) ≡ some_room o + fallen n (drop (k + 1) cs)
+  fallen_left n k cs c o low at some =
+      sum_by-drop_more (λ c. some_room (stripe_of n c)) cs k c low
+      ∙ ap (λ p. some_room p + fallen n (drop (k + 1) cs)) (ap (stripe_of n) at ∙ some)
 
-  pub fresh_some : (n k j : ℕ) (asked : List ℕ) (all : List (Change V)) (c : Change V) → k < length all → get_or all k c ≡ c
-      → stripe_of n c ≡ Some j → j < length asked → IsFreshSoFar n asked (drop k all) all
-      → IsFreshSoFar n (set asked j 0) (drop (k + 1) all) all
-  fresh_some n k j asked all c low at some inside h i lt =
-      elim (nat_eq i j) as (λ b. nat_eq i j ≡ b
-      → (falling n i (drop (k + 1) all) ≡ falling n i all) ⊎ (get_or (set asked j 0) i 0 ≡ 0)) [
-        | true ↦ λ t.
-            let is : i ≡ j = grind (arith, nat_tests) in
-            inr (ap (λ m. get_or (set asked j 0) m 0) is ∙ get_or-set_same asked j 0 0 inside)
-        | false ↦ λ t.
-            let ne : i ≢ j = grind (arith, nat_tests) in
-            elim (h i lt) [
-              | inl e ↦ inl (let z = falls_one n k i j all c low at some in let p = place_else i j ne in omega (arith, z, p, e))
-              | inr e ↦ inr (get_or-set_other asked j i 0 0 ne ∙ e)
-            ]
-      ] refl
+  -- ---- places taken by the first k changes
+  pub record IsTaken (n k : ℕ) (all : List (Change V)) (before free : List ℕ) (held : ℕ) : Type 0 where
+    pub fits : sum free + fallen n (take k all) ≤ held
+    pub kept : (i : ℕ) → get_or before i 0 ≤ get_or free i 0 + falling n i (take k all)
 
-  -- ---- places asked, one after another
-  pub record IsAsked (n : ℕ) (left all : List (Change V)) (room asked : List ℕ) : Type 0 where
-    pub fewer : (i : ℕ) → i < n → falling n i left ≤ falling n i all
-    pub there : (i : ℕ) → i < n → (falling n i all ≡ 0)
-        ⊎ ((get_or asked i 0 + falling n i left ≡ falling n i all) × (get_or asked i 0 ≤ get_or room i 0))
+  pub taken_first : (n : ℕ) (all : List (Change V)) (free : List ℕ) (held : ℕ) → sum free ≤ held → IsTaken n 0 all free free held
+  taken_first n all free held fits = record { fits = omega (arith, fits); kept = λ i. omega arith }
 
-  pub asked_first : (n : ℕ) (all : List (Change V)) (room asked : List ℕ) → IsFresh n asked all → IsAsked n all all room asked
-  asked_first n all room asked fresh = record {
-    fewer = λ i lt. omega arith;
-    there = λ i lt. elim (fresh i lt) [
-      | inl e ↦ inl e
-      | inr e ↦ inr (omega (arith, e), omega (arith, e))
-    ];
+  pub taken_none : (n k : ℕ) (all : List (Change V)) (before free : List ℕ) (held : ℕ) (c : Change V) → k < length all → get_or all k c ≡ c
+      → stripe_of n c ≡ None → IsTaken n k all before free held → IsTaken n (k + 1) all before free held
+  taken_none n k all before free held c low at none h = record {
+    fits = (let more = fallen_more n k all c None low at none in let was = h.fits in omega (arith, more, was));
+    kept = λ i. (let more = falls_more n i k all c None low at none in let was = h.kept i in omega (arith, more, was));
   }
 
-  pub asked_all : (n k : ℕ) (all : List (Change V)) (room asked : List ℕ) → length all ≤ k → IsAsked n (drop k all) all room asked
-      → HasRoom n room all
-  asked_all n k all room asked long h i lt =
-      let none = ap (falling n i) (drop_of_length-le all long) in
-      elim (h.there i lt) [ inl e ↦ omega (arith, e) | inr e ↦ (let a = e.0 in let b = e.1 in omega (arith, none, a, b)) ]
-
-  pub asked_none : (n k : ℕ) (all : List (Change V)) (room asked : List ℕ) (c : Change V) → k < length all → get_or all k c ≡ c
-      → stripe_of n c ≡ None → IsAsked n (drop k all) all room asked → IsAsked n (drop (k + 1) all) all room asked
-  asked_none n k all room asked c low at none h = record {
-    fewer = λ i lt. (let z = falls_none n k i all c low at none in let a = h.fewer i lt in omega (arith, z, a));
-    there = λ i lt. elim (h.there i lt) [
-      | inl e ↦ inl e
-      | inr e ↦ inr ((let z = falls_none n k i all c low at none in let a = e.0 in omega (arith, z, a)), e.1)
-    ];
+  pub taken_some : (n k j : ℕ) (all : List (Change V)) (before free now : List ℕ) (held then : ℕ) (c : Change V) → k < length all
+      → get_or all k c ≡ c → stripe_of n c ≡ Some j → sum now + held + 1 ≤ sum free + then
+      → ((i : ℕ) → get_or free i 0 ≤ get_or now i 0 + room_taken i (Some j)) → IsTaken n k all before free held
+      → IsTaken n (k + 1) all before now then
+  taken_some n k j all before free now held then c low at some one left h = record {
+    fits = (let more = fallen_more n k all c (Some j) low at some in let was = h.fits in omega (arith, more, was, one));
+    kept = λ i. (let more = falls_more n i k all c (Some j) low at some in let was = h.kept i in let here = left i in omega (arith, more, was, here));
   }
 
-  -- of the stripe of the next change no more was asked than all changes ask of it, with this one
-  pub asked_next : (n k j : ℕ) (all : List (Change V)) (room asked : List ℕ) (c : Change V) → k < length all → get_or all k c ≡ c
-      → stripe_of n c ≡ Some j → j < n → IsAsked n (drop k all) all room asked → get_or asked j 0 + 1 ≤ falling n j all
-  asked_next n k j all room asked c low at some inside h =
-      let z = falls_one n k j j all c low at some in
+  -- where there was room for all changes, there is a place for the next one
+  pub taken_next : (n k j : ℕ) (all : List (Change V)) (before free : List ℕ) (held : ℕ) (c : Change V) → k < length all → get_or all k c ≡ c
+      → stripe_of n c ≡ Some j → j < n → HasRoom n before all → IsTaken n k all before free held → 0 < get_or free j 0
+  taken_next n k j all before free held c low at some inside enough h =
+      let more = falls_more n j k all c (Some j) low at some in
       let one = place_here j j refl in
-      let few = h.fewer j inside in
-      elim (h.there j inside) [ inl e ↦ absurd (omega (arith, z, one, few, e)) | inr e ↦ (let a = e.0 in omega (arith, z, one, a)) ]
+      let within = falls_within n j (k + 1) all in
+      let room = enough j inside in
+      let was = h.kept j in
+      omega (arith, more, one, within, room, was)
 
-  pub asked_some : (n k j : ℕ) (all : List (Change V)) (room now asked : List ℕ) (c : Change V) → k < length all → get_or all k c ≡ c
-      → stripe_of n c ≡ Some j → j < n → length asked ≡ n → IsNoLess room now → get_or asked j 0 + 1 ≤ get_or now j 0
-      → IsAsked n (drop k all) all room asked → IsAsked n (drop (k + 1) all) all now (set asked j (get_or asked j 0 + 1))
-  asked_some n k j all room now asked c low at some inside long more enough h = record {
-    fewer = λ i lt. (let z = falls_one n k i j all c low at some in let a = h.fewer i lt in omega (arith, z, a));
-    there = λ i lt. elim (h.there i lt) [
-      | inl e ↦ inl e
-      | inr e ↦ inr (by i e)
-    ];
+  -- ---- places given back by the first k changes
+  pub record IsGiven (n k : ℕ) (all : List (Change V)) (before free : List ℕ) (held : ℕ) : Type 0 where
+    pub fits : sum free + fallen n (drop k all) ≤ held
+    pub given : (i : ℕ) → get_or free i 0 ≡ get_or before i 0 + falling n i (take k all)
+
+  pub given_first : (n : ℕ) (all : List (Change V)) (free : List ℕ) (held : ℕ) → sum free + fallen n all ≤ held
+      → IsGiven n 0 all free free held
+  given_first n all free held fits = record { fits = fits; given = λ i. omega arith }
+
+  pub given_none : (n k : ℕ) (all : List (Change V)) (before free : List ℕ) (held : ℕ) (c : Change V) → k < length all → get_or all k c ≡ c
+      → stripe_of n c ≡ None → IsGiven n k all before free held → IsGiven n (k + 1) all before free held
+  given_none n k all before free held c low at none h = record {
+    fits = (let less = fallen_left n k all c None low at none in let was = h.fits in omega (arith, less, was));
+    given = λ i. (let more = falls_more n i k all c None low at none in let was = h.given i in omega (arith, more, was));
   }
-    where
-      by : (i : ℕ) → (get_or asked i 0 + falling n i (drop k all) ≡ falling n i all) × (get_or asked i 0 ≤ get_or room i 0)
-          → (get_or (set asked j (get_or asked j 0 + 1)) i 0 + falling n i (drop (k + 1) all) ≡ falling n i all)
-          × (get_or (set asked j (get_or asked j 0 + 1)) i 0 ≤ get_or now i 0)
-      by i e =
-          let z = falls_one n k i j all c low at some in
-          let sum = e.0 in
-          let fits = e.1 in
-          elim (nat_eq i j) as (λ b. nat_eq i j ≡ b
-          → (get_or (set asked j (get_or asked j 0 + 1)) i 0 + falling n i (drop (k + 1) all) ≡ falling n i all)
-          × (get_or (set asked j (get_or asked j 0 + 1)) i 0 ≤ get_or now i 0)) [
-            | true ↦ λ t.
-                let is : i ≡ j = grind (arith, nat_tests) in
-                let one = place_here i j is in
-                let made = ap (λ m. get_or (set asked j (get_or asked j 0 + 1)) m 0) is
-                ∙ get_or-set_same asked j (get_or asked j 0 + 1) 0 (subst (λ m. j < m) (sym long) inside) in
-                let was = ap (λ m. get_or asked m 0) is in
-                let room_here = ap (λ m. get_or now m 0) is in
-                (omega (arith, z, sum, one, made, was), omega (arith, made, room_here, enough))
-            | false ↦ λ t.
-                let ne : i ≢ j = grind (arith, nat_tests) in
-                let none = place_else i j ne in
-                let kept = get_or-set_other asked j i (get_or asked j 0 + 1) 0 ne in
-                let grown = more i in
-                (omega (arith, z, sum, none, kept), omega (arith, kept, fits, grown))
-          ] refl
+
+  pub given_some : (n k j : ℕ) (all : List (Change V)) (before free : List ℕ) (held : ℕ) (c : Change V) → k < length all → get_or all k c ≡ c
+      → stripe_of n c ≡ Some j → j < length free → IsGiven n k all before free held
+      → IsGiven n (k + 1) all before (set free j (get_or free j 0 + 1)) held
+  given_some n k j all before free held c low at some inside h = record {
+    fits =
+        (let less = fallen_left n k all c (Some j) low at some in
+        let was = h.fits in
+        let one = sum_more free j inside in
+        omega (arith, less, was, one));
+    given = λ i.
+        (let more = falls_more n i k all c (Some j) low at some in
+        let was = h.given i in
+        let one = one_more free j i inside in
+        omega (arith, more, was, one));
+  }
+
+  -- a stripe to which a place is given back has fewer than are held
+  pub given_next : (n k j : ℕ) (all : List (Change V)) (before free : List ℕ) (held : ℕ) (c : Change V) → k < length all → get_or all k c ≡ c
+      → stripe_of n c ≡ Some j → j < length free → IsGiven n k all before free held → get_or free j 0 < held
+  given_next n k j all before free held c low at some inside h =
+      let less = fallen_left n k all c (Some j) low at some in
+      let was = h.fits in
+      let few = free_in_all free j inside in
+      omega (arith, less, was, few)

@@ -1,6 +1,5 @@
 -- Numbers of copies that are laid over a multiset.
-use Rattle.std.specs.Prelude.{ℕ, List, [], ◌∷◌, Option, Some, None, fold, ◌==◌, if◌then◌else◌}
-use Rattle.std.specs.Prelude.{◌+◌}
+use Rattle.std.specs.Prelude.{ℕ, ◌+◌, List, [], ◌∷◌, Option, Some, None, fold, nat_lt, ◌==◌, if◌then◌else◌}
 use Rattle.std.specs.Arc.{arc_value}
 use Rattle.std.proofs.Common.{Vec}
 use Rattle.std.specs.declared.sync.Arc.{Arc}
@@ -24,3 +23,9 @@ first_kept f (e ∷ es) = if f e.0 == 0 then first_kept f es else Some e.0
 -- how many entries stand up to the place of the key, with the one that has it
 abbrev pub through : {V : Type 0} → ℕ → List (ℕ × V) → ℕ
 through k es = rank k es + (if has_key k es then 1 else 0)
+
+-- the lesser of two, where there are two
+abbrev pub lesser : Option ℕ → Option ℕ → Option ℕ
+lesser None b = b
+lesser (Some x) None = Some x
+lesser (Some x) (Some y) = if nat_lt y x then Some y else Some x

@@ -1,5 +1,5 @@
 -- For which changes the stripes of a priority queue have room: each for as many as fall on it.
-use Rattle.std.specs.Prelude.{◌≡◌, ◌⊎◌, ℕ, ◌+◌, ◌<◌, ◌≤◌, ◌%◌, List, [], ◌∷◌, ◌++◌, Option, Some, None, nat_eq, if◌then◌else◌}
+use Rattle.std.specs.Prelude.{ℕ, ◌+◌, ◌<◌, ◌≤◌, ◌%◌, List, [], ◌∷◌, ◌++◌, sum_by, Option, Some, None, nat_eq, if◌then◌else◌}
 use Rattle.std.specs.Prelude.{slice_index_or}
 use Rattle.conflict.specs.declared.change.Change.{Change}
 use Rattle.conflict.specs.declared.change.Change.TheVariants as change
@@ -8,6 +8,11 @@ use Rattle.conflict.specs.declared.change.Change.TheVariants as change
 abbrev pub room_taken : ℕ → Option ℕ → ℕ
 room_taken i None = 0
 room_taken i (Some j) = if nat_eq j i then 1 else 0
+
+-- how much room it takes in all
+abbrev pub some_room : Option ℕ → ℕ
+some_room None = 0
+some_room (Some j) = 1
 
 -- with no less room in any stripe
 abbrev pub IsNoLess : List ℕ → List ℕ → Type 0
@@ -25,13 +30,13 @@ module _ {V : Type 0} where
   falling n i [] = 0
   falling n i (c ∷ cs) = room_taken i (stripe_of n c) + falling n i cs
 
+  -- how many of them fall on any stripe
+  abbrev pub fallen : ℕ → List (Change V) → ℕ
+  fallen n cs = sum_by (λ c. some_room (stripe_of n c)) cs
+
   -- n stripes with so much room each have room for all of these changes
   abbrev pub HasRoom : ℕ → List ℕ → List (Change V) → Type 0
   HasRoom n room cs = (i : ℕ) → i < n → falling n i cs ≤ slice_index_or room i 0
-
-  -- nothing was asked yet of a stripe that these changes fall on
-  abbrev pub IsFresh : ℕ → List ℕ → List (Change V) → Type 0
-  IsFresh n asked cs = (i : ℕ) → i < n → (falling n i cs ≡ 0) ⊎ (slice_index_or asked i 0 ≡ 0)
 
   -- where there was room for these changes and others, there is room for the others afterwards
   abbrev pub LeavesRoom : ℕ → List (Change V) → List ℕ → List ℕ → Type 0

@@ -1,5 +1,5 @@
 //! Numbers of copies by element, in order, with room for more.
-ghost use Rattle.std.specs.Prelude.{◌≡◌, ◌+◌, ◌<◌, ◌≤◌, OnOk, OnErr, IsOk, IfOk, length};
+ghost use Rattle.std.specs.Prelude.{◌≡◌, ◌+◌, ◌^◌, ◌<◌, ◌≤◌, OnOk, OnErr, IsOk, IfOk, length};
 ghost use Rattle.std.specs.FinMap as map;
 ghost use Rattle.seq_model.specs.Entries.{IsPlaceOf, IsRising};
 
@@ -18,11 +18,11 @@ impl Model for Sorted {
     ghost use Rattle.std.specs.Vec.{vec_capacity, vec_len};
     ghost use Rattle.std.specs.FinMap as map;
     ghost use Rattle.seq_model.specs.Entries.{IsRising};
-    ghost use Rattle.base_pq.specs.StripeView.{StripeView, stripe_code};
+    ghost use Rattle.base_pq.specs.ElementsView.{ElementsView, elements_code};
 
-    ghost Value = { StripeView };
+    ghost Value = { ElementsView };
 
-    ghost coded = { stripe_code };
+    ghost coded = { elements_code };
 
     ghost view = { λ a. record {
       elements = map.from_sorted a.items.items;
@@ -68,14 +68,16 @@ impl Sorted {
         *self.items.allocator()
     }
 
-    /// Makes room for this many more elements. Where there is room for them, it takes no memory.
-    pub fn reserve(&mut self, more: usize) -> Result<(), Memory>
+    /// Makes room for one element more than so many, for which there is room. Where there is room for it, it takes no memory.
+    pub fn reserve_after(&mut self, held: usize) -> Result<(), Memory>
+        requires { held ≤ self.old.room }
         ensures elements { self.new.elements ≡ self.old.elements }
-        ensures ok { OnOk result (more ≤ self.new.room) }
+        ensures ok { OnOk result (held < self.new.room) }
         ensures room { self.old.room ≤ self.new.room }
-        ensures served { more ≤ self.old.room → IsOk result }
+        ensures small { held + 1 < 2 ^ 64 }
+        ensures served { held < self.old.room → IsOk result }
     {
-        self.items.reserve(more)?;
+        self.items.reserve(held + 1)?;
         Ok(())
     }
 
