@@ -12,7 +12,7 @@ use Rattle.std.proofs.lemmas.List.Sums.{get_or-le-sum_by, sum_by-cons, sum_by-dr
 use Rattle.conflict.specs.declared.change.Change.{Change}
 use Rattle.conflict.specs.declared.change.Change.TheVariants as change
 use Rattle.conflict.specs.Places.{mod_below, none_some, some_same}
-use Rattle.base_pq.specs.Room.{HasRoom, IsNoLess, LeavesRoom, fallen, falling, room_taken, some_room, stripe_of}
+use Rattle.base_pq.specs.Room.{HasRoom, LeavesRoom, fallen, falling, room_taken, some_room, stripe_of}
 
 pub ok_of : {T E P : Type 0} (r : Result T E) → is_err r ≡ false → OnOk r P → P
 ok_of (Ok x) fine h = h

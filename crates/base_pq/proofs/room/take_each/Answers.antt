@@ -1,4 +1,4 @@
-use Rattle.std.proofs.Common.{◌≡◌, ◌≤◌, ◌∙◌, ◌+◌, ℕ, Some, None, is_err, true, false, ap, length, get_or, sum, sym, subst, arith}
+use Rattle.std.proofs.Common.{◌≡◌, ◌∙◌, ◌+◌, Some, None, is_err, true, false, ap, length, sym, subst, arith}
 use Rattle.base_pq.specs.Room.{stripe_of}
 use Rattle.base_pq.specs.ElementsView.{ElementsView}
 use Rattle.base_pq.specs.declared.room.Places.{Places}

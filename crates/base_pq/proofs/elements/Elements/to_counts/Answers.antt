@@ -1,4 +1,4 @@
-use Rattle.std.proofs.Common.{◌≡◌, ap, sym, subst, ◌∙◌}
+use Rattle.std.proofs.Common.{◌≡◌, sym, subst, ◌∙◌}
 use Rattle.seq_model.specs.Counts.{HasNoZero}
 use Rattle.seq_model.specs.Entries.{inserts}
 use Rattle.seq_model.proofs.EntryLemmas.{inserts_all}
