@@ -1,4 +1,4 @@
--- The load of the clock by which a transaction begins, straight on.
+-- The load of the clock by which a transaction begins, in straight code.
 use Rattle.std.proofs.Common.{◌≡◌, ℕ, ◌≤◌, List, Option, None, Result, refl, sym, ap, ◌∙◌, subst}
 use Rattle.word_machine.specs.Actor as machine
 use Rattle.word_machine.specs.Actor.{begun}

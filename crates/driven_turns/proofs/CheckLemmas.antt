@@ -1,4 +1,4 @@
--- The checks of what a commit has read, straight on.
+-- The checks of what a commit has read, in straight code.
 use Rattle.std.proofs.Common.{◌≡◌, ℕ, ◌+◌, ◌<◌, true, List, Option, Some, None, Result, Ok, length, drop, get_or, refl, sym, ap, ◌∙◌, le-leb, arith}
 use Rattle.std.proofs.lemmas.Bool.{cond-true}
 use Rattle.std.specs.Prelude.{nat_le}

@@ -1,4 +1,4 @@
--- The locks of a commit, taken straight on, and its number.
+-- The locks of a commit and its number, taken in straight code.
 use Rattle.std.proofs.Common.{◌≡◌, ℕ, ◌+◌, ◌*◌, ◌<◌, ◌≤◌, ◌^◌, ◌++◌, true, false, true≢false, List, [], ◌∷◌, Option, None, Result, Ok, Err, length, drop, get_or, refl, sym, ap, ◌∙◌, subst, arith}
 use Rattle.std.specs.VecDeque.{deque_capacity, deque_len}
 use Rattle.std.specs.declared.alloc.Global.{Global}

@@ -1,4 +1,4 @@
--- The locks of a commit, given back straight on.
+-- The locks of a commit, given back in straight code.
 use Rattle.std.proofs.Common.{◌≡◌, ℕ, ◌*◌, ◌<◌, true, false, List, Option, Some, None, Result, Ok, length, drop, get_or, refl, sym, ap, ◌∙◌, subst, arith}
 use Rattle.std.specs.VecDeque.{deque_len}
 use Rattle.word_machine.specs.Actor.{after_release, freed}

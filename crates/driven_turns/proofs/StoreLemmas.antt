@@ -1,4 +1,4 @@
--- The value stores of a commit behind its first, straight on.
+-- The value stores of a commit after its first, in straight code.
 use Rattle.std.proofs.Common.{◌≡◌, ℕ, ◌+◌, ◌<◌, true, false, true≢false, List, Option, None, Result, Ok, length, drop, get_or, refl, sym, ap, ◌∙◌, subst, arith}
 use Rattle.std.specs.List.{All}
 use Rattle.tx_sets.specs.Entries.{IsRising, locations}

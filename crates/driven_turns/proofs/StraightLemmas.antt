@@ -1,4 +1,4 @@
--- Steps on the words that are taken straight on.
+-- Steps on the words that are taken in straight code.
 --
 -- What a step on the words makes of an actor is a term, of which the next step asks only that it is due in the own world of the seat: so no
 -- value has to hold it. Each step is one lemma here, by what it found; it leads on from those before it (`led_on`), and the last one, of
@@ -66,7 +66,7 @@ use Rattle.seq_model.specs.declared.record.Record.{Record}
 use Rattle.tx_phases.specs.Courses.{IsUnderWay, IsUnderWayFrom, latest}
 use Rattle.tx_phases.specs.Phases.{Phase, Begins, Calls, Commits, Ends}
 use Rattle.driven_turns.proofs.GivenUpLemmas.{under_ends}
-use Rattle.driven_turns.specs.Driven.{LeadsOn}
+use Rattle.driven_turns.specs.Driven.{Driven, LeadsOn, told_in}
 use Rattle.driven_turns.specs.Straight.{HasLed, at_place}
 
 -- the word actor moves on, and keeps its bounds
@@ -136,6 +136,11 @@ module _ {V : Type 0} where
   pub latest_none : (d : Option (Record V)) → latest d None ≡ d
   latest_none (Some r) = refl
   latest_none None = refl
+
+  -- what was told, as one knows by then whether it was quiet
+  pub told_so : (o : World V) (s u : Seat V) (b c : Bool) (n : Told V) (d : Option (Record V)) → b ≡ c
+      → Driven o s u (told_in b n) d → Driven o s u (told_in c n) d
+  told_so o s u b c n d e = subst (λ (k : Bool). Driven o s u (told_in k n) d) e
 
   -- ---- any steps
   -- turns that lead on from turns

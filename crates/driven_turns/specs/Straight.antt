@@ -1,4 +1,4 @@
--- Steps that are taken straight on, between which the actor is a term and no value.
+-- Steps that are taken in straight code: between them the actor is a term of the proof, which the program stores nowhere.
 use Rattle.replay_log.specs.declared.base.Base.{Base}
 use Rattle.std.specs.Prelude.{ℕ, ◌≤◌, List, Option, Some, None, Bool, true, false}
 use Rattle.vlock_word.specs.declared.lock_word.LockWord.{LockWord}
@@ -30,7 +30,7 @@ abbrev pub is_locking : {V : Type 0} → own.Stage V → Bool
 is_locking (stage.Locking homes) = true
 is_locking s = false
 
--- the values of a commit are stored, behind the first
+-- the values of a commit are stored, after the first
 abbrev pub is_storing : {V : Type 0} → own.Stage V → Bool
 is_storing (stage.Storing homes) = true
 is_storing s = false
@@ -54,9 +54,12 @@ module _ {V : Type 0} where
   abbrev pub LeadsBy : World V → Seat V → Seat V → Told V → (before now : Option (Record V)) → Type 0
   LeadsBy o u z n before now = LeadsFrom o u z told.Quiet n before now
 
-  -- and so whatever record they made, which stays
+  -- and so whatever record they made, which is unchanged
+  abbrev pub LeadsAllFrom : World V → Seat V → Seat V → (m n : Told V) → Type 0
+  LeadsAllFrom o u z m n = (d : Option (Record V)) → LeadsFrom o u z m n d d
+
   abbrev pub LeadsAll : World V → Seat V → Seat V → Told V → Type 0
-  LeadsAll o u z n = (d : Option (Record V)) → LeadsBy o u z n d d
+  LeadsAll o u z n = LeadsAllFrom o u z told.Quiet n
 
   -- or they stop there for want of memory
   abbrev pub WantsBy : World V → Seat V → Seat V → Option (Record V) → Type 0

@@ -1,12 +1,12 @@
-//! The load of the clock by which a transaction begins, straight on.
+//! The load of the clock by which a transaction begins, in straight code.
 ghost use Rattle.std.specs.Prelude.{◌≡◌, ◌≢◌, false, true};
 ghost use Rattle.replay_log.specs.WorldProgress.{AreSmall};
 ghost use Rattle.step_core.specs.declared.actor.Place.TheVariants.{Begin};
 ghost use Rattle.tx_table.specs.Seated.{blocks_in, opening_of};
 ghost use Rattle.tx_turns.specs.Ties.{Ties};
 ghost use Rattle.gate_turns.specs.Own.{HasOwn};
-ghost use Rattle.driven_turns.specs.Driven.{LeadsOn, told_in};
-ghost use Rattle.driven_turns.specs.Straight.{HasLed};
+ghost use Rattle.driven_turns.specs.Driven.{told_in};
+ghost use Rattle.driven_turns.specs.Straight.{HasLed, LeadsAll};
 
 use crate::turns::says;
 use actor_words::laws::steps_as_worlds;
@@ -20,7 +20,7 @@ use tx_table::{Seat, TxTable};
 
 /// Whether a transaction is to begin.
 #[inline(always)]
-pub(crate) fn is_to_begin<V>(actor: &TxActor<V>) -> bool
+fn is_to_begin<V>(actor: &TxActor<V>) -> bool
     ensures stage { result ≡ true → actor.now.stage ≡ Stage.Beginning }
     ensures place { result ≡ true → actor.now.words.place ≡ Begin }
 {
@@ -53,9 +53,9 @@ fn begin_on<V: Value>(
     actor.stepped(told)
 }
 
-/// The step by which a transaction begins: whether it was quiet, which it is not.
+/// The step by which a transaction begins, where one is to begin. It always tells something, so the answer is false then.
 #[inline(always)]
-pub(crate) fn begins_on<V: Value>(
+pub(crate) fn begun_on<V: Value>(
     table: &TxTable<V>,
     seat: &mut Seat<V>,
     actor: &mut TxActor<V>,
@@ -65,12 +65,13 @@ pub(crate) fn begins_on<V: Value>(
     requires ties { Ties table.now seat.old actor.old }
     requires own { HasOwn table.now seat.old actor.old bases.now }
     requires small { AreSmall (blocks_in table.now) }
-    requires stage { actor.old.stage ≡ Stage.Beginning }
-    requires place { actor.old.words.place ≡ Begin }
-    ensures leads { LeadsOn (opening_of table.now) seat.old seat.new (told_in result said.new) }
+    ensures leads { LeadsAll (opening_of table.now) seat.old seat.new (told_in result said.new) }
     ensures answered { result ≡ false → said.new ≢ Told.Quiet }
     ensures ties { Ties table.now seat.new actor.new }
     ensures own { HasOwn table.now seat.new actor.new bases.now }
 {
-    says(begin_on(table, seat, actor, bases), said)
+    if is_to_begin(actor) {
+        return says(begin_on(table, seat, actor, bases), said);
+    }
+    true
 }

@@ -1,4 +1,4 @@
-//! The checks of what a commit has read, straight on.
+//! The checks of what a commit has read, in straight code.
 ghost use Rattle.std.specs.Prelude.{◌≡◌, ◌≢◌, ℕ, ◌+◌, ◌<◌, false, true, IfErr, IfSome, List, OnOk, length};
 ghost use Rattle.vlock_word.specs.LockWord.{unbits};
 ghost use Rattle.tx_sets.specs.Entries.{lookup};
@@ -8,7 +8,7 @@ ghost use Rattle.tx_table.specs.Seated.{blocks_in, opening_of};
 ghost use Rattle.tx_turns.specs.Ties.{Ties};
 ghost use Rattle.gate_turns.specs.Own.{HasOwn};
 ghost use Rattle.driven_turns.specs.Driven.{LeadsOn, told_in};
-ghost use Rattle.driven_turns.specs.Straight.{HasLed, Passes, at_place, is_locking};
+ghost use Rattle.driven_turns.specs.Straight.{HasLed, LeadsAll, Passes, at_place, is_locking};
 
 use crate::turns::says;
 use actor_words::laws::steps_as_worlds;
@@ -23,7 +23,7 @@ use vlock_word::LockWord;
 
 /// Which of the locations that were read is checked next.
 #[inline(always)]
-pub(crate) fn check_to_make<V>(actor: &TxActor<V>) -> Option<usize>
+fn check_to_make<V>(actor: &TxActor<V>) -> Option<usize>
     ensures stage { IfSome result (λ i. is_locking actor.now.stage ≡ true) }
     ensures place { IfSome result (λ i. actor.now.words.place ≡ Check i) }
     ensures inside { IfSome result (λ i. i < length actor.now.words.reads.entries) }
@@ -56,7 +56,7 @@ fn is_passed(words: &Actor, location: u32, found: u64) -> bool
     }
 }
 
-/// The check of a location behind which others are left: the actor is as it was, where it passes.
+/// The check of a location after which others are left: where it passes, the actor is unchanged.
 #[inline(always)]
 fn check_on<V: Value>(
     table: &TxTable<V>,
@@ -114,9 +114,9 @@ fn check_last<V: Value>(
     actor.stepped(told)
 }
 
-/// The checks that are left to make, one after the other: whether all was quiet. Between them the actor is not touched.
+/// The checks that are left, from the one at `first` on. Between them the actor is unchanged.
 #[inline(always)]
-pub(crate) fn checks_on<V: Value>(
+fn checks_on<V: Value>(
     table: &TxTable<V>,
     seat: &mut Seat<V>,
     actor: &mut TxActor<V>,
@@ -145,4 +145,27 @@ pub(crate) fn checks_on<V: Value>(
     }
     let quiet = says(check_last(table, seat, actor, bases, i), said);
     quiet
+}
+
+/// The checks that are left, where there are some.
+#[inline(always)]
+pub(crate) fn checked_on<V: Value>(
+    table: &TxTable<V>,
+    seat: &mut Seat<V>,
+    actor: &mut TxActor<V>,
+    bases: &[Boxed<Base<V>>],
+    said: &mut Told<V>,
+) -> bool
+    requires ties { Ties table.now seat.old actor.old }
+    requires own { HasOwn table.now seat.old actor.old bases.now }
+    requires small { AreSmall (blocks_in table.now) }
+    ensures leads { LeadsAll (opening_of table.now) seat.old seat.new (told_in result said.new) }
+    ensures answered { result ≡ false → said.new ≢ Told.Quiet }
+    ensures ties { Ties table.now seat.new actor.new }
+    ensures own { HasOwn table.now seat.new actor.new bases.now }
+{
+    match check_to_make(actor) {
+        Some(i) => checks_on(table, seat, actor, bases, i, said),
+        None => true,
+    }
 }

@@ -2,7 +2,6 @@
 ghost use Rattle.std.specs.Prelude.{◌≡◌, ◌≢◌, [], None, OnErr, OnOk, false, true};
 ghost use Rattle.actor_words.specs.Dispatch.{next_of};
 ghost use Rattle.replay_log.specs.WorldProgress.{AreSmall};
-ghost use Rattle.step_core.specs.declared.actor.Place.TheVariants.{Begin, Lock, Look};
 ghost use Rattle.tx_table.specs.Seated.{blocks_in, opening_of};
 ghost use Rattle.tx_phases.specs.Courses.{IsUnderWay};
 ghost use Rattle.tx_actor.specs.Running.{stage_of};
@@ -10,14 +9,14 @@ ghost use Rattle.tx_phases.specs.Phases.{Ends};
 ghost use Rattle.tx_turns.specs.Ties.{Ties};
 ghost use Rattle.gate_turns.specs.Own.{HasOwn};
 ghost use Rattle.driven_turns.specs.Driven.{Driven, IsOnGate, seat_in, standing, told_in};
-ghost use Rattle.driven_turns.specs.Straight.{IsLedTo, LeadsAll, LeadsBy, LeadsFrom, WantsBy, is_locking};
+ghost use Rattle.driven_turns.specs.Straight.{IsLedTo, LeadsAll, LeadsAllFrom, LeadsBy, LeadsFrom, WantsBy};
 
-use crate::begins::{begins_on, is_to_begin};
-use crate::checks::{check_to_make, checks_on};
-use crate::locks::{lock_to_take, locks_on};
-use crate::reads::{read_on, steps_on, word_to_read};
-use crate::releases::{has_locks, releases_on};
-use crate::stores::{stores_on, value_to_store};
+use crate::begins::begun_on;
+use crate::checks::checked_on;
+use crate::locks::locked_on;
+use crate::reads::{steps_on, word_read_on};
+use crate::releases::released_on;
+use crate::stores::stored_on;
 use crate::turns::{says, step, store_next, turn_apart, turn_on_gate};
 use actor_words::Next;
 use boxes::Boxed;
@@ -48,8 +47,8 @@ fn is_on_gate(next: Next) -> bool
     }
 }
 
-/// The turns of a request that is under way, up to the one that tells something, which lies in `said` then, and the receipt that they make
-/// in `kept`. They end, whatever the other seats do. Where memory is wanting they stop, and the request is being given up.
+/// The turns of a request that is under way, up to the one that tells something: what it told is in `said` then, and the receipt that they
+/// made in `kept`. They end, whatever the other seats do. Where an allocation fails they stop, and the transaction is being aborted.
 #[inline(never)]
 fn advance<V: Value>(
     alloc: Global,
@@ -98,7 +97,7 @@ fn advance<V: Value>(
     }
 }
 
-/// The turns of a transaction that is being given up: its gates and its locks go back, and it is told why. They take no memory.
+/// The turns of a transaction that is being aborted: its gates and its locks are put back, and the last one tells why. They take no memory.
 #[inline(never)]
 fn give_up<V: Value>(
     alloc: Global,
@@ -124,7 +123,7 @@ fn give_up<V: Value>(
     }
 }
 
-/// The turns that are left of a request, up to its answer. Where memory is wanting it is given up.
+/// The turns that are left of a request, up to its answer. Where an allocation fails, the transaction is aborted.
 #[inline(always)]
 fn finish_from<V: Value>(
     alloc: Global,
@@ -151,128 +150,63 @@ fn finish_from<V: Value>(
     }
 }
 
-/// The turns of the request that is under way, up to its answer.
+/// The answer of a request of which some turns were taken: what the last one told, or, where all were quiet, that of the turns left.
 #[inline(always)]
-fn finish<V: Value>(
+fn finish_after<V: Value>(
     alloc: Global,
     table: &TxTable<V>,
     seat: &mut Seat<V>,
     actor: &mut TxActor<V>,
     bases: &mut Vec<Boxed<Base<V>>>,
-) -> (Told<V>, Option<Record<V>>)
-    requires ties { Ties table.now seat.old actor.old }
-    requires own { HasOwn table.now seat.old actor.old bases.old.items }
-    requires small { AreSmall (blocks_in table.now) }
-    requires under { IsUnderWay (seat_in (opening_of table.now) seat.old) (seat_in (opening_of table.now) seat.old) None }
-    ensures driven { Driven (opening_of table.now) seat.old seat.new result.0 result.1 }
-    ensures answered { result.0 ≢ Told.Quiet }
-    ensures ties { Ties table.now seat.new actor.new }
-    ensures own { HasOwn table.now seat.new actor.new [] }
-{
-    finish_from(alloc, table, seat, actor, bases, None)
-}
-
-/// A word is read straight on. Where it has moved, the turns by which its transaction is given up come then.
-#[inline(always)]
-fn read_through<V: Value>(
-    alloc: Global,
-    table: &TxTable<V>,
-    seat: &mut Seat<V>,
-    actor: &mut TxActor<V>,
-    bases: &mut Vec<Boxed<Base<V>>>,
-    word: u32,
-) -> (Told<V>, Option<Record<V>>)
-    requires ties { Ties table.now seat.old actor.old }
-    requires own { HasOwn table.now seat.old actor.old bases.old.items }
-    requires small { AreSmall (blocks_in table.now) }
-    requires under { IsUnderWay (seat_in (opening_of table.now) seat.old) (seat_in (opening_of table.now) seat.old) None }
-    requires stage { actor.old.stage ≡ Stage.Reading word }
-    requires place { actor.old.words.place ≡ Look word }
-    ensures driven { Driven (opening_of table.now) seat.old seat.new result.0 result.1 }
-    ensures answered { result.0 ≢ Told.Quiet }
-    ensures ties { Ties table.now seat.new actor.new }
-    ensures own { HasOwn table.now seat.new actor.new [] }
-{
-    let mut said = Told::Quiet;
-    if !read_on(table, seat, actor, bases.as_slice(), word, &mut said) {
-        return (said, None);
-    }
-    finish_from(alloc, table, seat, actor, bases, None)
-}
-
-/// The values that are left to store, straight on, where there are some: whether all was quiet.
-#[inline(always)]
-fn stored_on<V: Value>(
-    table: &TxTable<V>,
-    seat: &mut Seat<V>,
-    actor: &mut TxActor<V>,
-    bases: &[Boxed<Base<V>>],
-    said: &mut Told<V>,
-) -> bool
-    requires ties { Ties table.now seat.old actor.old }
-    requires own { HasOwn table.now seat.old actor.old bases.now }
-    requires small { AreSmall (blocks_in table.now) }
-    ensures leads { LeadsAll (opening_of table.now) seat.old seat.new (told_in result said.new) }
-    ensures answered { result ≡ false → said.new ≢ Told.Quiet }
-    ensures ties { Ties table.now seat.new actor.new }
-    ensures own { HasOwn table.now seat.new actor.new bases.now }
-{
-    match value_to_store(actor) {
-        Some(i) => stores_on(table, seat, actor, bases, i, said),
-        None => true,
-    }
-}
-
-/// The locks that a commit holds are given back, straight on, where it holds some: whether all was quiet.
-#[inline(always)]
-fn released_on<V: Value>(
-    table: &TxTable<V>,
-    seat: &mut Seat<V>,
-    actor: &mut TxActor<V>,
-    bases: &[Boxed<Base<V>>],
-    said: &mut Told<V>,
-) -> bool
-    requires ties { Ties table.now seat.old actor.old }
-    requires own { HasOwn table.now seat.old actor.old bases.now }
-    requires small { AreSmall (blocks_in table.now) }
-    ensures leads { LeadsAll (opening_of table.now) seat.old seat.new (told_in result said.new) }
-    ensures answered { result ≡ false → said.new ≢ Told.Quiet }
-    ensures ties { Ties table.now seat.new actor.new }
-    ensures own { HasOwn table.now seat.new actor.new bases.now }
-{
-    if has_locks(actor) {
-        return releases_on(table, seat, actor, bases, said);
-    }
-    true
-}
-
-/// The turns of a commit behind its stores, which made its receipt.
-#[inline(always)]
-fn release_back<V: Value>(
-    alloc: Global,
-    table: &TxTable<V>,
-    seat: &mut Seat<V>,
-    actor: &mut TxActor<V>,
-    bases: &mut Vec<Boxed<Base<V>>>,
+    quiet: bool,
+    said: Told<V>,
     made: Option<Record<V>>,
 ) -> (Told<V>, Option<Record<V>>)
     requires ties { Ties table.now seat.old actor.old }
     requires own { HasOwn table.now seat.old actor.old bases.old.items }
     requires small { AreSmall (blocks_in table.now) }
-    requires come { IsLedTo (opening_of table.now) seat.old Told.Quiet made }
-    ensures leads { LeadsBy (opening_of table.now) seat.old seat.new result.0 made result.1 }
+    requires come { IsLedTo (opening_of table.now) seat.old (told_in quiet said) made }
+    requires answered { quiet ≡ false → said ≢ Told.Quiet }
+    ensures leads { LeadsFrom (opening_of table.now) seat.old seat.new (told_in quiet said) result.0 made result.1 }
     ensures answered { result.0 ≢ Told.Quiet }
     ensures ties { Ties table.now seat.new actor.new }
     ensures own { HasOwn table.now seat.new actor.new [] }
 {
-    let mut said = Told::Quiet;
-    if !released_on(table, seat, actor, bases.as_slice(), &mut said) {
+    if !quiet {
         return (said, made);
     }
     finish_from(alloc, table, seat, actor, bases, made)
 }
 
-/// The turns of a commit behind its first store, which told this and made its receipt.
+/// The steps of a commit on the words after its first store, which told this: whether all were quiet. The values that are left are stored,
+/// and the locks are given back.
+#[inline(always)]
+fn write_on<V: Value>(
+    table: &TxTable<V>,
+    seat: &mut Seat<V>,
+    actor: &mut TxActor<V>,
+    bases: &[Boxed<Base<V>>],
+    told: Told<V>,
+    said: &mut Told<V>,
+) -> bool
+    requires ties { Ties table.now seat.old actor.old }
+    requires own { HasOwn table.now seat.old actor.old bases.now }
+    requires small { AreSmall (blocks_in table.now) }
+    ensures leads { LeadsAllFrom (opening_of table.now) seat.old seat.new told (told_in result said.new) }
+    ensures answered { result ≡ false → said.new ≢ Told.Quiet }
+    ensures ties { Ties table.now seat.new actor.new }
+    ensures own { HasOwn table.now seat.new actor.new bases.now }
+{
+    if !says(told, said) {
+        return false;
+    }
+    if !stored_on(table, seat, actor, bases, said) {
+        return false;
+    }
+    released_on(table, seat, actor, bases, said)
+}
+
+/// The turns of a commit after its first store, which told this and made its receipt.
 #[inline(always)]
 fn write_back<V: Value>(
     alloc: Global,
@@ -292,26 +226,21 @@ fn write_back<V: Value>(
     ensures ties { Ties table.now seat.new actor.new }
     ensures own { HasOwn table.now seat.new actor.new [] }
 {
-    let mut first = Told::Quiet;
-    if !says(told, &mut first) {
-        return (first, made);
-    }
-    let mut stored = Told::Quiet;
-    if !stored_on(table, seat, actor, bases.as_slice(), &mut stored) {
-        return (stored, made);
-    }
-    release_back(alloc, table, seat, actor, bases, made)
+    let mut said = Told::Quiet;
+    let quiet = write_on(table, seat, actor, bases.as_slice(), told, &mut said);
+    finish_after(alloc, table, seat, actor, bases, quiet, said, made)
 }
 
-/// Whether the first value store is next.
+/// Whether the first value store is next, after turns that were quiet.
 #[inline(always)]
-fn is_ready<V>(actor: &TxActor<V>) -> bool
-    ensures { result ≡ true → next_of (stage_of actor.now.stage) ≡ Next.FirstStore }
+fn is_ready<V>(quiet: bool, actor: &TxActor<V>) -> bool
+    ensures quiet { result ≡ true → quiet ≡ true }
+    ensures due { result ≡ true → next_of (stage_of actor.now.stage) ≡ Next.FirstStore }
 {
-    matches!(&actor.stage, Stage::Ready(_))
+    quiet && matches!(&actor.stage, Stage::Ready(_))
 }
 
-/// The first value store of a commit, and the turns behind it.
+/// The first value store of a commit, and the turns after it.
 #[inline(always)]
 fn store_through<V: Value>(
     alloc: Global,
@@ -336,9 +265,10 @@ fn store_through<V: Value>(
     }
 }
 
-/// The checks that are left to make, straight on, where there are some: whether all was quiet.
+/// The steps of a commit on the words up to its first store: whether all were quiet. The locks are taken, then the number, and what was
+/// read is checked.
 #[inline(always)]
-fn checked_on<V: Value>(
+fn commit_on<V: Value>(
     table: &TxTable<V>,
     seat: &mut Seat<V>,
     actor: &mut TxActor<V>,
@@ -353,42 +283,13 @@ fn checked_on<V: Value>(
     ensures ties { Ties table.now seat.new actor.new }
     ensures own { HasOwn table.now seat.new actor.new bases.now }
 {
-    match check_to_make(actor) {
-        Some(i) => checks_on(table, seat, actor, bases, i, said),
-        None => true,
+    if !locked_on(table, seat, actor, bases, said) {
+        return false;
     }
+    checked_on(table, seat, actor, bases, said)
 }
 
-/// The turns of a commit behind its number.
-#[inline(always)]
-fn check_through<V: Value>(
-    alloc: Global,
-    table: &TxTable<V>,
-    seat: &mut Seat<V>,
-    actor: &mut TxActor<V>,
-    bases: &mut Vec<Boxed<Base<V>>>,
-) -> (Told<V>, Option<Record<V>>)
-    requires ties { Ties table.now seat.old actor.old }
-    requires own { HasOwn table.now seat.old actor.old bases.old.items }
-    requires small { AreSmall (blocks_in table.now) }
-    requires come { IsLedTo (opening_of table.now) seat.old Told.Quiet None }
-    ensures leads { LeadsBy (opening_of table.now) seat.old seat.new result.0 None result.1 }
-    ensures answered { result.0 ≢ Told.Quiet }
-    ensures ties { Ties table.now seat.new actor.new }
-    ensures own { HasOwn table.now seat.new actor.new [] }
-{
-    let mut said = Told::Quiet;
-    if !checked_on(table, seat, actor, bases.as_slice(), &mut said) {
-        return (said, None);
-    }
-    if is_ready(actor) {
-        return store_through(alloc, table, seat, actor, bases);
-    }
-    finish_from(alloc, table, seat, actor, bases, None)
-}
-
-/// A commit, straight on: its locks and its number, the checks of what it has read, its values, and its locks again. Where a lock is taken
-/// or a word has changed, the turns by which the transaction is given up come then, and the gates of its collections do so too.
+/// A commit of a transaction that has written.
 #[inline(always)]
 fn commit_through<V: Value>(
     alloc: Global,
@@ -396,51 +297,22 @@ fn commit_through<V: Value>(
     seat: &mut Seat<V>,
     actor: &mut TxActor<V>,
     bases: &mut Vec<Boxed<Base<V>>>,
-    first: usize,
 ) -> (Told<V>, Option<Record<V>>)
     requires ties { Ties table.now seat.old actor.old }
     requires own { HasOwn table.now seat.old actor.old bases.old.items }
     requires small { AreSmall (blocks_in table.now) }
     requires under { IsUnderWay (seat_in (opening_of table.now) seat.old) (seat_in (opening_of table.now) seat.old) None }
-    requires stage { is_locking actor.old.stage ≡ true }
-    requires place { actor.old.words.place ≡ Lock first }
     ensures driven { Driven (opening_of table.now) seat.old seat.new result.0 result.1 }
     ensures answered { result.0 ≢ Told.Quiet }
     ensures ties { Ties table.now seat.new actor.new }
     ensures own { HasOwn table.now seat.new actor.new [] }
 {
     let mut said = Told::Quiet;
-    if !locks_on(table, seat, actor, bases.as_slice(), first, &mut said) {
-        return (said, None);
+    let quiet = commit_on(table, seat, actor, bases.as_slice(), &mut said);
+    if is_ready(quiet, actor) {
+        return store_through(alloc, table, seat, actor, bases);
     }
-    check_through(alloc, table, seat, actor, bases)
-}
-
-/// The one step of a transaction that begins, straight on.
-#[inline(always)]
-fn begin_through<V: Value>(
-    alloc: Global,
-    table: &TxTable<V>,
-    seat: &mut Seat<V>,
-    actor: &mut TxActor<V>,
-    bases: &mut Vec<Boxed<Base<V>>>,
-) -> (Told<V>, Option<Record<V>>)
-    requires ties { Ties table.now seat.old actor.old }
-    requires own { HasOwn table.now seat.old actor.old bases.old.items }
-    requires small { AreSmall (blocks_in table.now) }
-    requires under { IsUnderWay (seat_in (opening_of table.now) seat.old) (seat_in (opening_of table.now) seat.old) None }
-    requires stage { actor.old.stage ≡ Stage.Beginning }
-    requires place { actor.old.words.place ≡ Begin }
-    ensures driven { Driven (opening_of table.now) seat.old seat.new result.0 result.1 }
-    ensures answered { result.0 ≢ Told.Quiet }
-    ensures ties { Ties table.now seat.new actor.new }
-    ensures own { HasOwn table.now seat.new actor.new [] }
-{
-    let mut said = Told::Quiet;
-    if !begins_on(table, seat, actor, bases.as_slice(), &mut said) {
-        return (said, None);
-    }
-    finish_from(alloc, table, seat, actor, bases, None)
+    finish_after(alloc, table, seat, actor, bases, quiet, said, None)
 }
 
 /// Whether a transaction without writes is to commit, by a step on the words.
@@ -451,7 +323,7 @@ fn is_to_close<V>(actor: &TxActor<V>) -> bool
     matches!(&actor.stage, Stage::Closing)
 }
 
-/// A step on the words, at once, with the receipt that it makes, and the turns behind it.
+/// A step on the words, at once, with the receipt that it makes, and the turns after it.
 #[inline(always)]
 fn close_through<V: Value>(
     alloc: Global,
@@ -475,8 +347,8 @@ fn close_through<V: Value>(
 }
 
 /// The turns of the request that is under way, up to its answer, with the receipt that they make. They end, whatever the other seats do.
-/// Where memory is wanting, the request is given up, and told so. When it is answered, no gate is held and no base is in hand. The bases
-/// that it takes on the way lie in `bases`, which keeps the room for the next request: what lies there at first is dropped.
+/// Where an allocation fails, the transaction is aborted, and the answer says so. After the answer no gate is held and no base is in hand.
+/// The bases that it takes on the way lie in `bases`, which keeps the room for the next request: what lies there at first is dropped.
 #[inline(always)]
 pub fn drive<V: Value>(
     alloc: Global,
@@ -495,10 +367,10 @@ pub fn drive<V: Value>(
     ensures own { HasOwn table.now seat.new actor.new [] }
 {
     bases.clear();
-    finish(alloc, table, seat, actor, bases)
+    finish_from(alloc, table, seat, actor, bases, None)
 }
 
-/// As [`drive`], of a call: a word is read straight on.
+/// As [`drive`], of a call: a word is read by straight code.
 #[inline(always)]
 pub fn drive_call<V: Value>(
     alloc: Global,
@@ -517,13 +389,12 @@ pub fn drive_call<V: Value>(
     ensures own { HasOwn table.now seat.new actor.new [] }
 {
     bases.clear();
-    match word_to_read(actor) {
-        Some(word) => read_through(alloc, table, seat, actor, bases, word),
-        None => finish(alloc, table, seat, actor, bases),
-    }
+    let mut said = Told::Quiet;
+    let quiet = word_read_on(table, seat, actor, bases.as_slice(), &mut said);
+    finish_after(alloc, table, seat, actor, bases, quiet, said, None)
 }
 
-/// As [`drive`], of a commit: it goes straight on.
+/// As [`drive`], of a commit: its steps on the words are straight code.
 #[inline(always)]
 pub fn drive_commit<V: Value>(
     alloc: Global,
@@ -542,18 +413,13 @@ pub fn drive_commit<V: Value>(
     ensures own { HasOwn table.now seat.new actor.new [] }
 {
     bases.clear();
-    match lock_to_take(actor) {
-        Some(first) => commit_through(alloc, table, seat, actor, bases, first),
-        None => {
-            if is_to_close(actor) {
-                return close_through(alloc, table, seat, actor, bases);
-            }
-            finish(alloc, table, seat, actor, bases)
-        }
+    if is_to_close(actor) {
+        return close_through(alloc, table, seat, actor, bases);
     }
+    commit_through(alloc, table, seat, actor, bases)
 }
 
-/// As [`drive`], of a begin: it goes straight on.
+/// As [`drive`], of a begin: its one step is straight code.
 #[inline(always)]
 pub fn drive_begin<V: Value>(
     alloc: Global,
@@ -572,8 +438,7 @@ pub fn drive_begin<V: Value>(
     ensures own { HasOwn table.now seat.new actor.new [] }
 {
     bases.clear();
-    if is_to_begin(actor) {
-        return begin_through(alloc, table, seat, actor, bases);
-    }
-    finish(alloc, table, seat, actor, bases)
+    let mut said = Told::Quiet;
+    let quiet = begun_on(table, seat, actor, bases.as_slice(), &mut said);
+    finish_after(alloc, table, seat, actor, bases, quiet, said, None)
 }

@@ -1,4 +1,4 @@
-//! The loads of a location that a call reads, straight on.
+//! The loads of a location that a call reads, in straight code.
 ghost use Rattle.std.specs.Prelude.{◌≡◌, ◌≢◌, false, true, IfErr, IfOk, IfSome};
 ghost use Rattle.actor_words.specs.Dispatch.{is_loading};
 ghost use Rattle.replay_log.specs.WorldProgress.{AreSmall};
@@ -39,7 +39,7 @@ pub(crate) fn location_to_load<V>(actor: &TxActor<V>) -> Option<u32>
 }
 
 /// The first load of its lock word: its version, where it is free and no newer than the transaction. The actor is as it was then, and
-/// waits for the value. Else the transaction is given up.
+/// waits for the value. Else the transaction is being aborted.
 #[inline(always)]
 fn look_for<V: Value>(
     table: &TxTable<V>,
@@ -132,8 +132,9 @@ fn again_for<V: Value>(
     actor.loaded(told)
 }
 
-/// The three loads of a location that a call reads, one after the other, each of which is one atomic step, and its answer: whether they were quiet,
-/// as it has moved, or the call goes on to the next one. What they told else lies in `said`. Between them the actor is not touched.
+/// The three loads of a location that a call reads, one atomic step each. They tell nothing where others have changed the location, so that
+/// the transaction is being aborted, or where the call has a further one to load; else the last one tells the call's answer. Between them
+/// the actor is unchanged.
 #[inline(always)]
 pub(crate) fn load_on<V: Value>(
     table: &TxTable<V>,

@@ -1,4 +1,4 @@
-//! The locks of a commit, taken straight on, and its number.
+//! The locks of a commit and its number, taken in straight code.
 ghost use Rattle.std.specs.Prelude.{◌≡◌, ◌≢◌, ◌+◌, ◌<◌, ◌≤◌, false, true, IfErr, IfOk, IfSome, OnOk, length};
 ghost use Rattle.replay_log.specs.WorldProgress.{AreSmall};
 ghost use Rattle.step_core.specs.declared.actor.Place.TheVariants.{Lock, Take};
@@ -6,7 +6,7 @@ ghost use Rattle.tx_table.specs.Seated.{blocks_in, opening_of};
 ghost use Rattle.tx_turns.specs.Ties.{Ties};
 ghost use Rattle.gate_turns.specs.Own.{HasOwn};
 ghost use Rattle.driven_turns.specs.Driven.{LeadsOn, told_in};
-ghost use Rattle.driven_turns.specs.Straight.{HasLed, at_place, is_locking};
+ghost use Rattle.driven_turns.specs.Straight.{HasLed, LeadsAll, at_place, is_locking};
 
 use crate::turns::says;
 use actor_words::laws::steps_as_worlds;
@@ -19,9 +19,9 @@ use tx_actor::{Stage, Told, TxActor};
 use tx_table::{Seat, TxTable};
 use vlock_word::LockWord;
 
-/// Which lock is taken next; behind the last, the clock is advanced.
+/// Which lock is taken next; after the last, the clock is advanced.
 #[inline(always)]
-pub(crate) fn lock_to_take<V>(actor: &TxActor<V>) -> Option<usize>
+fn lock_to_take<V>(actor: &TxActor<V>) -> Option<usize>
     ensures stage { IfSome result (λ i. is_locking actor.now.stage ≡ true) }
     ensures place { IfSome result (λ i. actor.now.words.place ≡ Lock i) }
 {
@@ -151,10 +151,10 @@ fn stamp_on<V: Value>(
     actor.stepped(told)
 }
 
-/// The locks that are left to take, one after the other, and then the number of the commit: whether all was quiet. Between the steps the
-/// actor only gets the locks that it holds.
+/// The locks that are left to take, from the one at `first` on, and then the number of the commit. Between the steps the actor only gets
+/// the locks that it holds.
 #[inline(always)]
-pub(crate) fn locks_on<V: Value>(
+fn locks_on<V: Value>(
     table: &TxTable<V>,
     seat: &mut Seat<V>,
     actor: &mut TxActor<V>,
@@ -182,4 +182,27 @@ pub(crate) fn locks_on<V: Value>(
     }
     let quiet = says(stamp_on(table, seat, actor, bases, i), said);
     quiet
+}
+
+/// The locks that are left to take and the number of the commit, where these come next.
+#[inline(always)]
+pub(crate) fn locked_on<V: Value>(
+    table: &TxTable<V>,
+    seat: &mut Seat<V>,
+    actor: &mut TxActor<V>,
+    bases: &[Boxed<Base<V>>],
+    said: &mut Told<V>,
+) -> bool
+    requires ties { Ties table.now seat.old actor.old }
+    requires own { HasOwn table.now seat.old actor.old bases.now }
+    requires small { AreSmall (blocks_in table.now) }
+    ensures leads { LeadsAll (opening_of table.now) seat.old seat.new (told_in result said.new) }
+    ensures answered { result ≡ false → said.new ≢ Told.Quiet }
+    ensures ties { Ties table.now seat.new actor.new }
+    ensures own { HasOwn table.now seat.new actor.new bases.now }
+{
+    match lock_to_take(actor) {
+        Some(first) => locks_on(table, seat, actor, bases, first, said),
+        None => true,
+    }
 }

@@ -1,4 +1,4 @@
-//! The loads of a word that is read, straight on.
+//! The loads of a word that is read, in straight code.
 ghost use Rattle.std.specs.Prelude.{◌≡◌, ◌≢◌, false, IfErr, IfOk, IfSome};
 ghost use Rattle.actor_words.specs.Dispatch.{next_of};
 ghost use Rattle.tx_actor.specs.Running.{stage_of};
@@ -8,7 +8,7 @@ ghost use Rattle.tx_table.specs.Seated.{blocks_in, opening_of};
 ghost use Rattle.tx_turns.specs.Ties.{Ties};
 ghost use Rattle.gate_turns.specs.Own.{HasOwn};
 ghost use Rattle.driven_turns.specs.Driven.{LeadsOn, told_in};
-ghost use Rattle.driven_turns.specs.Straight.{HasLed, at_place};
+ghost use Rattle.driven_turns.specs.Straight.{HasLed, LeadsAll, at_place};
 
 use crate::loads::{load_on, location_to_load};
 use crate::steps;
@@ -26,7 +26,7 @@ use vlock_word::LockWord;
 
 /// The word that is to be read, none of whose loads was made yet.
 #[inline(always)]
-pub(crate) fn word_to_read<V>(actor: &TxActor<V>) -> Option<u32>
+fn word_to_read<V>(actor: &TxActor<V>) -> Option<u32>
     ensures stage { IfSome result (λ word. actor.now.stage ≡ Stage.Reading word) }
     ensures place { IfSome result (λ word. actor.now.words.place ≡ Look word) }
 {
@@ -45,7 +45,7 @@ pub(crate) fn word_to_read<V>(actor: &TxActor<V>) -> Option<u32>
 }
 
 /// The first load of its lock word: its version, where it is free and no newer than the transaction. The actor is as it was then, and
-/// waits for the value. Else the transaction is given up.
+/// waits for the value. Else the transaction is being aborted.
 #[inline(always)]
 fn look_on<V: Value>(
     table: &TxTable<V>,
@@ -131,10 +131,10 @@ fn again_on<V: Value>(
     }
 }
 
-/// The three loads of a word that is read, one after the other, each of which is one atomic step, and its answer: whether they were quiet,
-/// as the word has moved. What they told else lies in `said`. Between them the actor is not touched.
+/// The three loads of a word that is read, one atomic step each. They tell nothing where others have changed the word, so that the
+/// transaction is being aborted; else the last one tells the reply. Between them the actor is unchanged.
 #[inline(always)]
-pub(crate) fn read_on<V: Value>(
+fn read_on<V: Value>(
     table: &TxTable<V>,
     seat: &mut Seat<V>,
     actor: &mut TxActor<V>,
@@ -164,7 +164,30 @@ pub(crate) fn read_on<V: Value>(
     }
 }
 
-/// As [`steps::steps_on`], of which it takes the place: a word that is read, and a location that a call reads, is read straight on.
+/// The loads of a word, where one is to be read.
+#[inline(always)]
+pub(crate) fn word_read_on<V: Value>(
+    table: &TxTable<V>,
+    seat: &mut Seat<V>,
+    actor: &mut TxActor<V>,
+    bases: &[Boxed<Base<V>>],
+    said: &mut Told<V>,
+) -> bool
+    requires ties { Ties table.now seat.old actor.old }
+    requires own { HasOwn table.now seat.old actor.old bases.now }
+    requires small { AreSmall (blocks_in table.now) }
+    ensures leads { LeadsAll (opening_of table.now) seat.old seat.new (told_in result said.new) }
+    ensures answered { result ≡ false → said.new ≢ Told.Quiet }
+    ensures ties { Ties table.now seat.new actor.new }
+    ensures own { HasOwn table.now seat.new actor.new bases.now }
+{
+    match word_to_read(actor) {
+        Some(word) => read_on(table, seat, actor, bases, word, said),
+        None => true,
+    }
+}
+
+/// Like [`steps::steps_on`], but the loads of a word that is read, and of a location that a call reads, are straight code.
 #[inline(always)]
 pub(crate) fn steps_on<V: Value>(
     table: &TxTable<V>,

@@ -1,4 +1,4 @@
-//! The locks of a commit, given back straight on.
+//! The locks of a commit, given back in straight code.
 ghost use Rattle.std.specs.Prelude.{◌≡◌, ◌≢◌, ℕ, ◌+◌, ◌<◌, drop, false, true};
 ghost use Rattle.std.specs.VecDeque.{deque_len};
 ghost use Rattle.word_machine.specs.Actor.{after_release, freed};
@@ -10,7 +10,7 @@ ghost use Rattle.tx_table.specs.Seated.{blocks_in, opening_of};
 ghost use Rattle.tx_turns.specs.Ties.{Ties};
 ghost use Rattle.gate_turns.specs.Own.{HasOwn};
 ghost use Rattle.driven_turns.specs.Driven.{LeadsOn, told_in};
-ghost use Rattle.driven_turns.specs.Straight.{HasLed};
+ghost use Rattle.driven_turns.specs.Straight.{HasLed, LeadsAll};
 
 use crate::turns::says;
 use actor_words::laws::steps_as_worlds;
@@ -24,7 +24,7 @@ use tx_table::{Seat, TxTable};
 
 /// Whether locks are to be given back by a commit.
 #[inline(always)]
-pub(crate) fn has_locks<V>(actor: &TxActor<V>) -> bool
+fn has_locks<V>(actor: &TxActor<V>) -> bool
     ensures stage { result ≡ true → actor.now.stage ≡ Stage.Releasing }
     ensures place { result ≡ true → actor.now.words.place ≡ Release }
     ensures some { result ≡ true → 0 < deque_len actor.now.words.held }
@@ -107,9 +107,10 @@ fn release_last<V: Value>(
     actor.released()
 }
 
-/// The locks that are held are given back, one after the other, each by one atomic step: whether the last was quiet, which it is not.
+/// The locks that are held are given back, one atomic step each. The last step tells that the transaction has committed, so the answer is
+/// false.
 #[inline(always)]
-pub(crate) fn releases_on<V: Value>(
+fn releases_on<V: Value>(
     table: &TxTable<V>,
     seat: &mut Seat<V>,
     actor: &mut TxActor<V>,
@@ -131,4 +132,27 @@ pub(crate) fn releases_on<V: Value>(
         release_on(table, seat, actor, bases);
     }
     says(release_last(table, seat, actor, bases), said)
+}
+
+/// The locks that a commit holds are given back, where it holds some.
+#[inline(always)]
+pub(crate) fn released_on<V: Value>(
+    table: &TxTable<V>,
+    seat: &mut Seat<V>,
+    actor: &mut TxActor<V>,
+    bases: &[Boxed<Base<V>>],
+    said: &mut Told<V>,
+) -> bool
+    requires ties { Ties table.now seat.old actor.old }
+    requires own { HasOwn table.now seat.old actor.old bases.now }
+    requires small { AreSmall (blocks_in table.now) }
+    ensures leads { LeadsAll (opening_of table.now) seat.old seat.new (told_in result said.new) }
+    ensures answered { result ≡ false → said.new ≢ Told.Quiet }
+    ensures ties { Ties table.now seat.new actor.new }
+    ensures own { HasOwn table.now seat.new actor.new bases.now }
+{
+    if has_locks(actor) {
+        return releases_on(table, seat, actor, bases, said);
+    }
+    true
 }

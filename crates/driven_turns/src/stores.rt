@@ -1,4 +1,4 @@
-//! The value stores of a commit behind its first, straight on.
+//! The value stores of a commit after its first, in straight code.
 ghost use Rattle.std.specs.Prelude.{◌≡◌, ◌≢◌, ◌+◌, ◌<◌, false, true, IfSome, length};
 ghost use Rattle.replay_log.specs.WorldProgress.{AreSmall};
 ghost use Rattle.step_core.specs.declared.actor.Place.TheVariants.{Store};
@@ -6,7 +6,7 @@ ghost use Rattle.tx_table.specs.Seated.{blocks_in, opening_of};
 ghost use Rattle.tx_turns.specs.Ties.{Ties};
 ghost use Rattle.gate_turns.specs.Own.{HasOwn};
 ghost use Rattle.driven_turns.specs.Driven.{LeadsOn, told_in};
-ghost use Rattle.driven_turns.specs.Straight.{HasLed, at_place, is_storing};
+ghost use Rattle.driven_turns.specs.Straight.{HasLed, LeadsAll, at_place, is_storing};
 
 use crate::turns::says;
 use actor_words::laws::steps_as_worlds;
@@ -20,7 +20,7 @@ use tx_table::{Seat, TxTable};
 
 /// Which value is stored next, where it is not the first.
 #[inline(always)]
-pub(crate) fn value_to_store<V>(actor: &TxActor<V>) -> Option<usize>
+fn value_to_store<V>(actor: &TxActor<V>) -> Option<usize>
     ensures stage { IfSome result (λ i. is_storing actor.now.stage ≡ true) }
     ensures place { IfSome result (λ i. actor.now.words.place ≡ Store i) }
     ensures inside { IfSome result (λ i. i < length actor.now.words.writes.entries) }
@@ -39,7 +39,7 @@ pub(crate) fn value_to_store<V>(actor: &TxActor<V>) -> Option<usize>
     }
 }
 
-/// The store of a value behind which others are left.
+/// The store of a value after which others are left.
 #[inline(always)]
 fn store_on<V: Value>(
     table: &TxTable<V>,
@@ -88,10 +88,9 @@ fn store_last<V: Value>(
     actor.stepped(Ok(told))
 }
 
-/// The values that are left to store, one after the other, each by one atomic step: whether the last was quiet. Between them the actor is
-/// not touched.
+/// The stores that are left, from the one at `first` on, one atomic step each. Between them the actor is unchanged.
 #[inline(always)]
-pub(crate) fn stores_on<V: Value>(
+fn stores_on<V: Value>(
     table: &TxTable<V>,
     seat: &mut Seat<V>,
     actor: &mut TxActor<V>,
@@ -117,4 +116,27 @@ pub(crate) fn stores_on<V: Value>(
         i += 1;
     }
     says(store_last(table, seat, actor, bases, i), said)
+}
+
+/// The stores that are left, where there are some.
+#[inline(always)]
+pub(crate) fn stored_on<V: Value>(
+    table: &TxTable<V>,
+    seat: &mut Seat<V>,
+    actor: &mut TxActor<V>,
+    bases: &[Boxed<Base<V>>],
+    said: &mut Told<V>,
+) -> bool
+    requires ties { Ties table.now seat.old actor.old }
+    requires own { HasOwn table.now seat.old actor.old bases.now }
+    requires small { AreSmall (blocks_in table.now) }
+    ensures leads { LeadsAll (opening_of table.now) seat.old seat.new (told_in result said.new) }
+    ensures answered { result ≡ false → said.new ≢ Told.Quiet }
+    ensures ties { Ties table.now seat.new actor.new }
+    ensures own { HasOwn table.now seat.new actor.new bases.now }
+{
+    match value_to_store(actor) {
+        Some(i) => stores_on(table, seat, actor, bases, i, said),
+        None => true,
+    }
 }

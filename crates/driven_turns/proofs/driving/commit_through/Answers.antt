@@ -1,50 +1,48 @@
-use Rattle.std.proofs.Common.{Bool, List, None, ap, subst}
+use Rattle.std.proofs.Common.{List, None, subst, true}
 use Rattle.replay_log.specs.declared.base.Base.{Base}
-use Rattle.tx_actor.specs.declared.actor.Told.{Told}
 use Rattle.tx_table.specs.Seated.{opening_of}
 use Rattle.gate_turns.specs.Own.{HasOwn}
-use Rattle.driven_turns.specs.Driven.{Driven, told_in}
 use Rattle.driven_turns.proofs.DrivenLemmas.{driven_first}
-use Rattle.driven_turns.proofs.RestLemmas.{answered_own}
+use Rattle.driven_turns.proofs.StraightLemmas.{told_so}
 use Rattle.driven_turns.proofs.driving.commit_through.Goals as goal
 
-pub returns-then-not-locks_on-clause-driven : goal.returns-then-not-locks_on-clause-driven
-returns-then-not-locks_on-clause-driven g c =
+-- the first store is next
+pub store_through-requires-clause-own : goal.store_through-requires-clause-own
+store_through-requires-clause-own g c =
+    subst (λ (bs : List (Base _)). HasOwn c.args.table.now c.commit_on-quiet.new.seat c.commit_on-quiet.new.actor bs)
+    c.as_slice.ensures.value c.commit_on-quiet.ensures.own
+
+pub store_through-requires-clause-come : goal.store_through-requires-clause-come
+store_through-requires-clause-come g c =
     let o = opening_of c.args.table.now in
-    subst (λ (k : Told _). Driven o c.args.seat.now c.locks_on.new.seat k None)
-    (ap (λ (b : Bool). told_in b c.locks_on.new.said) c.if-not-locks_on.true)
-    (c.locks_on.ensures.leads.driven c.args.seat.now None (driven_first o c.args.seat.now c.requires.under))
-
-pub returns-then-not-locks_on-clause-own : goal.returns-then-not-locks_on-clause-own
-returns-then-not-locks_on-clause-own g c =
-    let o = opening_of c.args.table.now in
-    answered_own c.args.table.now c.args.seat.now c.locks_on.new.seat c.locks_on.new.actor c.args.bases.now.items c.locks_on.new.said None
-    (c.locks_on.ensures.answered c.if-not-locks_on.true)
-    (subst (λ (k : Told _). Driven o c.args.seat.now c.locks_on.new.seat k None)
-    (ap (λ (b : Bool). told_in b c.locks_on.new.said) c.if-not-locks_on.true)
-    (c.locks_on.ensures.leads.driven c.args.seat.now None (driven_first o c.args.seat.now c.requires.under)))
-    c.locks_on.ensures.ties
-    (subst (λ (bs : List (Base _)). HasOwn c.args.table.now c.locks_on.new.seat c.locks_on.new.actor bs) c.as_slice.ensures.value
-    c.locks_on.ensures.own)
-
-pub check_through-requires-clause-own : goal.check_through-requires-clause-own
-check_through-requires-clause-own g c =
-    subst (λ (bs : List (Base _)). HasOwn c.args.table.now c.locks_on.new.seat c.locks_on.new.actor bs) c.as_slice.ensures.value
-    c.locks_on.ensures.own
-
-pub check_through-requires-clause-come : goal.check_through-requires-clause-come
-check_through-requires-clause-come g c =
-    let o = opening_of c.args.table.now in (
-      c.args.seat.now,
-      subst (λ (k : Told _). Driven o c.args.seat.now c.locks_on.new.seat k None)
-          (ap (λ (b : Bool). told_in b c.locks_on.new.said) c.if-not-locks_on.false)
-          (c.locks_on.ensures.leads.driven c.args.seat.now None (driven_first o c.args.seat.now c.requires.under)),
+    let s = c.args.seat.now in (
+      s,
+      told_so o s c.commit_on-quiet.new.seat c.commit_on-quiet.result true c.commit_on-quiet.new.said None
+          (c.is_ready.ensures.quiet c.if-is_ready.true) (c.commit_on-quiet.ensures.leads None s (driven_first o s c.requires.under)),
     )
+
+pub returns-then-is_ready-clause-driven : goal.returns-then-is_ready-clause-driven
+returns-then-is_ready-clause-driven g c =
+    let o = opening_of c.args.table.now in
+    let s = c.args.seat.now in
+    c.store_through.ensures.leads s
+    (told_so o s c.commit_on-quiet.new.seat c.commit_on-quiet.result true c.commit_on-quiet.new.said None
+    (c.is_ready.ensures.quiet c.if-is_ready.true) (c.commit_on-quiet.ensures.leads None s (driven_first o s c.requires.under)))
+
+-- or it is not
+pub finish_after-requires-clause-own : goal.finish_after-requires-clause-own
+finish_after-requires-clause-own g c =
+    subst (λ (bs : List (Base _)). HasOwn c.args.table.now c.commit_on-quiet.new.seat c.commit_on-quiet.new.actor bs)
+    c.as_slice.ensures.value c.commit_on-quiet.ensures.own
+
+pub finish_after-requires-clause-come : goal.finish_after-requires-clause-come
+finish_after-requires-clause-come g c =
+    let o = opening_of c.args.table.now in
+    let s = c.args.seat.now in
+    (s, c.commit_on-quiet.ensures.leads None s (driven_first o s c.requires.under))
 
 pub returns-clause-driven : goal.returns-clause-driven
 returns-clause-driven g c =
     let o = opening_of c.args.table.now in
-    c.check_through.ensures.leads c.args.seat.now
-    (subst (λ (k : Told _). Driven o c.args.seat.now c.locks_on.new.seat k None)
-    (ap (λ (b : Bool). told_in b c.locks_on.new.said) c.if-not-locks_on.false)
-    (c.locks_on.ensures.leads.driven c.args.seat.now None (driven_first o c.args.seat.now c.requires.under)))
+    let s = c.args.seat.now in
+    c.finish_after.ensures.leads s (c.commit_on-quiet.ensures.leads None s (driven_first o s c.requires.under))

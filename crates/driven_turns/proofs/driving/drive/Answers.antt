@@ -1,6 +1,6 @@
 use Rattle.tx_table.specs.Seated.{opening_of}
 use Rattle.driven_turns.proofs.DrivenLemmas.{driven_first}
-use Rattle.driven_turns.proofs.driving.finish.Goals as goal
+use Rattle.driven_turns.proofs.driving.drive.Goals as goal
 
 pub finish_from-requires-clause-come : goal.finish_from-requires-clause-come
 finish_from-requires-clause-come g c =
