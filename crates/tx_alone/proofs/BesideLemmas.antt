@@ -32,7 +32,7 @@ use Rattle.replay_log.specs.Worlds.{World, Seat, Stage, After, Idle, Beginning, 
 use Rattle.replay_log.specs.Worlds.{Reading}
 use Rattle.replay_log.specs.Worlds.{Trying, Copying, Loading, Gating, Ready, Storing, Homing, Returning, acted, actor_of, asks, at_stage}
 use Rattle.replay_log.specs.Worlds.{because}
-use Rattle.replay_log.specs.Worlds.{ask_at, ask_op, calls_on, cancels, gives_up, commits, fits, happens, is_leaving, no_one, opened, run}
+use Rattle.replay_log.specs.Worlds.{ask_at, ask_op, calls_on, cancels, commits, fits, happens, is_leaving, no_one, opened, run}
 use Rattle.replay_log.specs.Worlds.{starve_at, step_at}
 use Rattle.replay_log.proofs.AnswerLemmas.{NoRefusal, refused_step, starved_end, starves}
 use Rattle.replay_log.proofs.AskLemmas.{only_abort, under_way}
@@ -43,9 +43,8 @@ use Rattle.replay_log.proofs.SeatLemmas.{Linked}
 use Rattle.tx_alone.specs.Alone.{IsSmall, weight, weights}
 use Rattle.tx_alone.specs.Beside.{AreFitting, BeginsNoReader, IsFitting, IsNoReader, RefusesAsMistaken}
 use Rattle.tx_phases.specs.Phases.{IsMistaken}
-use Rattle.tx_alone.proofs.BoundLemmas.{BoundAt, acts_on, begins_bound, bound_more, calls_bound, cancels_on, commits_bound, due}
-use Rattle.tx_alone.proofs.BoundLemmas.{gives_up_on}
-use Rattle.tx_alone.proofs.BoundLemmas.{op_on, step_on}
+use Rattle.tx_alone.proofs.BoundLemmas.{BoundAt, begins_bound, bound_more, calls_bound, cancels_on, commits_bound, due}
+use Rattle.tx_alone.proofs.BoundLemmas.{op_on, starve_on, step_on}
 use Rattle.seq_model.specs.declared.call.Call.{Call}
 use Rattle.tx_alone.proofs.AloneLemmas.{allowed_no, by_notice, calls_on_no, copying_no, ending_goes, or_true, reads_no, same_cause}
 use Rattle.tx_alone.proofs.FewLemmas.{IsFew, Sized, SizedAt, SizedIn, begin_sized, call_sized, cancels_sized, commit_sized, fits_one}
@@ -353,20 +352,8 @@ module _ {V : Type 0} (a : ℕ) where
   abort_none_at w Idle d = d
   abort_none_at w st d = d
 
-  gives_up_none : (w : World V) (x : Seat V) (ks : List ℕ) → IsNone w → IsNone (gives_up w a x ks).0
-  gives_up_none w x ks d = (gives_up_on (now w) a w x ks (bound_now w d)).undeclared
-
   starve_none_at : (w : World V) (x : Seat V) (st : Stage V) → IsNone w → IsNone (starve_at w a x st).0
-  starve_none_at w x Beginning d = (acts_on (now w) a w (asks a word.AskAbort) (refl, tt) (bound_now w d)).undeclared
-  starve_none_at w x (Reading l) d = gives_up_none w (because x refusal.Memory) [] d
-  starve_none_at w x (Trying asked tries) d = gives_up_none w (because x refusal.Memory) [] d
-  starve_none_at w x (Copying asked) d = gives_up_none w (because x refusal.Memory) (asked.collection ∷ []) d
-  starve_none_at w x (Loading o es) d = gives_up_none w (because x refusal.Memory) [] d
-  starve_none_at w x Locking d = gives_up_none w (because x refusal.Memory) [] d
-  starve_none_at w x (Gating got ks tries) d = gives_up_none w (because x refusal.Memory) got d
-  starve_none_at w x (Ready ks) d = gives_up_none w (because x refusal.Memory) ks d
-  starve_none_at w x Closing d = gives_up_none w (because x refusal.Memory) [] d
-  starve_none_at w x st d = d
+  starve_none_at w x st d = (starve_on (now w) a w x st (bound_now w d)).undeclared
 
   ask_none : (w : World V) (q : Request V) → IsNoReader a (Ask a q) → IsNone w → IsNone (happens w (Ask a q)).0
   ask_none w request.Begin free d = begins_none w d

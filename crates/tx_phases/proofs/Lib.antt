@@ -1,2 +1,3 @@
+pub mod PassLemmas
 pub mod PhaseLemmas
 pub mod CourseLemmas
