@@ -41,8 +41,9 @@ use Rattle.tx_phases.proofs.PhaseLemmas.{steps_move}
 use Rattle.tx_phases.specs.Courses.{ComesTo, IsUnderWay, IsUnderWayFrom, latest}
 use Rattle.tx_phases.specs.Phases.{Phase, Rests, Begins, Stands, Calls, Commits, Committed, Ends, IsMistaken, StepMoves, phase, phase_at}
 use Rattle.driven_turns.proofs.CauseLemmas.{IsOfCommit, call_cause, commit_cause}
-use Rattle.driven_turns.proofs.DeclaredLemmas.{begin_declared}
-use Rattle.driven_turns.proofs.EndedLemmas.{IsGoing, begin_added, ends_from, none_added, one_added, quiet_going, why_told}
+use Rattle.driven_turns.proofs.DeclaredLemmas.{begin_declared, reader_moved}
+use Rattle.driven_turns.proofs.EndedLemmas.{IsGoing, begin_added, done_added, ends_from, going_added, none_added, one_added}
+use Rattle.driven_turns.proofs.EndedLemmas.{quiet_going, why_told}
 use Rattle.driven_turns.proofs.KeptLemmas.{Keeps, steps_keep}
 use Rattle.driven_turns.proofs.RequestedLemmas.{turn_requests}
 use Rattle.driven_turns.proofs.StampLemmas.{begun_clock, exhausted_clock, numbered, stamped_step}
@@ -157,6 +158,7 @@ module _ {V : Type 0} where
     written = λ calls e. refl;
     began = λ _ _. refl;
     declared = λ _ _. refl;
+    reader = λ is. is;
     stamped = λ knows. knows;
     numbered = λ knows r none. absurd (let z : ⊥ = cc in z);
     asks = refl;
@@ -164,6 +166,8 @@ module _ {V : Type 0} where
       calls = λ _ _. refl;
       quiet = λ _. refl;
       begin = λ _. refl;
+      going = λ _. refl;
+      committed = λ k e. absurd (let z : ⊥ = cc in z);
       ended = λ cause is _ _. absurd (why_told (seated.actor s) cause (sym is));
     };
   }
@@ -381,6 +385,10 @@ module _ {V : Type 0} where
           ap (λ (w : World V). w.aborted) T.takes.own
           ∙ (begin_added (acts o u) a T.found T.base (begins_at (seat_in o u).calls (seat_in o u).stage begins)
           ∙ D.aborted.begin on));
+      going = λ busy. ap (λ (w : World V). w.aborted) T.takes.own
+          ∙ (going_added v (acts o u) a T.found T.base x_is (λ e. busy (ap phase (sym y_is) ∙ e)) ∙ D.aborted.quiet refl);
+      committed = λ k e. ap (λ (w : World V). w.aborted) T.takes.own
+          ∙ (done_added v (acts o u) a T.found T.base k x_is (told_is ∙ ap (notice_of a) e) ∙ D.aborted.quiet refl);
       ended = λ cause is rests isnt.
           (let tells : after.1 ≡ why a cause =
           subst (λ (k : ℕ). after.1 ≡ why k cause) (sym same) (told_is ∙ (ap (λ (k : ℕ). notice_of k n) same ∙ is)) in
@@ -410,6 +418,10 @@ module _ {V : Type 0} where
         (actor_of w a).place) at own in
         (λ i. (actor_of (T.takes.own i) (T.takes.seat.1 i)).declared)
         ∙ (begin_declared w a T.found T.base at place ∙ D.declared on (λ e. absurd (let q = sym begins ∙ e in let f : ⊥ = cc in f)))
+
+    reader_stays : is_declared o s ≡ true → is_declared o z ≡ true
+    reader_stays is =
+        (λ i. (actor_of (T.takes.own i) (T.takes.seat.1 i)).declared) ∙ reader_moved (acts o u) a (D.reader is) T.found T.base
 
     known : KnowsNumber o s → is_commit (phase (seat_in o u)) ≡ true → IsStamped (view u).clock (actor_of (acts o u) a)
     known knows c = D.stamped knows (seat_in o u).calls (is_one (seat_in o u).calls (seat_in o u).stage c)
@@ -487,6 +499,7 @@ module _ {V : Type 0} where
               (λ q is. new q (sym made ∙ is)) (subst (λ (k : Seat V). IsWritten (seat_in o s).stage k d) (sym x_is) D.written));
           began = begun_stays;
           declared = declared_stays;
+          reader = reader_stays;
           stamped = stamped_on;
           numbered = λ knows r is. numbered_on knows e r made_u new is;
           asks = turn_requests u z (record { asks = list_of u.asked; found = T.found; base = T.base })

@@ -1,20 +1,23 @@
 -- What a turn adds to the aborted transactions of its actor's own world.
 --
--- Only the last step of a transaction that is given up adds one, and tells why. It is told nowhere else: a request under way that ends so
--- was being given up (`steps_move`), and every other step of that tells nothing.
+-- Only the last step of a transaction that is given up adds one, and tells why; there is none after it. It is told nowhere else: a request
+-- under way that ends so was being given up (`steps_move`), and every other step of that tells nothing.
 use Rattle.std.proofs.Common.{◌≡◌, ℕ, Bool, true, false, List, [], ◌∷◌, ◌++◌, Option, Some, None, inl, inr, refl, sym, ap, ◌∙◌, subst, true≢false, append-nil}
 use Rattle.word_machine.specs.Notices as told
+use Rattle.word_machine.proofs.Sets.{put-same}
+use Rattle.seq_model.specs.declared.event.Answer.TheVariants as answer
 use Rattle.seq_model.specs.declared.event.Event.TheVariants.{Step}
-use Rattle.seq_model.specs.declared.event.Notice.TheVariants.{Quiet}
+use Rattle.seq_model.specs.declared.event.Notice.TheVariants.{Answered, Quiet}
 use Rattle.seq_model.specs.declared.refusal.Refusal.{Refusal}
 use Rattle.collection_machine.specs.Boosted.{PutGate}
 use Rattle.replay_log.specs.Seats.{Ended, Seat, Stage, World}
 use Rattle.replay_log.specs.WorldRefusals.{is_ending}
 use Rattle.replay_log.specs.WorldTraces.{ended_by}
-use Rattle.replay_log.specs.Worlds.{Beginning, Cancelling, Leaving, Returning, acted, gives_up, happens, has_cancelled, moves, step_at, why, word_notice}
+use Rattle.replay_log.specs.Worlds.{Beginning, Cancelling, Leaving, Returning, acted, gives_up, happens, has_cancelled, moves, no_one, step_at, why}
+use Rattle.replay_log.specs.Worlds.{word_notice}
 use Rattle.replay_log.specs.declared.base.Base.{Base}
 use Rattle.atomic_steps.proofs.Alike.{alike_same}
-use Rattle.tx_phases.specs.Phases.{Begins, Calls, Commits, Committed, Ends, Phase, Rests, Stands, StepMoves}
+use Rattle.tx_phases.specs.Phases.{Begins, Calls, Commits, Committed, Ends, Phase, Rests, Stands, StepMoves, phase}
 use Rattle.tx_table.specs.Turns.{found_at, moved, spot, stage_of}
 use Rattle.tx_table.proofs.Turned.{aborted_grow, found_alike, planted_notes}
 
@@ -99,6 +102,20 @@ module _ {V : Type 0} where
   quiet_going Ends false later h begins idle = subst IsGoing (sym h) tt
 
   -- ---- what is added
+  why_done : (a k : ℕ) (cause : Option Refusal) → why {V = V} a cause ≡ Answered a (answer.Committed k) → ⊥
+  why_done a k None e = cc
+  why_done a k (Some cause) e = cc
+
+  done_none : (v : World V) (a k : ℕ) (x : Seat V) (st : Stage V) → (step_at v a x st).1 ≡ Answered a (answer.Committed k)
+      → ended_by a x st ≡ []
+  done_none v a k x Leaving e = absurd (why_done a k x.cause e)
+  done_none v a k x st e = refl
+
+  going_none : (v : World V) (a : ℕ) (x : Seat V) (st : Stage V) → (phase ((step_at v a x st).0.seats a) ≡ Rests → ⊥)
+      → ended_by a x st ≡ []
+  going_none v a x Leaving going = absurd (going (ap phase (put-same v.seats a no_one)))
+  going_none v a x st going = refl
+
   quiet_none : (v : World V) (a : ℕ) (x : Seat V) (st : Stage V) → (step_at v a x st).1 ≡ Quiet → ended_by a x st ≡ []
   quiet_none v a x Leaving e = absurd (why_told a x.cause e)
   quiet_none v a x st e = refl
@@ -120,13 +137,24 @@ module _ {V : Type 0} where
       ∙ ((λ i. (planted_notes a w (spot a w) found base).1 i
       ++ (ap (λ (x : Seat V). ended_by a x x.stage) (sym (found_alike a w w (spot a w) found base (alike_same a w)).seat)) i))
 
+  none_by : (v w : World V) (a : ℕ) (found : ℕ) (base : Option (Base V)) → v.seats a ≡ w.seats a
+      → ended_by a (v.seats a) (stage_of v a) ≡ [] → (moved a w found base).0.aborted ≡ w.aborted
+  none_by v w a found base seat none =
+      moved_aborted a w found base
+      ∙ (ap (λ (es : List (Ended V)). w.aborted ++ es) (ap (λ (x : Seat V). ended_by a x x.stage) (sym seat) ∙ none)
+      ∙ append-nil w.aborted)
+
   pub none_added : (v w : World V) (a : ℕ) (found : ℕ) (base : Option (Base V)) → v.seats a ≡ w.seats a
       → (happens v (Step a)).1 ≡ Quiet → (moved a w found base).0.aborted ≡ w.aborted
-  none_added v w a found base seat quiet =
-      moved_aborted a w found base
-      ∙ (ap (λ (es : List (Ended V)). w.aborted ++ es)
-      (ap (λ (x : Seat V). ended_by a x x.stage) (sym seat) ∙ quiet_none v a (v.seats a) (stage_of v a) quiet)
-      ∙ append-nil w.aborted)
+  none_added v w a found base seat quiet = none_by v w a found base seat (quiet_none v a (v.seats a) (stage_of v a) quiet)
+
+  pub going_added : (v w : World V) (a : ℕ) (found : ℕ) (base : Option (Base V)) → v.seats a ≡ w.seats a
+      → (phase ((happens v (Step a)).0.seats a) ≡ Rests → ⊥) → (moved a w found base).0.aborted ≡ w.aborted
+  going_added v w a found base seat going = none_by v w a found base seat (going_none v a (v.seats a) (stage_of v a) going)
+
+  pub done_added : (v w : World V) (a : ℕ) (found : ℕ) (base : Option (Base V)) (k : ℕ) → v.seats a ≡ w.seats a
+      → (happens v (Step a)).1 ≡ Answered a (answer.Committed k) → (moved a w found base).0.aborted ≡ w.aborted
+  done_added v w a found base k seat done = none_by v w a found base seat (done_none v a k (v.seats a) (stage_of v a) done)
 
   pub begin_added : (w : World V) (a : ℕ) (found : ℕ) (base : Option (Base V)) → stage_of w a ≡ Beginning
       → (moved a w found base).0.aborted ≡ w.aborted

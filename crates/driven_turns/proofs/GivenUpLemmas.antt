@@ -15,7 +15,7 @@ use Rattle.seq_model.specs.declared.record.Record.{Record}
 use Rattle.seq_model.specs.declared.refusal.Refusal.TheVariants.{Memory as OutOfMemory}
 use Rattle.replay_log.proofs.AnswerLemmas.{starves}
 use Rattle.replay_log.specs.Seats as worlds
-use Rattle.replay_log.specs.Seats.{World, After, Seat, Stage, Cancelling, Leaving, Returning}
+use Rattle.replay_log.specs.Seats.{World, After, Seat, Stage, Cancelling, Leaving, Returning, actor_of}
 use Rattle.replay_log.specs.Worlds.{happens, why}
 use Rattle.replay_log.specs.WorldAnswers.{IsStarved}
 use Rattle.replay_log.specs.WorldRefusals.{is_ending}
@@ -36,6 +36,7 @@ use Rattle.tx_phases.specs.Phases.{Phase, Rests, Begins, Stands, Calls, Commits,
 use Rattle.tx_turns.specs.Asked.{Starved}
 use Rattle.tx_turns.specs.Ties.{Ties}
 use Rattle.driven_turns.proofs.RequestedLemmas.{taken_requests}
+use Rattle.driven_turns.proofs.DeclaredLemmas.{reader_starves}
 use Rattle.driven_turns.proofs.DrivenLemmas.{driven_on}
 use Rattle.driven_turns.proofs.KeptLemmas.{Keeps, Same, starves_keep}
 use Rattle.driven_turns.proofs.NextLemmas.{IsHalfway, load_wants, turn_wants, wants_halfway}
@@ -200,6 +201,8 @@ module _ {V : Type 0} where
           written = λ calls e. absurd (no_commit (phase (seat_in o z)) calls rests e);
           began = λ _ going. absurd (going rests);
           declared = λ _ going. absurd (going rests);
+          reader = λ is. D.reader ((λ i. (actor_of (S.starved.own i) (S.starved.taken.0.1 i)).declared)
+              ∙ reader_starves (acts o m) (seated.actor m) (S.driven.reader is));
           stamped = λ _ calls e. absurd (no_commit (phase (seat_in o z)) calls rests e);
           numbered = λ _ r none. absurd (let f : ⊥ = cc in f);
           asks = D.asks ∙ (taken_requests m u (Starve 0) S.starved.taken ∙ (append-nil (requests_of m) ∙ S.driven.asks));
@@ -207,6 +210,8 @@ module _ {V : Type 0} where
             calls = λ quiet. absurd (ne quiet);
             quiet = λ quiet. absurd (ne quiet);
             begin = λ on. absurd (subst IsHalfway on halfway);
+            going = λ busy. absurd (busy rests);
+            committed = λ k e. absurd (let f = sym memory ∙ e in let z : ⊥ = cc in z);
             ended = λ cause is over isnt.
                 (let added = D.aborted.ended cause (subst (λ (k : ℕ). notice_of k n ≡ why k cause) (sym same) is) over
                 (λ e. (let f : Ends ≡ Begins = sym stopped_ends ∙ e in cc)) in

@@ -195,12 +195,14 @@ module _ {V : Type 0} where
   aborted_for o s cause = record { actor = actor s; rv = (seat_in o s).rv; calls = (seat_in o s).calls; cause = cause }
 
   -- The turns of a request from s on to u, the last of which tells n, leave the calls of its transaction while nothing is told, and add no
-  -- aborted transaction to those of the own world; nor does a begin. Where the last one tells why the transaction has ended, they add this
-  -- one.
+  -- aborted transaction to those of the own world; nor does a begin, nor turns after which there is a transaction, or one has committed.
+  -- Where the last one tells why the transaction has ended, they add this one.
   pub record AddsAborted (o : World V) (s u : Seat V) (n : Told V) : Type 0 where
     pub calls : n ≡ told.Quiet → (standing o s ≡ Begins → ⊥) → (seat_in o u).calls ≡ (seat_in o s).calls
     pub quiet : n ≡ told.Quiet → (acts o u).aborted ≡ (acts o s).aborted
     pub begin : standing o s ≡ Begins → (acts o u).aborted ≡ (acts o s).aborted
+    pub going : (standing o u ≡ Rests → ⊥) → (acts o u).aborted ≡ (acts o s).aborted
+    pub committed : (k : ℕ) → n ≡ told.Answered (answer.Committed k) → (acts o u).aborted ≡ (acts o s).aborted
     pub ended : (cause : Option Refusal) → notice_of (actor s) n ≡ why (actor s) cause → standing o u ≡ Rests
         → (standing o s ≡ Begins → ⊥)
         → (acts o u).aborted ≡ (acts o s).aborted ++ aborted_for o s cause ∷ []
@@ -223,6 +225,7 @@ module _ {V : Type 0} where
     pub written : IsWritten (seat_in o s).stage (seat_in o u) d
     pub began : (standing o s ≡ Begins → ⊥) → (standing o u ≡ Rests → ⊥) → (seat_in o u).rv ≡ (seat_in o s).rv
     pub declared : standing o s ≡ Begins → (standing o u ≡ Rests → ⊥) → is_declared o u ≡ is_declared o s
+    pub reader : is_declared o s ≡ true → is_declared o u ≡ true
     pub stamped : KnowsNumber o s → KnowsNumber o u
     pub numbered : KnowsNumber o s → (r : Record V) → d ≡ Some r → IsNumberOf (seat_in o s).rv (view u).clock r
     pub asks : requests_of u ≡ requests_of s

@@ -2,7 +2,7 @@
 --
 -- What the ask tells in the own world says where the transaction stands (`asks_move`); that it is not given up there is a law on worlds
 -- that events have reached, and the own world is one of these to its actor. What the turns come to is the law on courses (`Driven.comes`).
-use Rattle.std.proofs.Common.{◌≡◌, ◌≢◌, ◌⊎◌, ℕ, false, List, Option, None, Result, Ok, Err, IfErr, inl, inr, refl, sym, ap, ◌∙◌, subst}
+use Rattle.std.proofs.Common.{◌≡◌, ◌≢◌, ◌⊎◌, ℕ, true, false, List, Option, None, Result, Ok, Err, IfErr, inl, inr, refl, sym, ap, ◌∙◌, subst}
 use Rattle.std.proofs.Common.{[], ◌∷◌, ◌++◌, Some}
 use Rattle.seq_model.specs.declared.call.Call.{Call}
 use Rattle.seq_model.specs.declared.call.Reply.{Reply}
@@ -39,8 +39,9 @@ use Rattle.tx_phases.specs.Phases.{AskMoves, CallMoves, Phase, Rests, Begins, St
 use Rattle.driven_turns.proofs.EndedLemmas.{IsGoing}
 use Rattle.driven_turns.proofs.KeptLemmas.{Keeps, asks_keep}
 use Rattle.transactions.proofs.KindLemmas.{call_given_up, call_mistaken, call_without_memory}
-use Rattle.transactions.proofs.RequestLemmas.{asked_keeps, ended_back, found_told, noted_for, then_keeps, told_back, turns_keep}
-use Rattle.driven_turns.specs.Driven.{Driven, IsCallCause, IsReason, IsTrue, seat_in, standing}
+use Rattle.transactions.proofs.RequestLemmas.{asked_aborted, asked_keeps, asked_reader, ended_back, found_told, noted_for, then_keeps}
+use Rattle.transactions.proofs.RequestLemmas.{told_back, turns_keep}
+use Rattle.driven_turns.specs.Driven.{Driven, IsCallCause, IsReason, IsTrue, is_declared, seat_in, standing}
 use Rattle.transactions.specs.Requests.{CallLeaves, CallsTo, HasAborted, IsCallRefusal, IsCallTold, IsDriven, IsOpen, KeepsReceipts}
 use Rattle.transactions.specs.Requests.{IsAbortedFor, IsLastAborted}
 use Rattle.transactions.specs.Requests.{told_of}
@@ -182,7 +183,9 @@ module _ {V : Type 0} where
       answered = inl (subst (λ k. Answers o s q k) e is);
       kinds = kinds_now r (subst (λ k. Answers o s q k) e is);
       aborted = λ rests. absurd (still_open r (subst (λ k. Answers o s q k) e is) rests);
+      same = λ _. asked_aborted o s m q has;
       began = λ still. began_asked (stands_busy (standing o m) still.0 still.1);
+      reader = asked_reader o s m q at_open has;
     }
 
     -- ---- where nothing is told
@@ -223,20 +226,24 @@ module _ {V : Type 0} where
           answered = inr (inl (is, told_back o s m u (told_of k) kept (D.tells (told_some k))));
           kinds = call_kinds o m u opened.0 call at k d D;
           aborted = noted_call u at k d D;
+          same = λ still. D.aborted.going (stands_busy (standing o u) still.0 still.1) ∙ asked_aborted o s m q has;
           began = λ still. D.began (λ e. (let z : Calls opened.0 call ≡ Begins = sym at ∙ e in cc))
               (stands_busy (standing o u) still.0 still.1)
               ∙ began_asked (λ e. (let z : Calls opened.0 call ≡ Rests = sym at ∙ e in cc));
+          reader = λ is. D.reader (asked_reader o s m q at_open has is);
         }
 
   -- ---- where memory was refused
   pub call_starved : (o : World V) (s u : table.Seat V) (call : Call V) → KeepsReceipts s u → standing o u ≡ Rests → HasAborted o s u
-      → IsLastAborted o s u None
+      → IsLastAborted o s u None → (is_declared o s ≡ true → is_declared o u ≡ true)
       → IsAdmitted (acts o s) (seated.actor s) (request.Call call) → CallsTo o s call u (Err OutOfMemory)
-  call_starved o s u call kept rests aborted noted admitted = record {
+  call_starved o s u call kept rests aborted noted reader admitted = record {
     keeps = kept;
     leaves = λ calls on. inr (rests, inr (refl, inr aborted));
     answered = inr (inr (refl, admitted));
     kinds = call_without_memory call.op;
     aborted = λ _. inr (refl, noted);
+    same = λ still. absurd (stands_busy (standing o u) still.0 still.1 rests);
     began = λ still. absurd (stands_busy (standing o u) still.0 still.1 rests);
+    reader = reader;
   }

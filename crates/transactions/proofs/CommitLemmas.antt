@@ -8,6 +8,7 @@ use Rattle.word_machine.specs.Actor as machine
 use Rattle.word_machine.specs.Actor.{Actor}
 use Rattle.word_machine.specs.Requests as word
 use Rattle.word_machine.specs.Requests.{close, lock}
+use Rattle.word_machine.proofs.Declared.{has_no_sets}
 use Rattle.word_machine.proofs.Sets.{put-same}
 use Rattle.seq_model.specs.declared.call.Call.{Call}
 use Rattle.seq_model.specs.declared.call.Reply.{Reply}
@@ -19,15 +20,17 @@ use Rattle.seq_model.specs.declared.record.Record.{Record}
 use Rattle.seq_model.specs.declared.refusal.Refusal.{Refusal}
 use Rattle.seq_model.specs.declared.refusal.Refusal.TheVariants.{Memory as OutOfMemory}
 use Rattle.replay_log.proofs.ActionLemmas.{ask_goes}
+use Rattle.replay_log.proofs.EventLemmas.{opened_linked, run_linked}
 use Rattle.replay_log.proofs.SeatLemmas.{StageOk}
 use Rattle.replay_log.specs.Contents.{content}
 use Rattle.replay_log.specs.Seats as worlds
 use Rattle.replay_log.specs.Seats.{World, Seat, Stage, Closing, Locking, acted, actor_of, asks, at_stage}
-use Rattle.replay_log.specs.Worlds.{ask_at, commits, happens}
+use Rattle.replay_log.specs.Worlds.{ask_at, commits, happens, run}
 use Rattle.tx_actor.specs.Running.{notice_of}
 use Rattle.tx_actor.specs.declared.actor.Told.{Told}
 use Rattle.tx_actor.specs.declared.actor.Told.TheVariants as told
 use Rattle.tx_actor.specs.declared.actor.TxActor.{TxActor}
+use Rattle.tx_table.specs.Opening.{blocks_at}
 use Rattle.tx_table.specs.declared.seat.Seat as table
 use Rattle.tx_table.specs.declared.table.TxTable.{TxTable}
 use Rattle.tx_table.specs.Seated.{acts, opening_of, out, view}
@@ -38,11 +41,12 @@ use Rattle.transactions.proofs.CallLemmas.{stands_at}
 use Rattle.driven_turns.proofs.EndedLemmas.{IsGoing}
 use Rattle.driven_turns.proofs.KeptLemmas.{Keeps, asks_keep}
 use Rattle.transactions.proofs.KindLemmas.{commit_given_up, commit_without_memory}
-use Rattle.transactions.proofs.RequestLemmas.{asked_keeps, ended_back, found_told, noted_for, then_keeps, told_back, turns_keep}
+use Rattle.transactions.proofs.RequestLemmas.{asked_aborted, asked_keeps, ended_back, found_told, noted_for, then_keeps, told_back}
+use Rattle.transactions.proofs.RequestLemmas.{turns_keep}
 use Rattle.driven_turns.specs.Driven.{Driven, HasTold, IsNumberOf, IsStamped, IsStampedAt, IsTrue, KnowsNumber}
-use Rattle.driven_turns.specs.Driven.{is_closing, seat_in, standing}
-use Rattle.transactions.specs.Requests.{CommitsTo, HasAborted, HasCommitted, IsCommitRefusal, IsCommitTold, IsEnded, KeepsReceipts}
-use Rattle.transactions.specs.Requests.{IsLastAborted, has_some, has_written}
+use Rattle.driven_turns.specs.Driven.{is_closing, is_declared, seat_in, standing}
+use Rattle.transactions.specs.Requests.{CommitsTo, HasAborted, HasCommitted, HasSameAborted, IsCommitRefusal, IsCommitTold, IsEnded}
+use Rattle.transactions.specs.Requests.{IsLastAborted, KeepsReceipts, has_some, has_written}
 use Rattle.tx_threads.proofs.OwnLemmas.{own_ok}
 use Rattle.tx_turns.proofs.AskedLemmas.{acts_taken}
 use Rattle.tx_turns.specs.Asked.{HasAsked}
@@ -118,6 +122,15 @@ module _ {V : Type 0} where
       subst (IsStamped k) (sym (ask_goes (content w.words w.blocks) w.boosted a machine.Open word.AskLock at tt).own.actor)
       (locks_first k y y.writes at)
 
+  place_open : (t : TxTable V) (s : table.Seat V) (r : TxActor V) (calls : List (Call V × Reply V)) → Ties t s r
+      → standing (opening_of t) s ≡ Stands calls → (actor_of (acts (opening_of t) s) (seated.actor s)).place ≡ machine.Open
+  place_open t s r calls ties on =
+      let a = seated.actor s in
+      let w = acts (opening_of t) s in
+      let x = w.seats a in
+      (subst (λ (st : Stage V). StageOk w.words w.blocks x (actor_of w a) (w.boosted.shadows a) st (actor_of w a).place)
+      (stands_at x.calls calls x.stage on) (own_ok t.whole.shared.key a w ties.reached)).0
+
   pub commit_knows : (t : TxTable V) (s m : table.Seat V) (r : TxActor V) (calls : List (Call V × Reply V)) → Ties t s r
       → standing (opening_of t) s ≡ Stands calls → HasAsked s Commit m → KnowsNumber (opening_of t) m
   commit_knows t s m r calls ties on has cs e =
@@ -126,12 +139,26 @@ module _ {V : Type 0} where
       let w = acts o s in
       let x = w.seats a in
       let at : x.stage ≡ worlds.Open = stands_at x.calls calls x.stage on in
-      let place : (actor_of w a).place ≡ machine.Open =
-      (subst (λ (st : Stage V). StageOk w.words w.blocks x (actor_of w a) (w.boosted.shadows a) st (actor_of w a).place) at
-      (own_ok t.whole.shared.key a w ties.reached)).0 in
+      let place : (actor_of w a).place ≡ machine.Open = place_open t s r calls ties on in
       subst (IsStamped (view m).clock) (sym ((λ i. actor_of (acts_taken o s m (Ask 0 Commit) has i) (has.0.1 i))
       ∙ ap (λ (st : Stage V). actor_of (ask_at w a x st Commit).0 a) at))
       (unstamped w a (view m).clock x (actor_of w a).writes place)
+
+  -- a declared reader has written nothing
+  pub reader_writes : (t : TxTable V) (s : table.Seat V) (r : TxActor V) (calls : List (Call V × Reply V)) → Ties t s r
+      → standing (opening_of t) s ≡ Stands calls → is_declared (opening_of t) s ≡ true → has_written (opening_of t) s ≡ false
+  reader_writes t s r calls ties on reads =
+      let o = opening_of t in
+      let key = t.whole.shared.key in
+      let a = seated.actor s in
+      let h = ties.reached in
+      let w = run o h.events in
+      let linked = run_linked h.events o
+      (opened_linked (blocks_at key) key.shape.value.clock key.state.value.words key.state.value.held h.stripes) in
+      let is : actor_of w a ≡ actor_of (acts o s) a = h.alike.boosted.actor in
+      let none = has_no_sets w.boosted.words a linked.base.inv.machine (ap (λ (y : Actor). y.declared) is ∙ reads)
+      (ap (λ (y : Actor). y.place) is ∙ place_open t s r calls ties on) in
+      ap has_some (ap (λ (y : Actor). y.writes) (sym is) ∙ none.1)
 
   pub under_commits : (x : Seat V) (calls : List (Call V × Reply V)) → phase x ≡ Commits calls → IsUnderWay x x None
   under_commits x calls on = subst (λ (p : Phase V). IsUnderWayFrom x p x None) (sym on) (inl (inl on, refl))
@@ -162,7 +189,7 @@ module _ {V : Type 0} where
 
     pub committed : (n : Told V) (r : Record V) → n ≢ told.Quiet → Driven o s u n (Some r)
         → HasCommitted o s u r × (standing o s ≡ Commits r.calls) × (r.writes ≡ not (is_closing (seat_in o s).stage))
-        × (KnowsNumber o s → IsNumberOf (seat_in o s).rv (view u).clock r)
+        × (KnowsNumber o s → IsNumberOf (seat_in o s).rv (view u).clock r) × HasSameAborted o s u
     committed n r ne D =
         let h = made n r (ends_from n (Some r) ne D.comes) in (
           record {
@@ -179,6 +206,7 @@ module _ {V : Type 0} where
           on ∙ ap Commits (sym h.1),
           D.written,
           λ knows. D.numbered knows r refl,
+          D.aborted.committed r.number h.2,
         )
 
     pub refused : (cause : Refusal) → Driven o s u (told.Refused cause) None
@@ -227,15 +255,18 @@ module _ {V : Type 0} where
       let o = opening_of t in
       let A = commit_asked o s m calls on has in
       let C = committed o m u calls A.0 outs n r ne (subst (λ (k : Option (Record V)). Driven o m u n k) h D) in
+      let wrote : r.writes ≡ has_written o s = C.2 ∙ (ap not A.1 ∙ not_twice (has_written o s)) in
       record {
         committed = committed_back o s m u r (asked_keeps s m (has.0, has.1)) C.0;
         calls = on ∙ same_stands calls r.calls (sym A.0 ∙ C.1);
-        writes = C.2 ∙ (ap not A.1 ∙ not_twice (has_written o s));
+        writes = wrote;
+        reader = λ reads. wrote ∙ reader_writes t s q calls ties on reads;
         number = subst (λ (k : ℕ). IsNumberOf k (view u).clock r) (commit_began o s m calls on has)
             (C.3 (commit_knows t s m q calls ties on has));
         keeps = tt;
         ended = tt;
         aborted = tt;
+        same = C.4 ∙ asked_aborted o s m Commit has;
         kinds = tt;
       }
   commits_to t s m u q calls ties on has outs n d (Err cause) ne D h =
@@ -247,11 +278,13 @@ module _ {V : Type 0} where
         committed = tt;
         calls = tt;
         writes = tt;
+        reader = tt;
         number = tt;
         keeps = then_keeps s m u kept R.0;
         ended = λ _. ended_back o s m u cause kept R.1;
         aborted = λ _. inl (noted_for o s m u Commit (stands_at (seat_in o s).calls calls (seat_in o s).stage on) has
             (subst IsGoing (sym (commit_asked o s m calls on has).0) tt) n d (Some cause) D (ap (notice_of (seated.actor m)) h.1) R.1.0);
+        same = tt;
         kinds = R.2;
       }
 
@@ -262,9 +295,11 @@ module _ {V : Type 0} where
     committed = tt;
     calls = tt;
     writes = tt;
+    reader = tt;
     number = tt;
     keeps = keeps;
     ended = λ _. (rests, inr (memory, inr aborted));
     aborted = λ _. inr (memory, noted);
+    same = tt;
     kinds = commit_without_memory cause memory;
   }

@@ -334,10 +334,12 @@ module _ {V : Type 0} where
       committed = tt;
       calls = tt;
       writes = tt;
+      reader = tt;
       number = tt;
       keeps = keeps_self s.seat;
       ended = λ opened. absurd (isnt (is_open t s.seat s.actor ready.ties opened.0 opened.1));
       aborted = λ opened. absurd (isnt (is_open t s.seat s.actor ready.ties opened.0 opened.1));
+      same = tt;
       kinds = commit_without_transaction;
     };
     above = tt;
@@ -389,10 +391,12 @@ module _ {V : Type 0} where
             committed = noted_committed o m u.seat place asked s.seat r C.committed;
             calls = C.calls;
             writes = C.writes;
+            reader = C.reader;
             number = subst (λ (k : ℕ). IsNumberOf (seat_in o s.seat).rv k r) (sym (ap (λ p. p.me.0.clock) place)) C.number;
             keeps = tt;
             ended = tt;
             aborted = tt;
+            same = (λ i. (noted_acts o m u.seat place asked i).aborted) ∙ C.same;
             kinds = tt;
           };
           above = receipt_numbers.0;

@@ -43,6 +43,7 @@ use Rattle.tx_phases.specs.Courses.{EndsFrom, IsUnderWay, IsUnderWayFrom}
 use Rattle.tx_phases.specs.Phases.{AskMoves, Phase, Rests, Begins, Stands, Calls, Ends, phase, phase_at}
 use Rattle.gate_turns.specs.Bases.{gates_at}
 use Rattle.gate_turns.specs.Own.{HasOwn}
+use Rattle.driven_turns.proofs.DeclaredLemmas.{reader_asks}
 use Rattle.driven_turns.proofs.RequestedLemmas.{more_begins, taken_requests}
 use Rattle.driven_turns.proofs.EndedLemmas.{IsGoing}
 use Rattle.driven_turns.proofs.GivenUpLemmas.{none_ends}
@@ -387,6 +388,11 @@ module _ {V : Type 0} where
   pub asked_aborted : (o : World V) (s m : table.Seat V) (q : Request V) → HasAsked s q m → (acts o m).aborted ≡ (acts o s).aborted
   asked_aborted o s m q has =
       ap (λ (w : World V). w.aborted) (acts_taken o s m (Ask 0 q) has) ∙ (one_step (acts o s) (Ask (seated.actor s) q)).aborted
+
+  pub asked_reader : (o : World V) (s m : table.Seat V) (q : Request V) → (seat_in o s).stage ≡ worlds.Open → HasAsked s q m
+      → is_declared o s ≡ true → is_declared o m ≡ true
+  asked_reader o s m q at has is =
+      (λ i. (actor_of (acts_taken o s m (Ask 0 q) has i) (has.0.1 i)).declared) ∙ reader_asks (acts o s) (seated.actor s) is q at
 
   pub asked_same : (o : World V) (s m : table.Seat V) (q : Request V) → (seat_in o s).stage ≡ worlds.Open → HasAsked s q m
       → IsGoing (standing o m) → Same (seat_in o s) (seat_in o m)

@@ -192,14 +192,17 @@ module _ {V : Type 0} where
   abbrev pub IsDriven : World V → Seat V → Seat V → Told V → Type 0
   IsDriven o s u n = (d : Option (Record V)) × Driven o s u n d
 
-  -- what a call comes to, whatever was called before
+  -- What a call comes to, whatever was called before. Where a transaction is open after it, it has begun at the same number, and none was
+  -- aborted; a declared reader stays one.
   pub record CallsTo (o : World V) (s : Seat V) (call : Call V) (u : Seat V) (r : Result (Reply V) Refusal) : Type 0 where
     pub keeps : KeepsReceipts s u
     pub leaves : (calls : List (Call V × Reply V)) → standing o s ≡ Stands calls → CallLeaves o s calls call u r
     pub answered : IsAnswered o s (request.Call call) u (told_of r)
     pub kinds : IfErr r (IsCallRefusal call.op)
     pub aborted : standing o u ≡ Rests → IfErr r (IsAbortedFor o s u)
+    pub same : IsOpen o u → HasSameAborted o s u
     pub began : IsOpen o u → (seat_in o u).rv ≡ (seat_in o s).rv
+    pub reader : is_declared o s ≡ true → is_declared o u ≡ true
 
   -- ---- a commit
   -- whether the transaction has written
@@ -225,13 +228,15 @@ module _ {V : Type 0} where
     pub told : HasTold o s u (told.Answered (answer.Committed r.number))
 
   -- What a commit comes to: the seat has the one receipt more that it gives, with the calls that were made; or it has none more, for a
-  -- cause that has ended the transaction.
+  -- cause that has ended the transaction. A declared reader has written nothing.
   pub record CommitsTo (o : World V) (s u : Seat V) (r : Result (Record V) Refusal) : Type 0 where
     pub committed : IfOk r (HasCommitted o s u)
     pub calls : IfOk r (λ receipt. standing o s ≡ Stands receipt.calls)
     pub writes : IfOk r (λ receipt. receipt.writes ≡ has_written o s)
+    pub reader : IfOk r (λ receipt. is_declared o s ≡ true → receipt.writes ≡ false)
     pub number : IfOk r (IsNumberOf (seat_in o s).rv (view u).clock)
     pub keeps : OnErr r (KeepsReceipts s u)
     pub ended : IfErr r (λ cause. IsOpen o s → IsEnded o s u cause)
     pub aborted : IfErr r (λ cause. IsOpen o s → IsAbortedFor o s u cause)
+    pub same : IfOk r (λ receipt. HasSameAborted o s u)
     pub kinds : IfErr r IsCommitRefusal

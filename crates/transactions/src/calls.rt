@@ -1,11 +1,11 @@
 //! The calls of a transaction, on words and on collections.
-ghost use Rattle.std.specs.Prelude.{◌≡◌, [], ◌∷◌, ◌++◌, IfErr, IfOk, None, OnErr, OnOk};
+ghost use Rattle.std.specs.Prelude.{◌≡◌, [], ◌∷◌, ◌++◌, IfErr, IfOk, None, OnErr, OnOk, true};
 ghost use Rattle.replay_log.specs.WorldAnswers.{IsAdmitted};
 ghost use Rattle.tx_table.specs.Seated.{actor as actor_of, acts, opening_of};
 ghost use Rattle.tx_phases.specs.Phases.{Rests};
 ghost use Rattle.tx_turns.specs.Asked.{Answers, HasAsked};
 ghost use Rattle.driven_turns.specs.Begins.{begins_of};
-ghost use Rattle.driven_turns.specs.Driven.{standing};
+ghost use Rattle.driven_turns.specs.Driven.{is_declared, standing};
 ghost use Rattle.driven_turns.specs.Requested.{requests_of};
 ghost use Rattle.transactions.specs.Ready.{CanDrive};
 ghost use Rattle.transactions.specs.Requests.{CallsTo, HasAborted, HasAskedFor, IsCallTold, IsCalling, IsDriven, IsOpen, KeepsReceipts};
@@ -71,6 +71,7 @@ pub(crate) fn ask_open<V: Value>(
     ensures rests { OnErr result (standing (opening_of table.now) seat.new ≡ Rests) }
     ensures aborted { OnErr result (HasAborted (opening_of table.now) seat.old seat.new) }
     ensures noted { OnErr result (IsLastAborted (opening_of table.now) seat.old seat.new None) }
+    ensures reader { OnErr result (is_declared (opening_of table.now) seat.old ≡ true → is_declared (opening_of table.now) seat.new ≡ true) }
     ensures begins { OnErr result (begins_of seat.new ≡ begins_of seat.old) }
     ensures asks { OnErr result (requests_of seat.new ≡ requests_of seat.old ++ Request.Abort ∷ []) }
 {

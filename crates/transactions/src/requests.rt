@@ -45,6 +45,7 @@ fn begun<V: Value>(
     ensures begun { IfOk result (IsBegun (is_declared (opening_of table.now) seat.old) (opening_of table.now) seat.old seat.new) }
     ensures refused { IfErr result (IsNotBegun (opening_of table.now) seat.old seat.new) }
     ensures same { HasSameAborted (opening_of table.now) seat.old seat.new }
+    ensures reader { is_declared (opening_of table.now) seat.old ≡ true → is_declared (opening_of table.now) seat.new ≡ true }
     ensures begins { begins_of seat.new ≡ begins_of seat.old }
     ensures asks { requests_of seat.new ≡ requests_of seat.old }
 {
@@ -91,6 +92,7 @@ pub(crate) fn begin_read<V: Value>(
     ensures begun { IfOk result (IsBegun true (opening_of table.now) seat.old seat.new) }
     ensures refused { IfErr result (IsNotBegun (opening_of table.now) seat.old seat.new) }
     ensures same { HasSameAborted (opening_of table.now) seat.old seat.new }
+    ensures reader { is_declared (opening_of table.now) seat.new ≡ true }
     ensures begins { begins_of seat.new ≡ begins_of seat.old + 1 }
     ensures asks { requests_of seat.new ≡ requests_of seat.old ++ Request.BeginRead ∷ [] }
 {
@@ -114,6 +116,7 @@ pub(crate) fn abort<V: Value>(
     ensures rests { standing (opening_of table.now) seat.new ≡ Rests }
     ensures aborted { HasAborted (opening_of table.now) seat.old seat.new }
     ensures noted { IsLastAborted (opening_of table.now) seat.old seat.new None }
+    ensures reader { is_declared (opening_of table.now) seat.old ≡ true → is_declared (opening_of table.now) seat.new ≡ true }
     ensures begins { begins_of seat.new ≡ begins_of seat.old }
     ensures asks { requests_of seat.new ≡ requests_of seat.old ++ Request.Abort ∷ [] }
 {

@@ -5,11 +5,11 @@ ghost use Rattle.seq_model.specs.declared.refusal.Refusal.TheVariants.{Ahead};
 ghost use Rattle.tx_table.specs.Seated.{opening_of, view};
 ghost use Rattle.tx_phases.specs.Phases.{Rests};
 ghost use Rattle.driven_turns.specs.Begins.{begins_of};
-ghost use Rattle.driven_turns.specs.Driven.{standing};
+ghost use Rattle.driven_turns.specs.Driven.{is_declared, standing};
 ghost use Rattle.driven_turns.specs.Requested.{requests_of};
 ghost use Rattle.transactions.specs.Ready.{HasBegunSince, HasCalled, HasFinished, HasOpened, IsNew, IsReady};
-ghost use Rattle.transactions.specs.Requests.{HasAborted, HasAskedToBegin, IsBegun, IsLastAborted, IsNotBegun, IsOpen, KeepsReceipts};
-ghost use Rattle.transactions.specs.Requests.{OnlyKnows};
+ghost use Rattle.transactions.specs.Requests.{HasAborted, HasAskedToBegin, HasSameAborted, IsBegun, IsLastAborted, IsNotBegun, IsOpen};
+ghost use Rattle.transactions.specs.Requests.{KeepsReceipts, OnlyKnows};
 
 use crate::reply_room::ReplyRoom;
 use boxes::Boxed;
@@ -110,6 +110,8 @@ impl<V: Value> TxSeat<V> {
         ensures aborted { IsOpen (opening_of table.now) self.old.seat → HasAborted (opening_of table.now) self.old.seat self.new.seat }
         ensures noted { IsOpen (opening_of table.now) self.old.seat →
             IsLastAborted (opening_of table.now) self.old.seat self.new.seat None }
+        ensures same { standing (opening_of table.now) self.old.seat ≡ Rests →
+            HasSameAborted (opening_of table.now) self.old.seat self.new.seat }
         ensures begins { begins_of self.new.seat ≡ begins_of self.old.seat + 1 }
         ensures asks { HasAskedToBegin false (opening_of table.now) self.old.seat self.new.seat }
     {
@@ -136,8 +138,11 @@ impl<V: Value> TxSeat<V> {
         ensures aborted { IsOpen (opening_of table.now) self.old.seat → HasAborted (opening_of table.now) self.old.seat self.new.seat }
         ensures noted { IsOpen (opening_of table.now) self.old.seat →
             IsLastAborted (opening_of table.now) self.old.seat self.new.seat None }
+        ensures same { standing (opening_of table.now) self.old.seat ≡ Rests →
+            HasSameAborted (opening_of table.now) self.old.seat self.new.seat }
         ensures begins { begins_of self.new.seat ≡ begins_of self.old.seat + 1 }
         ensures asks { HasAskedToBegin true (opening_of table.now) self.old.seat self.new.seat }
+        ensures reader { is_declared (opening_of table.now) self.new.seat ≡ true }
     {
         self.abort(table);
         crate::requests::begin_read(

@@ -17,6 +17,11 @@ use Rattle.wolimevar.specs.declared.failures.Failure.TheVariants.{Refused, Abort
 use Rattle.wolimevar.specs.Frames.{calls_made, calls_of}
 use Rattle.wolimevar.specs.Ends.{EndsAs, HasGained, HasGainedNone, IsAbortBy}
 
+-- a fact of what was returned
+pub ok_then : {A E : Type 0} {P Q : A → Type 0} → (r : Result A E) → ((v : A) → P v → Q v) → IfOk r P → IfOk r Q
+ok_then (Ok v) f h = f v h
+ok_then (Err e) f h = tt
+
 module _ {V : Type 0} where
   pub gains_none : (s u : Seat V) → KeepsReceipts s u → HasGainedNone s u
   gains_none s u k = record { same = k.seat.1; shares = k.shares; receipts = k.receipts; last = k.seat.2 }

@@ -1,5 +1,5 @@
 -- Calls of a transaction, by the frame that its scope knows.
-use Rattle.std.proofs.Common.{◌≡◌, ◌⊎◌, ℕ, ◌≤◌, Bool, List, [], ◌∷◌, ◌++◌, Option, Some, None, Ok, Err, inl, inr, refl, sym, ap, ◌∙◌, subst}
+use Rattle.std.proofs.Common.{◌≡◌, ◌⊎◌, ℕ, ◌≤◌, Bool, true, List, [], ◌∷◌, ◌++◌, Option, Some, None, Ok, Err, inl, inr, refl, sym, ap, ◌∙◌, subst}
 use Rattle.std.specs.Prelude.{IfSome, Result}
 use Rattle.std.proofs.lemmas.List.Elements.{All-nil}
 use Rattle.seq_model.specs.declared.call.Call.{Call}
@@ -7,6 +7,7 @@ use Rattle.seq_model.specs.declared.call.Op.{Op}
 use Rattle.seq_model.specs.declared.call.Reply.{Reply}
 use Rattle.seq_model.specs.declared.record.Record.{Record}
 use Rattle.seq_model.specs.declared.event.Request.TheVariants as request
+use Rattle.driven_turns.specs.Driven.{is_declared}
 use Rattle.driven_turns.specs.Requested.{requests_of}
 use Rattle.seq_model.specs.declared.refusal.Refusal.{Refusal}
 use Rattle.replay_log.specs.Seats.{World}
@@ -41,24 +42,37 @@ module _ {V : Type 0} where
   call_asks d t s u call r (inl rests) has = asks_none d _ _ (ap (λ (v : TxSeat V). requests_of v.seat) (has.none rests).1)
   call_asks d t s u call r (inr at) has = asks_for d s.seat u.seat (request.Call call) r tt (has.asks at)
 
-  pub no_calls : (s : Seat V) → HasMadeCalls s s
-  no_calls s = record { keeps = keeps_self s; asks = λ d. asks_none d _ _ refl }
+  -- and a declared reader stays one
+  call_reader : (t : TxTable V) (s u : TxSeat V) (call : Call V) (r : Result (Reply V) Refusal)
+      → (standing (opening_of t) s.seat ≡ Rests) ⊎ IsOpen (opening_of t) s.seat → HasCalled t s u call r
+      → is_declared (opening_of t) s.seat ≡ true → is_declared (opening_of t) u.seat ≡ true
+  call_reader t s u call r (inl rests) has is =
+      ap (λ (v : TxSeat V). is_declared (opening_of t) v.seat) (has.none rests).1 ∙ is
+  call_reader t s u call r (inr at) has is = (has.calls at).reader is
 
-  then_calls : (m s u : Seat V) → HasMadeCalls m s → HasMadeCalls s u → HasMadeCalls m u
-  then_calls m s u h k = record {
+  pub no_calls : (o : World V) (s : Seat V) → HasMadeCalls o s s
+  no_calls o s = record { keeps = keeps_self s; asks = λ d. asks_none d _ _ refl; reader = λ is. is }
+
+  then_calls : (o : World V) (m s u : Seat V) → HasMadeCalls o m s → HasMadeCalls o s u → HasMadeCalls o m u
+  then_calls o m s u h k = record {
     keeps = then_keeps m s u h.keeps k.keeps;
     asks = λ d. then_asks d _ _ _ (h.asks d) (k.asks d);
+    reader = λ is. k.reader (h.reader is);
   }
 
-  since_on : (m : Option (TxSeat V)) (s u : Seat V) → IfSome m (λ b. HasMadeCalls b.seat s) → HasMadeCalls s u
-      → IfSome m (λ b. HasMadeCalls b.seat u)
-  since_on None s u h k = h
-  since_on (Some m) s u h k = then_calls m.seat s u h k
+  since_on : (o : World V) (m : Option (TxSeat V)) (s u : Seat V) → IfSome m (λ b. HasMadeCalls o b.seat s) → HasMadeCalls o s u
+      → IfSome m (λ b. HasMadeCalls o b.seat u)
+  since_on o None s u h k = h
+  since_on o (Some m) s u h k = then_calls o m.seat s u h k
 
-  framed_on : (f : Option (Frame V)) (t : TxTable V) (s u : TxSeat V) → IfSome f (IsIn t s) → HasMadeCalls s.seat u.seat
+  framed_on : (f : Option (Frame V)) (t : TxTable V) (s u : TxSeat V) → IfSome f (IsIn t s) → HasMadeCalls (opening_of t) s.seat u.seat
       → IfSome f (IsIn t u)
   framed_on None t s u h k = h
-  framed_on (Some b) t s u h k = record { table = h.table; since = since_on b.begun s.seat u.seat h.since k }
+  framed_on (Some b) t s u h k = record {
+    table = h.table;
+    since = since_on (opening_of b.table) b.begun s.seat u.seat h.since
+        (subst (λ (v : TxTable V). HasMadeCalls (opening_of v) s.seat u.seat) h.table k);
+  }
 
   -- after a call, the transaction is under way
   pub called_on : (f : Option (Frame V)) (t : TxTable V) (s u : TxSeat V) (call : Call V) (r : Result (Reply V) Refusal)
@@ -69,6 +83,7 @@ module _ {V : Type 0} where
     framed = framed_on f t s u was.framed (record {
       keeps = call_keeps t s u call r was.ready.between has;
       asks = λ d. call_asks d t s u call r was.ready.between has;
+      reader = call_reader t s u call r was.ready.between has;
     });
   }
 
@@ -93,7 +108,7 @@ module _ {V : Type 0} where
 
   -- what a frame says of a transaction
   pub in_frame : (f : Option (Frame V)) (t u : TxTable V) (m : TxSeat V) (s : TxSeat V)
-      → f ≡ Some (record { table = t; begun = Some m }) → IsUnderWay f u s → (u ≡ t) × HasMadeCalls m.seat s.seat
+      → f ≡ Some (record { table = t; begun = Some m }) → IsUnderWay f u s → (u ≡ t) × HasMadeCalls (opening_of t) m.seat s.seat
   in_frame f t u m s is h =
       let at : IfSome (Some (record { table = t; begun = Some m })) (IsIn u s) = subst (λ (g : Option (Frame V)). IfSome g (IsIn u s)) is h.framed in
       (at.table, at.since)
@@ -103,7 +118,7 @@ module _ {V : Type 0} where
   begin_frame f t s is ready since = record {
     ready = ready;
     since = since;
-    framed = subst (λ (g : Option (Frame V)). IfSome g (IsIn t s)) (sym is) (record { table = refl; since = no_calls s.seat });
+    framed = subst (λ (g : Option (Frame V)). IfSome g (IsIn t s)) (sym is) (record { table = refl; since = no_calls (opening_of t) s.seat });
   }
 
   -- a client by its seat

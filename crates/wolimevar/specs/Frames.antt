@@ -1,5 +1,5 @@
 -- What is known of a transaction, or of a client, by its scope: its table, and the seat as it was when it began.
-use Rattle.std.specs.Prelude.{◌≡◌, ℕ, All, Bool, List, [], Option, IfSome}
+use Rattle.std.specs.Prelude.{◌≡◌, ℕ, All, Bool, true, List, [], Option, IfSome}
 use Rattle.seq_model.specs.declared.call.Call.{Call}
 use Rattle.seq_model.specs.declared.call.Reply.{Reply}
 use Rattle.seq_model.specs.declared.record.Record.{Record}
@@ -10,6 +10,7 @@ use Rattle.tx_table.specs.declared.table.TxTable.{TxTable}
 use Rattle.tx_table.specs.Seated.{actor, opening_of, view}
 use Rattle.transactions.specs.declared.seats.TxSeat.{TxSeat}
 use Rattle.transactions.specs.Ready.{HasBegunSince, IsReady, standing}
+use Rattle.driven_turns.specs.Driven.{is_declared}
 use Rattle.driven_turns.specs.Requested.{requests_of}
 use Rattle.transactions.specs.Requests.{KeepsReceipts}
 use Rattle.wolimevar.specs.Asked.{HasAsked}
@@ -40,15 +41,16 @@ module _ {V : Type 0} where
   abbrev pub transaction_at : ℕ → World V → Seat V → TransactionShown V
   transaction_at store o s = record { store = store; calls = calls_made o s }
 
-  -- by calls alone, none of which has gained a receipt
-  pub record HasMadeCalls (m s : Seat V) : Type 0 where
+  -- by calls alone, none of which has gained a receipt; a declared reader stays one
+  pub record HasMadeCalls (o : World V) (m s : Seat V) : Type 0 where
     pub keeps : KeepsReceipts m s
     pub asks : (declared : Bool) → HasAsked declared (requests_of m) (requests_of s)
+    pub reader : is_declared o m ≡ true → is_declared o s ≡ true
 
   -- at the table of the frame, by calls since the seat that it began with
   pub record IsIn (t : TxTable V) (s : TxSeat V) (f : Frame V) : Type 0 where
     pub table : t ≡ f.table
-    pub since : IfSome f.begun (λ m. HasMadeCalls m.seat s.seat)
+    pub since : IfSome f.begun (λ m. HasMadeCalls (opening_of f.table) m.seat s.seat)
 
   -- a transaction, between two of its calls, also one that has ended
   pub record IsUnderWay (f : Option (Frame V)) (t : TxTable V) (s : TxSeat V) : Type 0 where

@@ -3,8 +3,9 @@
 //! One attempt begins a transaction, runs the body in it, and commits it, or aborts it where the body returns an error. After a conflict it
 //! waits, and attempts the body again. The transaction owns the client's seat while it runs: so its type alone says to which transaction it
 //! belongs ([`crate::Scope`]).
-ghost use Rattle.std.specs.Prelude.{◌≡◌, IfErr, IfOk, Err, Ok, Some};
+ghost use Rattle.std.specs.Prelude.{◌≡◌, IfErr, IfOk, Err, Ok, Some, false, true};
 ghost use Rattle.tx_table.specs.Seated.{opening_of};
+ghost use Rattle.driven_turns.specs.Driven.{is_declared};
 ghost use Rattle.driven_turns.specs.Requested.{requests_of};
 ghost use Rattle.transactions.specs.Ready.{HasBegunSince, IsReady};
 ghost use Rattle.transactions.specs.Requests.{KeepsReceipts};
@@ -58,6 +59,7 @@ fn begin<V: Value>(table: &TxTable<V>, seat: &mut TxSeat<V>, declared: bool) -> 
     ensures since { HasBegunSince table.now seat.new }
     ensures keeps { KeepsReceipts seat.old.seat seat.new.seat }
     ensures asks { HasAsked declared (requests_of seat.old.seat) (requests_of seat.new.seat) }
+    ensures reads { declared ≡ true → is_declared (opening_of table.now) seat.new.seat ≡ true }
 {
     if declared {
         seat.begin_read(table)
@@ -78,7 +80,7 @@ fn run_in<V: Value, S: Scope<V>, B: Body<V>>(
     requires frame { S.frame ≡ Some (record { table = table.now; begun = Some seat }) }
     ensures ready { IsReady table.now result.0 }
     ensures since { HasBegunSince table.now result.0 }
-    ensures calls { HasMadeCalls seat.seat result.0.seat }
+    ensures calls { HasMadeCalls (opening_of table.now) seat.seat result.0.seat }
     ensures made { IfOk result.1.gave (λ out. B.makes body.now out (calls_made (opening_of table.now) result.0.seat)) }
     ensures aborts { IfErr result.1.gave (λ error. B.aborts body.now error (calls_made (opening_of table.now) result.0.seat)) }
 {
@@ -111,7 +113,7 @@ fn run<V: Value, B: Body<V>>(
     requires since { HasBegunSince table.now seat }
     ensures ready { IsReady table.now result.0 }
     ensures since { HasBegunSince table.now result.0 }
-    ensures calls { HasMadeCalls seat.seat result.0.seat }
+    ensures calls { HasMadeCalls (opening_of table.now) seat.seat result.0.seat }
     ensures made { IfOk result.1.gave (λ out. B.makes body.now out (calls_made (opening_of table.now) result.0.seat)) }
     ensures aborts { IfErr result.1.gave (λ error. B.aborts body.now error (calls_made (opening_of table.now) result.0.seat)) }
 {
@@ -132,6 +134,7 @@ fn finish<V: Value, T: Drop, E: Drop>(
     ensures ends { EndsAs (λ out calls. (Ok out ≡ ran.gave) × (calls ≡ calls_made (opening_of table.now) seat.old.seat))
         (λ error calls. (Err error ≡ ran.gave) × (calls ≡ calls_made (opening_of table.now) seat.old.seat)) seat.old.seat seat.new.seat result }
     ensures asks { HasAsked declared (requests_of seat.old.seat) (requests_of seat.new.seat) }
+    ensures reads { IfOk result (λ done. is_declared (opening_of table.now) seat.old.seat ≡ true → done.1.writes ≡ false) }
 {
     let _ = declared;
     let Ran { refused, gave } = ran;
@@ -170,6 +173,7 @@ fn attempt<V: Value, B: Body<V>>(
     ensures ready { IsReady table.now result.0 }
     ensures ends { EndsAs (B.makes body.now) (B.aborts body.now) seat.seat result.0.seat result.1 }
     ensures asks { HasAsked declared (requests_of seat.seat) (requests_of result.0.seat) }
+    ensures reads { IfOk result.1 (λ done. declared ≡ true → done.1.writes ≡ false) }
 {
     let mut seat = seat;
     if let Err(cause) = begin(table, &mut seat, declared) {
@@ -200,6 +204,7 @@ pub(crate) fn retry<V: Value, B: Body<V>>(
     ensures ends { EndsAs (B.makes body.now) (B.aborts body.now) seat.seat result.0.seat result.2 }
     ensures asks { HasAsked declared (requests_of seat.seat) (requests_of result.0.seat) }
     ensures counted { AreCounted tries tally result.1 result.2 }
+    ensures reads { IfOk result.2 (λ done. declared ≡ true → done.1.writes ≡ false) }
 {
     let (mut seat, mut ended) = attempt(table, store, seat, body, declared);
     let mut counted = tally.with_end(&ended);

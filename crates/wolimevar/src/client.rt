@@ -103,7 +103,7 @@ impl<'t, V: Value, S: Scope<V>> Client<'t, V, S> {
 
     /// Runs the body as one declared reader, see [`Client::atomically`]. A call that changes something is `NoSuch` in it. It keeps no read
     /// set, so it may read as much as its calls allow, and it commits without a lock; but a location that others change meanwhile refuses it
-    /// (`Moved`), so a long reader beside many writers needs more tries.
+    /// (`Moved`), so a long reader beside many writers needs more tries. Its receipt says that nothing was written.
     pub fn look<B: Body<V>>(
         &mut self,
         tries: u64,
@@ -117,6 +117,7 @@ impl<'t, V: Value, S: Scope<V>> Client<'t, V, S> {
         ensures aborts { IfErr result (IsAbortBy (B.aborts body.now)) }
         ensures asks { HasAsked true self.old.asked self.new.asked }
         ensures counted { AreCounted tries self.old.tally self.new.tally result }
+        ensures reads { IfOk result (λ done. done.1.writes ≡ false) }
     {
         self.retry_as(tries, body, true)
     }
@@ -135,6 +136,7 @@ impl<'t, V: Value, S: Scope<V>> Client<'t, V, S> {
         ensures aborts { IfErr result (IsAbortBy (B.aborts body.now)) }
         ensures asks { HasAsked declared self.old.asked self.new.asked }
         ensures counted { AreCounted tries self.old.tally self.new.tally result }
+        ensures reads { IfOk result (λ done. declared ≡ true → done.1.writes ≡ false) }
     {
         match self.seat.take() {
             Some(seat) => {

@@ -85,6 +85,7 @@ impl<V: Value> Store<V> {
         ensures aborts { IfErr result (IsAbortBy (B.aborts body.now)) }
         ensures asks { HasAsked true self.old.asked self.new.asked }
         ensures counted { AreCounted tries self.old.tally self.new.tally result }
+        ensures reads { IfOk result (λ done. done.1.writes ≡ false) }
     {
         self.retry_as(tries, body, true)
     }
@@ -104,6 +105,7 @@ impl<V: Value> Store<V> {
         ensures aborts { IfErr result (IsAbortBy (B.aborts body.now)) }
         ensures asks { HasAsked declared self.old.asked self.new.asked }
         ensures counted { AreCounted tries self.old.tally self.new.tally result }
+        ensures reads { IfOk result (λ done. declared ≡ true → done.1.writes ≡ false) }
     {
         match self.seat.take() {
             Some(seat) => {

@@ -52,7 +52,7 @@ returns-in-Err-clause-calls g c =
     subst (λ (e : Refusal). CallsTo (opening_of c.args.table.now) c.args.seat.now c.args.call c.ask_open.new.seat (Err e))
     (sym c.in-Err.ensures.memory)
     (call_starved (opening_of c.args.table.now) c.args.seat.now c.ask_open.new.seat c.args.call c.in-Err.ensures.keeps
-    c.in-Err.ensures.rests c.in-Err.ensures.aborted c.in-Err.ensures.noted c.in-Err.ensures.admits)
+    c.in-Err.ensures.rests c.in-Err.ensures.aborted c.in-Err.ensures.noted c.in-Err.ensures.reader c.in-Err.ensures.admits)
 
 pub returns-in-Ok-Quiet-clause-begins : goal.returns-in-Ok-Quiet-clause-begins
 returns-in-Ok-Quiet-clause-begins g c =

@@ -5,8 +5,9 @@ use Rattle.driven_turns.proofs.GivenUpLemmas.{under_ends}
 use Rattle.driven_turns.proofs.RequestedLemmas.{same_begins}
 use Rattle.driven_turns.proofs.RestLemmas.{bare_out}
 use Rattle.driven_turns.specs.Driven.{seat_in}
-use Rattle.transactions.proofs.RequestLemmas.{abort_ends, abort_noted, abort_own, abort_told, asked_keeps, asks_one, begins_none, ends_to}
-use Rattle.transactions.proofs.RequestLemmas.{is_open, then_keeps}
+use Rattle.transactions.proofs.RequestLemmas.{abort_ends, abort_noted, abort_own, abort_told, asked_keeps, asked_reader, asks_one, begins_none}
+use Rattle.transactions.proofs.CallLemmas.{stands_at}
+use Rattle.transactions.proofs.RequestLemmas.{ends_to, is_open, then_keeps}
 use Rattle.transactions.proofs.requests.abort.Goals as goal
 
 pub ask_abort-requires-clause-open : goal.ask_abort-requires-clause-open
@@ -66,3 +67,10 @@ returns-clause-begins g c =
 pub returns-clause-asks : goal.returns-clause-asks
 returns-clause-asks g c =
     c.drive.ensures.driven.asks ∙ asks_one c.args.seat.now c.ask_abort.new.seat Abort c.ask_abort.ensures.asked
+
+pub returns-clause-reader : goal.returns-clause-reader
+returns-clause-reader g c is =
+    c.drive.ensures.driven.reader
+    (asked_reader (opening_of c.args.table.now) c.args.seat.now c.ask_abort.new.seat Abort
+    (stands_at (seat_in (opening_of c.args.table.now) c.args.seat.now).calls c.requires.open.0
+    (seat_in (opening_of c.args.table.now) c.args.seat.now).stage c.requires.open.1) c.ask_abort.ensures.asked is)

@@ -59,3 +59,8 @@ pub returns-clause-same : goal.returns-clause-same
 returns-clause-same g c =
     c.begun.ensures.same
     ∙ asked_aborted (opening_of c.args.table.now) c.args.seat.now c.ask_begin_read.new.seat BeginRead c.ask_begin_read.ensures.asked
+
+pub returns-clause-reader : goal.returns-clause-reader
+returns-clause-reader g c =
+    c.begun.ensures.reader (asked_begin_read c.args.table.now c.args.seat.now c.ask_begin_read.new.seat c.args.actor.now
+    c.requires.drives.ties c.requires.rests c.ask_begin_read.ensures.asked)

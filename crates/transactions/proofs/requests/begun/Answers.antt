@@ -61,3 +61,6 @@ pub returns-clause-same : goal.returns-clause-same
 returns-clause-same g c =
     c.drive_begin-told.ensures.driven.aborted.begin
     (begins c.args.table.now c.args.seat.now c.args.actor.now c.requires.drives.ties c.requires.stage)
+
+pub returns-clause-reader : goal.returns-clause-reader
+returns-clause-reader g c = c.drive_begin-told.ensures.driven.reader

@@ -1,7 +1,7 @@
 use Rattle.tx_table.specs.Seated.{opening_of}
 use Rattle.transactions.proofs.RequestLemmas.{then_keeps}
 use Rattle.wolimevar.proofs.AskedLemmas.{then_asks}
-use Rattle.wolimevar.proofs.EndLemmas.{attempted, refused}
+use Rattle.wolimevar.proofs.EndLemmas.{attempted, ok_then, refused}
 use Rattle.wolimevar.proofs.attempts.attempt.Goals as goal
 
 pub returns-in-Err-clause-ends : goal.returns-in-Err-clause-ends
@@ -18,3 +18,7 @@ pub returns-clause-asks : goal.returns-clause-asks
 returns-clause-asks g c =
     then_asks c.args.declared _ _ _ c.begin.ensures.asks
     (then_asks c.args.declared _ _ _ (c.run-seat.ensures.calls.asks c.args.declared) c.finish-ended.ensures.asks)
+
+pub returns-clause-reads : goal.returns-clause-reads
+returns-clause-reads g c =
+    ok_then c.finish-ended.result (λ _ wrote is. wrote (c.run-seat.ensures.calls.reader (c.begin.ensures.reads is))) c.finish-ended.ensures.reads

@@ -1,4 +1,4 @@
-use Rattle.std.proofs.Common.{rules, ◌≡◌, true, false, subst, sym}
+use Rattle.std.proofs.Common.{rules, ◌≡◌, true, false, true≢false, subst, sym, ◌∙◌}
 use Rattle.tx_table.specs.Seated.{opening_of}
 use Rattle.driven_turns.specs.Requested.{requests_of}
 use Rattle.wolimevar.specs.Asked.{HasAsked}
@@ -18,3 +18,11 @@ returns-else-declared-clause-asks g c =
     subst (λ d. HasAsked d (requests_of c.args.seat.now.seat) (requests_of c.begin.new.self.seat)) (sym is)
     (asks_to_begin false (opening_of c.args.table.now) c.args.seat.now.seat c.begin.new.self.seat c.requires.ready.between
     c.begin.ensures.asks)
+
+pub returns-then-declared-clause-reads : goal.returns-then-declared-clause-reads
+returns-then-declared-clause-reads g c = λ _. c.begin_read.ensures.reader
+
+pub returns-else-declared-clause-reads : goal.returns-else-declared-clause-reads
+returns-else-declared-clause-reads g c =
+    let isnt : c.args.declared ≡ false = search rules in
+    λ is. absurd (true≢false (sym is ∙ isnt))

@@ -41,3 +41,6 @@ pub returns-in-None-clause-asks : goal.returns-in-None-clause-asks
 returns-in-None-clause-asks g c =
     abort_asks c.args.declared (opening_of c.args.table.now) c.args.seat.now c.abort.new.self c.requires.ready.between c.abort.ensures.none
     c.abort.ensures.asks
+
+pub returns-in-Ok-commit-clause-reads : goal.returns-in-Ok-commit-clause-reads
+returns-in-Ok-commit-clause-reads g c = c.in-Ok-commit.ensures.finished.commits.reader

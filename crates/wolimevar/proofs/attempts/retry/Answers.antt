@@ -17,6 +17,7 @@ tries-init g c = record {
   asks = c.attempt-seat.ensures.asks;
   counted = first_end c.args.tally _ c.attempt-seat.result.1 c.with_end-counted.ensures;
   few = omega arith;
+  reads = c.attempt-seat.ensures.reads;
 }
 
 pub tries-preserved : goal.tries-preserved
@@ -37,4 +38,5 @@ tries-preserved g c =
       counted = next_end _ _ _ _ c.tries.ended c.in-Err-Refused.cause c.attempt.result.1 is conflict c.tries.invariant.counted
           c.with_end-counted-in-Err-Refused.ensures;
       few = omega arith;
+      reads = c.attempt.ensures.reads;
     }

@@ -1,5 +1,5 @@
 use Rattle.std.proofs.Common.{◌≡◌, ◌≤◌}
-use Rattle.std.specs.Prelude.{max}
+use Rattle.std.specs.Prelude.{IfOk, false, max, true}
 use Rattle.driven_turns.specs.Requested.{requests_of}
 use Rattle.transactions.specs.Ready.{IsReady}
 use Rattle.wolimevar.specs.Asked.{HasAsked}
@@ -15,4 +15,5 @@ invariant-tries g l = record {
   asks : HasAsked l.declared (requests_of l.fn.seat.seat) (requests_of l.seat.seat);
   counted : AreSoFar l.i l.fn.tally l.counted l.ended;
   few : l.i ≤ max l.tries 1;
+  reads : IfOk l.ended (λ done. l.declared ≡ true → done.1.writes ≡ false);
 }

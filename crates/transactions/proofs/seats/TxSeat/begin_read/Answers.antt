@@ -1,10 +1,11 @@
 use Rattle.std.proofs.Common.{◌∙◌, ap, arith, true}
 use Rattle.seq_model.specs.declared.event.Answer.TheVariants as answer
 use Rattle.tx_actor.specs.declared.actor.Told.TheVariants as told
-use Rattle.tx_table.specs.Seated.{opening_of}
+use Rattle.tx_table.specs.Seated.{acts, opening_of}
 use Rattle.transactions.proofs.AskLemmas.{asked_to_begin}
 use Rattle.transactions.proofs.ReadyLemmas.{begun_ready}
 use Rattle.transactions.proofs.RequestLemmas.{begun_since, told_on}
+use Rattle.transactions.specs.declared.seats.TxSeat.{TxSeat}
 use Rattle.transactions.proofs.seats.TxSeat.begin_read.Goals as goal
 
 pub returns-clause-begun : goal.returns-clause-begun
@@ -38,3 +39,7 @@ returns-clause-ready g c =
 
 pub returns-clause-noted : goal.returns-clause-noted
 returns-clause-noted g c opened = c.begin_read.ensures.same ∙ c.abort.ensures.noted opened
+
+pub returns-clause-same : goal.returns-clause-same
+returns-clause-same g c rests =
+    c.begin_read.ensures.same ∙ ap (λ (k : TxSeat _). (acts (opening_of c.args.table.now) k.seat).aborted) (c.abort.ensures.none rests)

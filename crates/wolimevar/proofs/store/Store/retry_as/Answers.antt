@@ -73,3 +73,6 @@ returns-clause-counted g c =
     let v = store_shows c.self.inside.number c.self.inside.table c.self.inside.seat c.in-Some.seat c.self.inside.tally c.args.self.now c.self.view_is is in
     subst (λ (d : StoreShown g.row.V.Denot). AreCounted c.args.tries d.tally c.retry-seat.result.1 c.retry-seat.result.2) v
     c.retry-seat.ensures.counted
+
+pub returns-clause-reads : goal.returns-clause-reads
+returns-clause-reads g c = c.retry-seat.ensures.reads
