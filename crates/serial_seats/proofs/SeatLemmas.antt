@@ -20,7 +20,6 @@ use Rattle.seq_model.specs.declared.refusal.Refusal.TheVariants as refusal
 use Rattle.collection_machine.specs.Boosted.{is_actor}
 use Rattle.collection_machine.specs.Content.{has}
 use Rattle.replay_log.specs.Contents.{Block, HaveStripes}
-use Rattle.replay_log.specs.Seats as worlds
 use Rattle.replay_log.specs.WorldSerial.{IsSerial}
 use Rattle.replay_log.specs.Worlds.{World, Seat, Stage, Idle, Beginning, Open, Locking, Closing, Cancelling, Leaving, Reading, Trying}
 use Rattle.replay_log.specs.Worlds.{Copying, Loading, Gating, Ready, Returning, acted, actor_of, ask_at, asks, at_stage, because}

@@ -15,7 +15,7 @@ use Rattle.transactions.specs.declared.seats.TxSeat.{TxSeat}
 use Rattle.transactions.specs.Ready.{IsReady}
 use Rattle.transactions.specs.Requests.{OnlyKnows}
 use Rattle.wolimevar.specs.Clients.{IsAtClient, shown, shown_at}
-use Rattle.wolimevar.specs.Ends.{ClientShown, EndsAs, HasGained, HasGainedNone}
+use Rattle.wolimevar.specs.Ends.{ClientShown, EndsAs}
 use Rattle.tx_table.specs.declared.view.TheConstants.{SHARES}
 use Rattle.wolimevar.specs.Frames.{AreBy, Frame, GoesOn, IsOfSeat}
 use Rattle.wolimevar.specs.Stores.{StoreShown}

@@ -1,5 +1,5 @@
 -- Calls of a transaction, by the frame that its scope knows.
-use Rattle.std.proofs.Common.{◌≡◌, ◌⊎◌, ℕ, ◌≤◌, Bool, true, List, [], ◌∷◌, ◌++◌, Option, Some, None, Ok, Err, inl, inr, refl, sym, ap, ◌∙◌, subst}
+use Rattle.std.proofs.Common.{◌≡◌, ◌⊎◌, ℕ, Bool, true, List, [], ◌∷◌, ◌++◌, Option, Some, None, Ok, Err, inl, inr, refl, sym, ap, ◌∙◌, subst}
 use Rattle.std.specs.Prelude.{IfSome, Result}
 use Rattle.std.proofs.lemmas.List.Elements.{All-nil}
 use Rattle.seq_model.specs.declared.call.Call.{Call}
@@ -10,8 +10,7 @@ use Rattle.seq_model.specs.declared.event.Request.TheVariants as request
 use Rattle.driven_turns.specs.Driven.{is_declared}
 use Rattle.driven_turns.specs.Requested.{requests_of}
 use Rattle.seq_model.specs.declared.refusal.Refusal.{Refusal}
-use Rattle.replay_log.specs.Seats.{World}
-use Rattle.tx_phases.specs.Phases.{Phase, Rests, Stands}
+use Rattle.tx_phases.specs.Phases.{Rests}
 use Rattle.tx_table.specs.declared.seat.Seat.{Seat}
 use Rattle.tx_table.specs.declared.table.TxTable.{TxTable}
 use Rattle.tx_table.specs.Seated.{actor, opening_of, view}

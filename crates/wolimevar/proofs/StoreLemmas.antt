@@ -4,7 +4,6 @@ use Rattle.std.specs.Prelude.{IfOk, OnErr, Result}
 use Rattle.seq_model.specs.declared.call.Call.{Call}
 use Rattle.seq_model.specs.declared.call.Reply.{Reply}
 use Rattle.seq_model.specs.declared.record.Record.{Record}
-use Rattle.seq_model.specs.declared.refusal.Refusal.{Refusal}
 use Rattle.tx_table.specs.declared.table.TxTable.{TxTable}
 use Rattle.tx_table.specs.Seated.{actor, view}
 use Rattle.transactions.specs.declared.seats.TxSeat.{TxSeat}

@@ -1,5 +1,5 @@
-use Rattle.std.proofs.Common.{rules, ◌≡◌, ◌≤◌, Err, arith, subst}
-use Rattle.std.specs.Prelude.{OnErr, Result, max}
+use Rattle.std.proofs.Common.{rules, ◌≡◌, Err, arith, subst}
+use Rattle.std.specs.Prelude.{OnErr, Result}
 use Rattle.seq_model.specs.declared.record.Record.{Record}
 use Rattle.seq_model.specs.Refusals.{IsConflict}
 use Rattle.wolimevar.specs.declared.failures.Failure.{Failure}
@@ -7,7 +7,7 @@ use Rattle.wolimevar.specs.declared.failures.Failure.TheVariants.{Refused}
 use Rattle.wolimevar.specs.Ends.{HasGainedNone}
 use Rattle.wolimevar.proofs.AskedLemmas.{then_asks}
 use Rattle.wolimevar.proofs.EndLemmas.{gained_none, then_ends}
-use Rattle.wolimevar.proofs.TallyLemmas.{all_ends, first_end, next_end}
+use Rattle.wolimevar.proofs.TallyLemmas.{first_end, next_end}
 use Rattle.wolimevar.proofs.attempts.retry.Goals as goal
 
 pub tries-init : goal.tries-init

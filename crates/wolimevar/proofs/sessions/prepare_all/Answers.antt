@@ -1,4 +1,4 @@
-use Rattle.std.proofs.Common.{rules, ◌≡◌, ◌-◌, ◌<◌, ◌∙◌, Some, ap, arith, length, refl, sym}
+use Rattle.std.proofs.Common.{rules, ◌≡◌, ◌-◌, ◌<◌, ◌∙◌, ap, arith, length, refl}
 use Rattle.std.proofs.lemmas.List.{length_push}
 use Rattle.tx_table.specs.Seated.{view}
 use Rattle.wolimevar.proofs.SessionLemmas.{prepared_more}

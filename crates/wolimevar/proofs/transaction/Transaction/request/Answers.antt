@@ -1,4 +1,4 @@
-use Rattle.wolimevar.proofs.FrameLemmas.{call_shown, called_on}
+use Rattle.wolimevar.proofs.FrameLemmas.{called_on}
 use Rattle.wolimevar.proofs.transaction.Transaction.request.Goals as goal
 
 pub invariant_of-self-in-Err : goal.invariant_of-self-in-Err
