@@ -14,7 +14,7 @@ const ATTEMPTS: u64 = 1_000_000;
 const TRIES: u64 = 3;
 
 /// The numbers of jobs that are ready, the least one the most urgent; how often each job that isn't finished may still be tried; the jobs
-/// that were done, and those whose every try failed; and how many producers go on.
+/// that were done, and those whose every try failed; and how many producers are still at work.
 #[derive(Clone, Copy)]
 struct Jobs {
     ready: PriorityQueue,

@@ -1,4 +1,4 @@
--- What attempts come to, one after another.
+-- How attempts end, one after another.
 use Rattle.std.proofs.Common.{◌≡◌, ◌≤◌, List, Ok, Err, refl, sym, ap, ◌∙◌, subst}
 use Rattle.std.specs.Prelude.{IfErr, IfOk, OnErr, Result}
 use Rattle.seq_model.specs.declared.call.Call.{Call}
@@ -57,7 +57,7 @@ module _ {V : Type 0} where
     unfolding EndsAs
     refused s u cause k = (gains_none s u k, tt)
 
-    -- a body that gave up
+    -- a body that aborted
     pub aborted : (s u : Seat V) (e : E) (calls : List (Call V × Reply V)) → KeepsReceipts s u → aborts e calls
         → EndsAs makes aborts s u (Err (Aborted e))
     unfolding EndsAs

@@ -77,7 +77,7 @@ impl<V: Value> Layout<V> {
         Ok(Word::of(self.store, next))
     }
 
-    /// Adds a map that holds these entries at first. Refused as `word` is.
+    /// Adds a map that holds these entries at first. Refused like `word`.
     pub fn map(&mut self, stripes: u32, entries: Entries<V>) -> Result<Map<V>, Refusal>
         ensures same { self.new.store ≡ self.old.store }
         ensures store { IfOk result (λ handle. handle.store ≡ self.new.store) }
@@ -87,7 +87,7 @@ impl<V: Value> Layout<V> {
         Ok(Map::of(self.store, number))
     }
 
-    /// Adds a multiset that holds these counts at first. Refused as `word` is.
+    /// Adds a multiset that holds these counts at first. Refused like `word`.
     pub fn bag(&mut self, stripes: u32, counts: Counts) -> Result<Bag, Refusal>
         ensures same { self.new.store ≡ self.old.store }
         ensures store { IfOk result (λ handle. handle.store ≡ self.new.store) }
@@ -97,7 +97,7 @@ impl<V: Value> Layout<V> {
         Ok(Bag::of(self.store, number))
     }
 
-    /// Adds a priority queue that holds these counts at first. Refused as `word` is.
+    /// Adds a priority queue that holds these counts at first. Refused like `word`.
     pub fn priority_queue(&mut self, stripes: u32, counts: Counts) -> Result<PriorityQueue, Refusal>
         ensures same { self.new.store ≡ self.old.store }
         ensures store { IfOk result (λ handle. handle.store ≡ self.new.store) }
@@ -107,7 +107,7 @@ impl<V: Value> Layout<V> {
         Ok(PriorityQueue::of(self.store, number))
     }
 
-    /// Adds a queue that holds these items at first. Refused as `word` is.
+    /// Adds a queue that holds these items at first. Refused like `word`.
     pub fn queue(&mut self, stripes: u32, items: QueueItems) -> Result<Queue, Refusal>
         ensures same { self.new.store ≡ self.old.store }
         ensures store { IfOk result (λ handle. handle.store ≡ self.new.store) }

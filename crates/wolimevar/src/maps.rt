@@ -32,7 +32,7 @@ impl<V: Value> Map<V> {
         }
     }
 
-    /// The value at a key.
+    /// A copy of the value at a key.
     pub fn get<S: Scope<V>>(
         &self,
         tx: &mut Transaction<'_, V, S>,
@@ -69,7 +69,7 @@ impl<V: Value> Map<V> {
         value_in(reply)
     }
 
-    /// How many keys the map has.
+    /// How many keys the map has. It reads every stripe.
     pub fn len<S: Scope<V>>(&self, tx: &mut Transaction<'_, V, S>) -> Result<u64, Refusal>
         ensures { IfOk result (λ count. HasMade tx.old self.now.store self.now.number op.Len (replies.Number count) tx.new) }
     {

@@ -25,7 +25,7 @@ impl PriorityQueue {
         PriorityQueue { store, number }
     }
 
-    /// The least element, which stays.
+    /// The least element. It is not taken out.
     pub fn least<V: Value, S: Scope<V>>(
         &self,
         tx: &mut Transaction<'_, V, S>,
@@ -48,7 +48,7 @@ impl PriorityQueue {
         room_in(reply)
     }
 
-    /// Takes one copy of the least element out, and returns it.
+    /// Takes one copy of the least element out, and returns it. It reads every stripe, so it costs as much as there are stripes.
     pub fn take_least<V: Value, S: Scope<V>>(
         &self,
         tx: &mut Transaction<'_, V, S>,

@@ -49,7 +49,7 @@ impl Queue {
         found_in(reply)
     }
 
-    /// The first item, which stays.
+    /// The first item. It is not taken out.
     pub fn peek<V: Value, S: Scope<V>>(
         &self,
         tx: &mut Transaction<'_, V, S>,

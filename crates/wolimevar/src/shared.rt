@@ -22,7 +22,7 @@ impl<T> Model for Shared<T> {
 }
 
 impl<T: Value> Shared<T> {
-    /// Allocates the one place for the value.
+    /// Allocates the one place for the value. `Memory` where that fails.
     pub fn new(alloc: Global, value: T) -> Result<Shared<T>, Memory>
         ensures { IfOk result (λ shared. shared ≡ value) }
     {

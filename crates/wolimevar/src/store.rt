@@ -51,7 +51,7 @@ impl<V> Model for Store<V> {
 }
 
 impl<V: Value> Store<V> {
-    /// Runs the body as one transaction, which may write, see [`crate::Client::atomically`].
+    /// Runs the body as one transaction, which may write, like [`crate::Client::atomically`].
     pub fn atomically<B: Body<V>>(
         &mut self,
         tries: u64,
@@ -70,7 +70,7 @@ impl<V: Value> Store<V> {
         self.retry_as(tries, body, false)
     }
 
-    /// Runs the body as one declared reader, see [`crate::Client::look`].
+    /// Runs the body as one declared reader, like [`crate::Client::look`].
     pub fn look<B: Body<V>>(
         &mut self,
         tries: u64,
@@ -143,7 +143,7 @@ impl<V: Value> Store<V> {
         }
     }
 
-    /// Learns the number of a commit at this store, see [`crate::Client::learn`].
+    /// Learns the number of a commit at this store, like [`crate::Client::learn`].
     pub fn learn(&mut self, number: u64) -> Result<(), Refusal>
         ensures number { self.new.number ≡ self.old.number }
         ensures opening { self.new.opening ≡ self.old.opening }
@@ -169,6 +169,7 @@ impl<V: Value> Store<V> {
     /// order, once all have ended. The receipts of the sessions are added to the store's, those of one session after those of another.
     ///
     /// `TooLong` beyond 63 sessions, and `Memory` where an allocation fails: then no session was served, and the store is unchanged.
+    ///
     /// Where a thread can't be started, its session is served after others; so a session that waits for another one to do something may wait
     /// forever.
     pub fn run<R: Threads + Sync, N: Session<V> + Drop + Send>(

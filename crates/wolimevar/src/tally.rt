@@ -5,13 +5,13 @@ ghost use Rattle.wolimevar.specs.Tallies.{one_more, with_end, with_refusal};
 use crate::failures::Failure;
 use seq_model::Refusal;
 
-/// How many attempts ended in each way. A count stays at the greatest `u64` once it is there.
+/// How many attempts ended in each way. A count that is the greatest `u64` is not raised further.
 #[derive(Clone, Copy, Debug, PartialEq, Eq)]
 pub struct Tally {
     pub committed: u64,
     /// The body returned an error of its own.
     pub aborted: u64,
-    /// Refused as `Moved`; and so on.
+    /// Refused as `Moved`; the next five likewise, as `Busy` to `Memory`.
     pub moved: u64,
     pub busy: u64,
     pub stale: u64,

@@ -21,7 +21,7 @@ impl Model for Text {
 }
 
 impl Text {
-    /// A copy of this text.
+    /// A copy of this text. `Memory` where an allocation fails.
     pub fn of(alloc: Global, text: &str) -> Result<Text, Memory>
         ensures { IfOk result (λ made. made ≡ text.now) }
     {
