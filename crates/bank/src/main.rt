@@ -4,29 +4,12 @@
 use std::alloc::Global;
 use std::thread::Threads;
 use wolimevar::{
-    Body, Client, Counts, Entries, Full, Layout, Map, Memory, PriorityQueue, Queue, QueueItems,
-    Refusal, Scope, Session, Text, Transaction, Value,
+    Body, Client, Counts, Entries, Layout, Map, PriorityQueue, Queue, QueueItems, Refusal, Scope,
+    Session, Text, Transaction,
 };
 
-/// How often a transaction is attempted at most.
-const TRIES: u64 = 1_000_000;
-
-#[derive(Drop)]
-struct Account {
-    owner: Text,
-    balance: u64,
-}
-
-impl Value for Account {
-    fn try_copy(&self) -> Result<Account, Memory> {
-        let (owner, balance) = (self.owner.try_copy()?, self.balance);
-        Ok(Account { owner, balance })
-    }
-
-    fn same(&self, other: &Account) -> bool {
-        self.owner.same(&other.owner) && self.balance == other.balance
-    }
-}
+/// An account: its owner, and its balance.
+type Account = (Text, u64);
 
 /// The accounts by number, the transfers that were made, and the accounts that fell low.
 #[derive(Clone, Copy)]
@@ -49,12 +32,6 @@ impl From<Refusal> for Declined {
     }
 }
 
-impl From<Full> for Declined {
-    fn from(full: Full) -> Declined {
-        Declined::Refused(full.into())
-    }
-}
-
 #[derive(Drop)]
 struct Transfer {
     bank: Bank,
@@ -71,20 +48,16 @@ impl Body<Account> for Transfer {
 
     fn run<S: Scope<Account>>(&self, tx: &mut Transaction<'_, Account, S>) -> Result<(), Declined> {
         let bank = self.bank;
-        let mut giver = bank.accounts.get(tx, self.from)?.ok_or(Declined::Absent)?;
-        let left = giver
-            .balance
-            .checked_sub(self.amount)
-            .ok_or(Declined::NoMoney)?;
-        if left < 60 && giver.balance >= 60 {
-            bank.alerts.insert(tx, self.from)??;
+        let (owner, balance) = bank.accounts.get(tx, self.from)?.ok_or(Declined::Absent)?;
+        let left = balance.checked_sub(self.amount).ok_or(Declined::NoMoney)?;
+        if left < 60 && balance >= 60 {
+            bank.alerts.insert(tx, self.from)?.map_err(Refusal::from)?;
         }
-        giver.balance = left;
-        bank.accounts.put(tx, self.from, giver)?;
-        let mut taker = bank.accounts.get(tx, self.to)?.ok_or(Declined::Absent)?;
-        taker.balance = taker.balance.saturating_add(self.amount);
-        bank.accounts.put(tx, self.to, taker)?;
-        bank.audit.enqueue(tx, self.id)??;
+        bank.accounts.put(tx, self.from, (owner, left))?;
+        let (owner, balance) = bank.accounts.get(tx, self.to)?.ok_or(Declined::Absent)?;
+        let paid = balance.saturating_add(self.amount);
+        bank.accounts.put(tx, self.to, (owner, paid))?;
+        bank.audit.enqueue(tx, self.id)?.map_err(Refusal::from)?;
         Ok(())
     }
 }
@@ -101,7 +74,7 @@ impl Body<Account> for Total {
         let mut total = 0u64;
         for number in 0..6u64 {
             let account = self.0.accounts.get(tx, number)?;
-            total = total.saturating_add(account.map_or(0, |account| account.balance));
+            total = total.saturating_add(account.map_or(0, |(_, balance)| balance));
         }
         Ok(total)
     }
@@ -129,10 +102,11 @@ impl Session<Account> for Desk {
                     to: i % 4 + 3,
                     amount: i % 5,
                 };
-                done = done.saturating_add(u64::from(client.atomically(TRIES, &transfer).is_ok()));
+                let made = client.atomically(u64::MAX, &transfer).is_ok();
+                done = done.saturating_add(u64::from(made));
             },
             Desk::Reader(bank) => for _ in 0..50u64 {
-                let right = matches!(client.look(TRIES, &Total(bank)), Ok((600, _)));
+                let right = matches!(client.look(u64::MAX, &Total(bank)), Ok((600, _)));
                 done = done.saturating_add(u64::from(right));
             },
         }
@@ -144,8 +118,8 @@ impl Session<Account> for Desk {
 fn serve<R: Threads + Sync>(rt: &R, alloc: Global) -> Result<(Vec<u64>, usize, u64), Refusal> {
     let mut accounts = Entries::new(alloc);
     for number in 0..6u64 {
-        let (owner, balance) = (Text::from(format!(in alloc; "owner {number}")?), 100);
-        accounts.insert(number, Account { owner, balance })?;
+        let owner = Text::from(format!(in alloc; "owner {number}")?);
+        accounts.insert(number, (owner, 100))?;
     }
     let mut layout = Layout::new(alloc);
     let bank = Bank {
