@@ -7,7 +7,7 @@ use Rattle.replay_log.specs.Seats.{World}
 use Rattle.tx_phases.specs.Phases.{Phase, Rests, Begins, Stands, Calls, Commits, Committed, Ends}
 use Rattle.tx_table.specs.declared.seat.Seat.{Seat}
 use Rattle.tx_table.specs.declared.table.TxTable.{TxTable}
-use Rattle.tx_table.specs.Seated.{actor, view}
+use Rattle.tx_table.specs.Seated.{actor, opening_of, view}
 use Rattle.transactions.specs.declared.seats.TxSeat.{TxSeat}
 use Rattle.transactions.specs.Ready.{HasBegunSince, IsReady, standing}
 use Rattle.driven_turns.specs.Driven.{is_declared}
