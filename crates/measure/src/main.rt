@@ -17,7 +17,6 @@ use std::thread::Threads;
 use std::{env, io};
 use work::{On, Work};
 
-mod audit;
 mod bases;
 mod clock;
 mod engine;
@@ -33,21 +32,18 @@ mod sessions;
 mod sets;
 mod tries;
 mod work;
-mod worlds;
 
 /// What is printed where no name is given.
 const NAMES: &str = "Usage: measure NAME [NUMBERS]
 
 Each name runs a benchmark, for seconds up to some minutes, and prints what it took:
 
-  audit          audits of 100,000 records of four calls, in milliseconds
   bases          a take and a put on a queue or a priority queue, by how much it holds, in microseconds a transaction
   engine         transactions at seats of a shared table, in 1, 2 and 4 threads, beside the same calls under one lock
   ordered        drawn sessions of one client, one after another on a world, in microseconds a session
   reservations   actions on the reservation tables, in thousands a second
   sessions       drawn sessions by workers on a shared table, beside the same sessions under one lock
   sets           puts into sets of a transaction and finds in them, in nanoseconds a call
-  world          events on a world of 64 actors, in thousands a second
 
 With numbers behind it, a name runs one row alone:
 
@@ -94,14 +90,12 @@ fn measure_all<R: Runtime + AllocGlobal + Threads + Wait + Sync>(
     name: &str,
 ) -> io::Result<()> {
     match name {
-        "audit" => audit::measure(rt),
         "bases" => bases::measure(rt),
         "engine" => engine::measure(rt),
         "ordered" => ordered::measure(rt),
         "reservations" => reservations::measure(rt),
         "sessions" => rows::measure(rt),
         "sets" => sets::measure(rt),
-        "world" => worlds::measure(rt),
         _ => Err(io::Error::other("no benchmark has this name")),
     }
 }
