@@ -13,7 +13,8 @@ mod tool;
 mod words;
 mod work;
 
-pub use served_runs::{NoProgress, Pace, Progress};
+pub use run_progress::{NoProgress, Progress};
+pub use served_runs::Pace;
 pub use tool::{AUDIT_FAULT, DONE, MEMORY, REFUSED, fault, refuse_memory, run_file, run_tool};
 pub use words::file_of;
 pub use work::FILE_LIMIT;

@@ -12,9 +12,8 @@ ghost use Rattle.seq_model.specs.declared.refusal.Refusal.TheVariants.{Memory as
 ghost use Rattle.session_output.specs.declared.fault.RunFault.TheVariants.{Refused};
 
 use seq_model::{Memory, Refusal};
-use served_runs::{
-    Drawn, Progress, Times, print_drawn, print_times, print_times_as_values, run_drawn,
-};
+use run_progress::Progress;
+use served_runs::{Drawn, Times, print_drawn, print_times, print_times_as_values, run_drawn};
 use session_output::RunFault;
 use session_text::{audit_run, print_trace, run_script};
 use std::alloc::{AllocError, Global};
@@ -134,7 +133,7 @@ fn bytes_of<H: Threads + Wait + Sync, P: Progress + Sync>(
 {
     match work {
         Work::Step => step(alloc, text),
-        Work::Vacation => session_files::output_of(alloc, text),
+        Work::Vacation => session_files::output_of(alloc, text, progress),
         Work::Served(workers) => served_runs::output_of(rt, alloc, text, workers, progress),
     }
 }

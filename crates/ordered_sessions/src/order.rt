@@ -12,6 +12,7 @@ ghost use Rattle.ordered_sessions.specs.Turns.{HasOpened, IsAtRest, RunsAll};
 
 use crate::session::run_session;
 use conflict::is_stripe_count;
+use run_progress::Progress;
 use running_world::World;
 use seq_model::{Items, Memory, Record, Refusal, State};
 use served_sessions::{are_allowed, session_of};
@@ -45,15 +46,23 @@ fn receipts_of(
 }
 
 /// Runs the session of each action in turn.
-fn run_all(alloc: Global, world: &mut World<Entry>, actions: &[Action]) -> Result<(), Memory>
+fn run_all<P: Progress>(
+    alloc: Global,
+    world: &mut World<Entry>,
+    actions: &[Action],
+    progress: &P,
+) -> Result<(), Memory>
     requires few { length actions.now < clock_limit }
     requires allowed { All IsAllowed actions.now }
     requires opened { (tables : Holdings) × HasOpened tables world.old.parts }
     ensures { OnOk result (RunsAll actions.now world.old.parts world.new.parts) }
 {
+    let mut count = 0u64;
     for action in actions {
         let session = session_of(alloc, action)?;
         run_session(alloc, world, &session)?;
+        count = count.saturating_add(1);
+        progress.receipts(count, actions.len() as u64);
     }
     Ok(())
 }
@@ -72,14 +81,16 @@ fn finish(alloc: Global, world: World<Entry>) -> Result<Ordered, Memory>
 }
 
 /// Runs the sessions of these actions, one after another, on a world that opens on these tables, each collection in so many stripes.
+/// After each of them `progress` is told how many it were.
 ///
 /// `TooLong` where a collection can't have so many stripes, or an action isn't allowed, which is found before anything runs; and
 /// `Memory` where a growth was refused.
-pub fn run_in_order(
+pub fn run_in_order<P: Progress>(
     alloc: Global,
     tables: Tables,
     stripes: u32,
     actions: &[Action],
+    progress: &P,
 ) -> Result<Ordered, Refusal>
     requires { IsBalanced tables }
     ensures ordered { IfOk result (λ ordered. AreReceipts tables actions.now ordered.receipts ordered.state) }
@@ -92,7 +103,7 @@ pub fn run_in_order(
         return Err(Refusal::TooLong);
     }
     let mut world = open(alloc, &tables, stripes)?;
-    run_all(alloc, &mut world, actions)?;
+    run_all(alloc, &mut world, actions, progress)?;
     let ordered = finish(alloc, world)?;
     Ok(ordered)
 }

@@ -1,7 +1,7 @@
 //! The program: runs step scripts, session files and drawn sessions.
 //!
 //! The work is done over any reader and writers: `main` hands the opened file to `run_file`, or standard input to `run_tool`, with the
-//! standard streams. Where standard error is a terminal it also says how far workers have come, in one line, which is gone at the end.
+//! standard streams. Where standard error is a terminal it also says how far sessions have come, in one line, which is gone at the end.
 #![tactic(auto)]
 
 use command_line::{Pace, Progress, REFUSED, fault, file_of, refuse_memory, run_file, run_tool};
@@ -16,6 +16,9 @@ use std::{env, io};
 /// So many milliseconds lie at least between two writes of the line.
 const APART: u64 = 500;
 
+/// The clock is looked at after so many sessions.
+const LOOK: u64 = 16;
+
 /// Longer than the line ever is.
 const BLANK: &str =
     "                                                                                ";
@@ -25,18 +28,15 @@ const BLANK: &str =
 struct Terminal<'a> {
     rt: &'a HostRuntime,
     is_there: bool,
-    begun: Duration,
+    /// When the first session had its receipt, in milliseconds.
+    begun: AtomicU64,
     /// When the line was written last, in milliseconds from then on; 0 where it was not.
     told: AtomicU64,
 }
 
 impl Terminal<'_> {
     /// Whether the line is to be written now, by whoever asks.
-    fn is_due(&self, time: Duration) -> bool {
-        let since = time
-            .as_secs()
-            .saturating_mul(1_000)
-            .saturating_add(u64::from(time.subsec_millis()));
+    fn is_due(&self, since: u64) -> bool {
         let told = self.told.load(Ordering::SeqCst);
         since.saturating_sub(told) >= APART
             && self
@@ -44,16 +44,27 @@ impl Terminal<'_> {
                 .compare_exchange(told, since, Ordering::SeqCst, Ordering::SeqCst)
                 .is_ok()
     }
+
+    fn write(&self, count: u64, all: u64) {
+        let since = now(self.rt).saturating_sub(self.begun.load(Ordering::SeqCst));
+        if self.is_due(since) {
+            let time = Duration::from_millis(since);
+            let pace = Pace { count, all, time };
+            let _ = write!(self.rt.stderr(), "\r{pace}    ");
+        }
+    }
 }
 
 impl Progress for Terminal<'_> {
     fn receipts(&self, count: u64, all: u64) {
-        if self.is_there {
-            let time = now(self.rt).saturating_sub(self.begun);
-            if self.is_due(time) {
-                let pace = Pace { count, all, time };
-                let _ = write!(self.rt.stderr(), "\r{pace}    ");
-            }
+        if !self.is_there {
+            return;
+        }
+        if count == 1 {
+            self.begun.store(now(self.rt), Ordering::SeqCst);
+        }
+        if count % LOOK == 0 {
+            self.write(count, all);
         }
     }
 
@@ -64,9 +75,12 @@ impl Progress for Terminal<'_> {
     }
 }
 
-/// The clock, or nothing where it can't be read.
-fn now(rt: &HostRuntime) -> Duration {
-    rt.monotonic().unwrap_or(Duration::ZERO)
+/// The milliseconds of the clock, or none where it can't be read.
+fn now(rt: &HostRuntime) -> u64 {
+    let time = rt.monotonic().unwrap_or(Duration::ZERO);
+    time.as_secs()
+        .saturating_mul(1_000)
+        .saturating_add(u64::from(time.subsec_millis()))
 }
 
 fn main(rt: HostRuntime) -> ExitCode {
@@ -99,7 +113,7 @@ fn run<H: Threads + Wait + Clock + Sync>(threads: &H, rt: &HostRuntime, words: &
     let told = Terminal {
         rt,
         is_there: err.is_terminal(),
-        begun: now(rt),
+        begun: AtomicU64::new(0),
         told: AtomicU64::new(0),
     };
     match file_of(alloc, words) {

@@ -12,9 +12,10 @@ ghost use Rattle.served_runs.specs.Runs.{IsWantOfMemory, receipts_of};
 ghost use Rattle.served_runs.specs.Drawn.{AreDrawn, IsDrawable, IsDrawnRun, drawn_text};
 
 use crate::inspection::inspected;
-use crate::progress::{Progress, Receipts};
+use crate::progress::Receipts;
 use crate::tally::{Tally, Times, causes_of};
 use generated_sessions::{Options, generate, opening};
+use run_progress::Progress;
 use seq_model::{Memory, Refusal, State};
 use serving::{Served, serve_allowed};
 use session_output::{RunFault, STRIPES, with_ending};

@@ -11,8 +11,9 @@ ghost use Rattle.served_runs.specs.Unread.{IsToldRun};
 
 use crate::inspection::inspected;
 use crate::lines::lines_of_report;
-use crate::progress::{Progress, Receipts};
+use crate::progress::Receipts;
 use dealing::deal;
+use run_progress::Progress;
 use seq_model::{ACTOR_LIMIT, Memory, Refusal, State};
 use served_sessions::sessions_of;
 use serving::serve_allowed;

@@ -13,5 +13,5 @@ mod tally;
 
 pub use drawn::{Drawn, DrawnRun, print_drawn, run_drawn};
 pub use file::output_of;
-pub use progress::{NoProgress, Pace, Progress};
+pub use progress::Pace;
 pub use tally::{Times, print_times, print_times_as_values};

@@ -1,28 +1,10 @@
 //! How far workers have come.
 use crate::tally::milliseconds;
 use attempts::Pause;
+use run_progress::Progress;
 use std::fmt;
 use std::sync::atomic::{AtomicU64, Ordering};
 use std::time::Duration;
-
-/// Who is told how far the workers have come. Nothing that is promised of a run depends on it.
-pub trait Progress {
-    /// So many sessions of all have their receipts by now: told at each receipt, by the worker that has it.
-    fn receipts(&self, count: u64, all: u64);
-
-    /// The run is over, and what came of it was audited, or it was refused.
-    fn end(&self);
-}
-
-/// Nobody is told.
-#[derive(Clone, Copy)]
-pub struct NoProgress;
-
-impl Progress for NoProgress {
-    fn receipts(&self, _count: u64, _all: u64) {}
-
-    fn end(&self) {}
-}
 
 /// So many sessions of all have their receipts, after this time. As text it says how many a second that is, and when the others have
 /// theirs, if it goes on so.

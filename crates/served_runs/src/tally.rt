@@ -2,8 +2,9 @@
 ghost use Rattle.std.specs.Prelude.{◌<◌};
 
 use crate::lines::Missed;
-use crate::progress::{Progress, Receipts};
+use crate::progress::Receipts;
 use attempts::Pause;
+use run_progress::Progress;
 use seq_model::{Memory, Refusal};
 use std::alloc::Global;
 use std::fmt::Write;

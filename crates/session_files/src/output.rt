@@ -4,19 +4,26 @@ ghost use Rattle.session_output.specs.Faults.{IsFault};
 ghost use Rattle.session_files.specs.Outputs.{IsOutput};
 
 use crate::runs::run_sessions;
+use run_progress::Progress;
 use session_output::{RunFault, text_of};
 use session_script::parse_sessions;
 use std::alloc::Global;
 
 /// What the sessions of a file print: a line for each session, then what the tables hold, and that the receipts were audited and the
-/// tables are balanced.
+/// tables are balanced. How far they have come is told meanwhile.
 ///
 /// `BadText` names the first line outside the grammar, counted from 1; `Memory` where a growth was refused.
-pub fn output_of(alloc: Global, text: &[u8]) -> Result<Vec<u8>, RunFault>
+pub fn output_of<P: Progress>(
+    alloc: Global,
+    text: &[u8],
+    progress: &P,
+) -> Result<Vec<u8>, RunFault>
     ensures output { IfOk result (λ bytes. IsOutput text.now bytes.items) }
     ensures refused { IfErr result (IsFault text.now) }
 {
     let (tables, actions) = parse_sessions(alloc, text)?;
-    let run = run_sessions(alloc, tables, actions.as_slice())?;
+    let run = run_sessions(alloc, tables, actions.as_slice(), progress);
+    progress.end();
+    let run = run?;
     Ok(text_of(alloc, &run)?)
 }

@@ -7,6 +7,7 @@ ghost use Rattle.session_output.specs.declared.fault.RunFault.TheVariants.{Refus
 ghost use Rattle.session_files.specs.Runs.{IsSessionRun};
 
 use ordered_sessions::run_in_order;
+use run_progress::Progress;
 use session_lines::lines_of;
 use session_output::{RunFault, STRIPES, SessionRun, inspect};
 use std::alloc::Global;
@@ -15,12 +16,14 @@ use vacation_core::laws::{balanced_tables_have_a_state, runs_are_actions, states
 use vacation_core::{state_of, tables_of};
 
 /// Runs the sessions of these actions, one after another, on a world that opens on these tables, and inspects what came of them.
+/// After each of them `progress` is told how many it were.
 ///
 /// Refused as `Memory` where a growth was refused, and for nothing else: the inspection finds nothing.
-pub fn run_sessions(
+pub fn run_sessions<P: Progress>(
     alloc: Global,
     tables: Tables,
     actions: &[Action],
+    progress: &P,
 ) -> Result<SessionRun, RunFault>
     requires balanced { IsBalanced tables }
     requires allowed { All IsAllowed actions.now }
@@ -31,7 +34,7 @@ pub fn run_sessions(
     runs_are_actions();
     states_tell_tables();
     let opening = state_of(alloc, &tables)?;
-    let ordered = run_in_order(alloc, tables, STRIPES, actions)?;
+    let ordered = run_in_order(alloc, tables, STRIPES, actions, progress)?;
     let receipts = ordered.receipts.as_slice();
     let left = tables_of(alloc, &ordered.state)?;
     inspect(alloc, &opening, receipts, &ordered.state, &left)?;

@@ -3,15 +3,15 @@ use Rattle.ordered_sessions.proofs.OpeningLemmas.{opened}
 use Rattle.ordered_sessions.proofs.order.run_in_order.Goals as goal
 
 pub run_all-requires-clause-allowed : goal.run_all-requires-clause-allowed
-run_all-requires-clause-allowed c = c.are_allowed.ensures.0 c.if-not-are_allowed.false
+run_all-requires-clause-allowed g c = c.are_allowed.ensures.0 c.if-not-are_allowed.false
 
 pub run_all-requires-clause-opened : goal.run_all-requires-clause-opened
-run_all-requires-clause-opened c =
+run_all-requires-clause-opened g c =
     let count = c.is_stripe_count.ensures.0 c.if-not-is_stripe_count.false in
     (c.args.tables, opened c.args.stripes c.args.tables c.in_ok-world.world.parts count c.requires c.in_ok-world.ensures)
 
 pub returns-clause-ordered : goal.returns-clause-ordered
-returns-clause-ordered c =
+returns-clause-ordered g c =
     let count = c.is_stripe_count.ensures.0 c.if-not-is_stripe_count.false in
     let first = opened c.args.stripes c.args.tables c.in_ok-world.world.parts count c.requires c.in_ok-world.ensures in
     let allowed = c.are_allowed.ensures.0 c.if-not-are_allowed.false in

@@ -4,7 +4,7 @@ use Rattle.session_files.specs.Runs.{IsSessionRun}
 use Rattle.session_files.proofs.output.output_of.Goals as goal
 
 pub returns-clause-output : goal.returns-clause-output
-returns-clause-output c = record {
+returns-clause-output g c = record {
   tables = c.in_ok-tables.tables;
   actions = c.in_ok-tables.actions;
   run = c.in_ok-run.run';

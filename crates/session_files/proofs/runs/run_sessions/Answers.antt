@@ -4,12 +4,12 @@ use Rattle.session_files.proofs.RunLemmas.{are_held, are_told, finds_nothing, ho
 use Rattle.session_files.proofs.runs.run_sessions.Goals as goal
 
 pub returns-in_err-left-clause-refused : goal.returns-in_err-left-clause-refused
-returns-in_err-left-clause-refused c =
+returns-in_err-left-clause-refused g c =
     let memory = holds_tables c.in_err-left.field-0.0 _ c.in_err-left.ensures.refused (are_held _ _ _ _ c.in_ok-ordered.ensures.ordered) in
     search (rules, memory)
 
 pub returns-in_err-inspect-clause-refused : goal.returns-in_err-inspect-clause-refused
-returns-in_err-inspect-clause-refused c =
+returns-in_err-inspect-clause-refused g c =
     let are = c.in_ok-ordered.ensures.ordered in
     let memory = finds_nothing c.args.tables c.in_ok-left.left c.args.actions.now _ _ _ _ c.in_err-inspect.field-0.0 c.requires.balanced
     c.runs_are_actions.ensures.runs are
@@ -18,12 +18,12 @@ returns-in_err-inspect-clause-refused c =
     search (rules, memory)
 
 pub lines_of-requires : goal.lines_of-requires
-lines_of-requires c =
+lines_of-requires g c =
     let are = c.in_ok-ordered.ensures.ordered in
     tell_lines are.deals c.args.actions.now _ _ are.actions c.as_slice-receipts.ensures are.sessions
 
 pub returns-clause-run : goal.returns-clause-run
-returns-clause-run c =
+returns-clause-run g c =
     let are = c.in_ok-ordered.ensures.ordered in
     let same = c.as_slice-receipts.ensures in
     record {
