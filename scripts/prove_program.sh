@@ -12,7 +12,8 @@ set -euo pipefail
 name=$1
 cd "$(dirname "$0")/.."
 out=crates/$name/out
-mapfile -t below < <(scripts/crates_below.sh "$name")
+names=$(scripts/crates_below.sh "$name")
+mapfile -t below <<< "$names"
 mkdir -p "$out/proved"
 scripts/state_below.sh "$name" > "$out/proved/state.new"
 
@@ -27,21 +28,25 @@ for i in "${!below[@]}"; do
     all=$((all + size[$crate]))
 done
 
-# tell CRATE: how far it is once this crate is proved, judged by what those proved in this run took.
+# tell CRATE: how far it is once this crate is proved. How long the rest takes is judged by what those proved in this run took, and not
+# before these are a twentieth of all.
 tell() {
-    local i=${place[$1]} k before=0
+    local i=${place[$1]} k before=0 left=
     proved=$((proved + size[$1]))
     for ((k = 0; k <= i; k++)); do
         before=$((before + size[${below[k]}]))
     done
-    local left=$(((SECONDS * (all - before) / proved + 59) / 60))
-    echo "$name: $((i + 1)) of ${#below[@]} proved, some $left minutes left ($1)" >&2
+    if ((proved * 20 >= all)); then
+        left=", some $((((SECONDS - begun) * (all - before) / proved + 59) / 60)) minutes left"
+    fi
+    echo "$name: $((i + 1)) of ${#below[@]} proved$left ($1)" >&2
 }
 
-# follow: reads what the prover says, and tells of each crate whose proof has ended.
+# follow: reads what the prover says, and tells of each crate whose proof has ended. The time counts from the first proof on.
 follow() {
-    local line crate= proved=0
+    local line crate= proved=0 begun=
     while IFS= read -r line; do
+        [[ $line != "rt: chose --jobs"* ]] || begun=${begun:-$SECONDS}
         if [[ $line =~ ^rt:\ chose\ --jobs\ [0-9]+\ for\ ([a-z0-9_]+) || $line =~ ^crate\ ([a-z0-9_]+): || $line =~ ^fn\ ([a-z0-9_]+)::.*:\ proved ]]; then
             crate=${BASH_REMATCH[1]}
         elif [[ $line == logic=proved* && -n $crate && -n ${place[$crate]:-} ]]; then
@@ -51,7 +56,7 @@ follow() {
     done
 }
 
-echo "$name: proving ${#below[@]} crates; from nothing this takes an hour or more" >&2
+echo "$name: proving ${#below[@]} crates; from nothing this takes an hour or more, and some minutes pass before the first is proved" >&2
 SECONDS=0
 if ! (cd "crates/$name" && "${RT:-rt}" run -- --version < /dev/null 2>&1) | tee "$out/prove.log" | follow; then
     rm -f "$out/proved/state.new"
