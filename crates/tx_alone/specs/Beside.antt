@@ -37,11 +37,12 @@ module _ {V : Type 0} where
   RefusesAsMistaken (Refused a cause) = IsMistaken cause
   RefusesAsMistaken n = ⊥
 
-  -- a begins no declared reader by it
+  -- a begins no declared reader by this event
   abbrev pub IsNoReader : ℕ → Event V → Type 0
   IsNoReader a (Ask b request.BeginRead) = b ≢ a
   IsNoReader a e = Unit {0}
 
+  -- nor by any of these
   abbrev pub BeginsNoReader : ℕ → List (Event V) → Type 0
   BeginsNoReader a [] = Unit {0}
   BeginsNoReader a (e ∷ es) = IsNoReader a e × BeginsNoReader a es

@@ -88,7 +88,7 @@ busy at c action fault done some k e = subst IsRest (sym e) tt
 
 -- ---- a step
 
--- what is being given up
+-- at an ending stage the phase is Ends
 pub ending_phase : (calls : List (Call Entry × Reply Entry)) (st : Stage Entry) → is_ending st ≡ true → phase_at calls st ≡ Ends
 ending_phase calls Cancelling e = refl
 ending_phase calls Leaving e = refl
