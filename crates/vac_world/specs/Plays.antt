@@ -104,9 +104,9 @@ IsMoveOf a e = ⊥
 abbrev pub takes : ℕ → Event Entry → Play → Play
 takes a e p = at_idle (seat_in a p).stage p (hears a (told e p) (moved a e p))
 
--- so it is of each client; there may be none of this number
-abbrev pub taken : ℕ → Event Entry → Play → Play
-taken a e p = if is_actor a then takes a e p else p
+-- the same for any number; where there is no such actor nothing happens
+abbrev pub takes_if_actor : ℕ → Event Entry → Play → Play
+takes_if_actor a e p = if is_actor a then takes a e p else p
 
 -- a session begins where none is under way
 abbrev pub begins : ℕ → Action → Play → Play
@@ -115,8 +115,8 @@ begins a action p =
 
 abbrev pub played : Play → VacEvent → Play
 played p (Start a action) = if is_actor a then begins a action p else ends a NoSuch p
-played p (Step a) = taken a (event.Step a) p
-played p (Starve a) = taken a (event.Starve a) p
+played p (Step a) = takes_if_actor a (event.Step a) p
+played p (Starve a) = takes_if_actor a (event.Starve a) p
 
 abbrev pub played_all : Play → List VacEvent → Play
 played_all p [] = p

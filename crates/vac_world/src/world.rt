@@ -12,7 +12,7 @@ ghost use Rattle.vac_model.specs.Balanced.{IsBalanced};
 ghost use Rattle.vac_world.specs.declared.events.VacEvent.TheVariants as happening;
 ghost use Rattle.vac_world.specs.Openings.{AreNew, unplayed_on};
 ghost use Rattle.vac_world.specs.Plays.{AreAllowed, IsMoveOf, MayHappen, Play, begins, ends, hears, played, played_all, seat_in};
-ghost use Rattle.vac_world.specs.Plays.{taken, takes};
+ghost use Rattle.vac_world.specs.Plays.{takes, takes_if_actor};
 ghost use Rattle.vac_world.specs.Running.{AsksNext, AsksOn, Abandons, Called, GoesOn, HasPlace, HasPlay, Hears, IsPlay, Mistaken, Refusing};
 
 use crate::client::Client;
@@ -315,7 +315,7 @@ impl VacWorld {
     fn take(&mut self, actor: u32, event: Event<Entry>) -> Result<(), Memory>
         requires play { HasPlay self.old }
         requires own { IsMoveOf actor event }
-        ensures { OnOk result ((p : Play) → IsPlay self.old p → IsPlay self.new (taken actor event p)) }
+        ensures { OnOk result ((p : Play) → IsPlay self.old p → IsPlay self.new (takes_if_actor actor event p)) }
     {
         match place_of(actor) {
             Some(i) => self.take_at(i, event),
