@@ -120,8 +120,6 @@ pub fn run_workers<
             ensures report { IfOk result.1 (IsReportOf J.asks table.entry.now tries seat result.0 (jobs_of lists.items)) }
             ensures gains { IfOk result.1 (HasRun seat result.0) }
             ensures memory { OnErr result.1 (HasNotRun table.entry.now seat result.0) }
-        {
-            run_workers_owned(rt, alloc, table, seat, lists, tries, pause)
-        },
+        { run_workers_owned(rt, alloc, table, seat, lists, tries, pause) },
     )
 }

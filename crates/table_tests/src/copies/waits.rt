@@ -144,7 +144,15 @@ fn run<R: Threads + Wait + Sync>(
     requires lists { length lists.items ≡ 2 }
     ensures ready { IsReady table.now result.0 }
 {
-    let (mut seat, report) = run_workers_owned(rt, *text.allocator(), table, seat, lists, 1, ration);
+    let (mut seat, report) = run_workers_owned(
+        rt,
+        *text.allocator(),
+        table,
+        seat,
+        lists,
+        1,
+        ration,
+    );
     let heard = hear(text, report, receipts);
     let made = go_on(table, &mut seat, ration, heard, receipts);
     (seat, made)

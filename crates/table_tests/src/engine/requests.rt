@@ -130,7 +130,12 @@ fn attempt(
 }
 
 /// A transaction begins, makes the calls of these lines, and is left open.
-pub fn leave_open(page: &mut Page, table: &TxTable<u64>, seat: &mut TxSeat<u64>, lines: &[EventLine])
+pub fn leave_open(
+    page: &mut Page,
+    table: &TxTable<u64>,
+    seat: &mut TxSeat<u64>,
+    lines: &[EventLine],
+)
     requires fit { IsFit table.now seat.old }
     ensures fit { IsFit table.now seat.new }
 {
@@ -138,7 +143,11 @@ pub fn leave_open(page: &mut Page, table: &TxTable<u64>, seat: &mut TxSeat<u64>,
     page.hear_done("left open", made);
 }
 
-fn make_lines(table: &TxTable<u64>, seat: &mut TxSeat<u64>, lines: &[EventLine]) -> Result<(), Refusal>
+fn make_lines(
+    table: &TxTable<u64>,
+    seat: &mut TxSeat<u64>,
+    lines: &[EventLine],
+) -> Result<(), Refusal>
     requires fit { IsFit table.now seat.old }
     ensures fit { IsFit table.now seat.new }
 {
@@ -146,7 +155,11 @@ fn make_lines(table: &TxTable<u64>, seat: &mut TxSeat<u64>, lines: &[EventLine])
     make_each(table, seat, lines)
 }
 
-fn make_each(table: &TxTable<u64>, seat: &mut TxSeat<u64>, lines: &[EventLine]) -> Result<(), Refusal>
+fn make_each(
+    table: &TxTable<u64>,
+    seat: &mut TxSeat<u64>,
+    lines: &[EventLine],
+) -> Result<(), Refusal>
     requires fit { IsFit table.now seat.old }
     ensures fit { IsFit table.now seat.new }
 {

@@ -138,7 +138,12 @@ fn answer_request(page: &mut Page, table: &TxTable<u64>, seat: &mut TxSeat<u64>,
     }
 }
 
-fn answer_line(page: &mut Page, table: &TxTable<u64>, seat: &mut TxSeat<u64>, line: Option<&EventLine>)
+fn answer_line(
+    page: &mut Page,
+    table: &TxTable<u64>,
+    seat: &mut TxSeat<u64>,
+    line: Option<&EventLine>,
+)
     requires fit { IsFit table.now seat.old }
     ensures fit { IsFit table.now seat.new }
 {
