@@ -289,6 +289,9 @@ locked_bound n a s h =
 pub bound_more : (n m a : ℕ) (s : Words) → n ≤ m → IsBound n a s → IsBound m a s
 bound_more n m a s le h = record { undeclared = h.undeclared; clock = (let held = h.clock in omega (arith, le, held)) }
 
+plain_bound : (n a : ℕ) (s : Words) (q : word.Request) → IsPlainAsk q → IsBound n a s → IsBound n a (world.happens s (world.Ask a q))
+plain_bound n a s q h = asked_bound n a s q (plain_is_mild q h)
+
 -- ---- the functions of the definitions
 module _ {V : Type 0} (n a : ℕ) where
   abbrev pub BoundAt : World V → Type 0
@@ -297,20 +300,17 @@ module _ {V : Type 0} (n a : ℕ) where
   abbrev Bound : After V → Type 0
   Bound r = BoundAt r.0
 
-  plain_bound : (s : Words) (q : word.Request) → IsPlainAsk q → IsBound n a s → IsBound n a (world.happens s (world.Ask a q))
-  plain_bound s q h = asked_bound n a s q (plain_is_mild q h)
-
   pub cancels_on : (u : World V) (x : Seat V) → BoundAt u → BoundAt (cancels u a x)
-  cancels_on u x h = cancels_keep a (IsBound n a) plain_bound (stepped_bound n a) u x h
+  cancels_on u x h = cancels_keep a (IsBound n a) (plain_bound n a) (stepped_bound n a) u x h
 
   pub op_on : (u : World V) (x : Seat V) (t : ℕ) (op : Op V) → BoundAt u → Bound (ask_op u a x t op)
-  op_on u x t op h = op_keeps a (IsBound n a) plain_bound (stepped_bound n a) u x t op h
+  op_on u x t op h = op_keeps a (IsBound n a) (plain_bound n a) (stepped_bound n a) u x t op h
 
   pub step_on : (w : World V) (x : Seat V) (st : Stage V) → BoundAt w → Bound (step_at w a x st)
-  step_on w x st h = step_keeps a (IsBound n a) plain_bound (stepped_bound n a) w x st h
+  step_on w x st h = step_keeps a (IsBound n a) (plain_bound n a) (stepped_bound n a) w x st h
 
   pub starve_on : (w : World V) (x : Seat V) (st : Stage V) → BoundAt w → Bound (starve_at w a x st)
-  starve_on w x st h = starve_keeps a (IsBound n a) plain_bound (stepped_bound n a) w x st h
+  starve_on w x st h = starve_keeps a (IsBound n a) (plain_bound n a) (stepped_bound n a) w x st h
 
 module _ {V : Type 0} (a : ℕ) where
   -- a begin and a call
