@@ -48,7 +48,11 @@ fn tell_line(text: &mut String, state: &mut State<u64>, line: &EventLine) -> Res
     }
 }
 
-fn tell_lines(text: &mut String, state: &mut State<u64>, lines: &[EventLine]) -> Result<(), Refusal> {
+fn tell_lines(
+    text: &mut String,
+    state: &mut State<u64>,
+    lines: &[EventLine],
+) -> Result<(), Refusal> {
     for line in lines {
         tell_line(text, state, line)?;
     }

@@ -211,7 +211,11 @@ fn call(alloc: Global, base: &mut Base<u64>, op: &Op<u64>) -> Result<Reply<u64>,
     Ok(outcome.reply)
 }
 
-fn shadow_line(text: &mut String, shadow: &mut Shadow<u64>, line: &EventLine) -> Result<(), Refusal> {
+fn shadow_line(
+    text: &mut String,
+    shadow: &mut Shadow<u64>,
+    line: &EventLine,
+) -> Result<(), Refusal> {
     match line {
         EventLine::Do(_, Request::Call(asked)) => shadow_call(text, shadow, &asked.op),
         _ => Err(Refusal::NoSuch),
@@ -232,7 +236,11 @@ fn accept(shadow: &mut Shadow<u64>, outcome: Outcome<u64>) -> Result<(), Memory>
     Ok(())
 }
 
-fn shadow_all(text: &mut String, shadow: &mut Shadow<u64>, lines: &[EventLine]) -> Result<(), Refusal> {
+fn shadow_all(
+    text: &mut String,
+    shadow: &mut Shadow<u64>,
+    lines: &[EventLine],
+) -> Result<(), Refusal> {
     for line in lines {
         shadow_line(text, shadow, line)?;
     }

@@ -11,8 +11,8 @@ ghost use Rattle.command_line.specs.Ends.{IsOutput, IsOutputOf, IsWithin};
 ghost use Rattle.seq_model.specs.declared.refusal.Refusal.TheVariants.{Memory as OutOfMemory};
 ghost use Rattle.session_output.specs.declared.fault.RunFault.TheVariants.{Refused};
 
-use seq_model::{Memory, Refusal};
 use run_progress::Progress;
+use seq_model::{Memory, Refusal};
 use served_runs::{Drawn, Times, print_drawn, print_times, print_times_as_values, run_drawn};
 use session_output::RunFault;
 use session_text::{audit_run, print_trace, run_script};

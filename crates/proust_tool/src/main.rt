@@ -3,6 +3,7 @@
 //! The work is done over any reader and writers: `main` hands the opened file to `run_file`, or standard input to `run_tool`, with the
 //! standard streams. Where standard error is a terminal it also says how far sessions have come, in one line, which is gone at the end.
 #![tactic(auto)]
+
 ghost use Rattle.command_line.specs.Ends.{CanBeDone};
 
 use command_line::{
@@ -135,9 +136,7 @@ fn run_asked<H: Threads + Wait + Clock + Sync>(threads: &H, rt: &HostRuntime, as
         }
         None => {
             let mut input = rt.stdin();
-            run_tool(
-                threads, alloc, asked, &mut input, &mut out, &mut err, &told,
-            )
+            run_tool(threads, alloc, asked, &mut input, &mut out, &mut err, &told)
         }
     }
 }

@@ -13,11 +13,7 @@ use std::alloc::Global;
 /// tables are balanced. How far they have come is told meanwhile.
 ///
 /// `BadText` names the first line outside the grammar, counted from 1; `Memory` where a growth was refused.
-pub fn output_of<P: Progress>(
-    alloc: Global,
-    text: &[u8],
-    progress: &P,
-) -> Result<Vec<u8>, RunFault>
+pub fn output_of<P: Progress>(alloc: Global, text: &[u8], progress: &P) -> Result<Vec<u8>, RunFault>
     ensures output { IfOk result (λ bytes. IsOutput text.now bytes.items) }
     ensures refused { IfErr result (IsFault text.now) }
 {
