@@ -1,4 +1,5 @@
 //! Which refusals are conflicts, and what each explains.
+use std::alloc::AllocError;
 use std::fmt::Write;
 use wolimevar::Refusal;
 
@@ -31,7 +32,8 @@ const REFUSALS: [Refusal; 13] = [
     Refusal::BadText { line: 1 },
 ];
 
-pub fn test(text: &mut String) -> Result<(), Refusal> {
+/// Prints each with its kind and what it explains.
+pub fn print_explained(text: &mut String) -> Result<(), AllocError> {
     for refusal in &REFUSALS {
         let kind = if refusal.is_conflict() {
             "conflict"
