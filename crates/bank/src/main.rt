@@ -74,7 +74,7 @@ impl Body<Account> for Total {
         let mut total = 0u64;
         for number in 0..6u64 {
             let account = self.0.accounts.get(tx, number)?;
-            total = total.saturating_add(account.map_or(0, |(_, balance)| balance));
+            total = total.saturating_add(account.map_or(0, |account| account.1));
         }
         Ok(total)
     }
