@@ -16,9 +16,9 @@
 //! collection full returns `Result<(), Full>` inside ([`Full`]).
 //!
 //! What goes wrong is a [`Refusal`]. [`Refusal::is_conflict`] says whether another transaction stood in the way, so that another attempt may
-//! succeed; `atomically` and `look` make it. [`Refusal::explain`] says in a sentence what to do. A handle of a store with another number, of
-//! another kind, or beyond the layout is `NoSuch`. A body aborts with an error of its own, which the caller gets apart from refusals
-//! ([`Failure`]). [`Tally`] counts how attempts ended.
+//! succeed; `atomically` and `look` make it. [`Refusal::explain`] says in a sentence what to do, and [`Transaction`] lists what a call may be
+//! refused as. A body aborts with an error of its own, which the caller gets apart from refusals ([`Failure`]). [`Tally`] counts how attempts
+//! ended.
 //!
 //! A map holds values of any type that is a [`Value`]: numbers, `bool`, pairs, `Option`, [`Text`], [`Shared`], and structs of these by an
 //! `impl` of two functions.
