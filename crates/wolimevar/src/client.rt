@@ -101,9 +101,10 @@ impl<'t, V: Value, S: Scope<V>> Client<'t, V, S> {
         self.retry_as(tries, body, false)
     }
 
-    /// Runs the body as one declared reader, otherwise like [`Client::atomically`]. A call that changes something is `NoSuch` in it. It keeps
-    /// no read set, so it may read as much as its calls allow, and it commits without a lock; but a location that others change meanwhile
-    /// refuses it (`Moved`), so a long reader beside many writers needs more tries. Its receipt says that nothing was written.
+    /// Runs the body as one declared reader, otherwise like [`Client::atomically`]. A call that changes something is `NoSuch` in it. It
+    /// keeps no read set, so it may read as much as its calls allow, and it commits without a lock; but a location that others change
+    /// meanwhile refuses it (`Moved`), so a long reader beside many writers needs more tries. Its receipt says that nothing was
+    /// written.
     pub fn look<B: Body<V>>(
         &mut self,
         tries: u64,

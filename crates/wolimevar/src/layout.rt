@@ -40,8 +40,8 @@ impl<V: Value> Layout<V> {
         Layout::numbered(alloc, 0)
     }
 
-    /// An empty layout, whose store has this number. A program with several stores gives each another number: a handle is `NoSuch` at a store
-    /// of another number.
+    /// An empty layout, whose store has this number. A program with several stores gives each another number: a handle is `NoSuch` at a
+    /// store of another number.
     pub fn numbered(alloc: Global, number: u32) -> Layout<V>
         ensures store { result.store ≡ number }
     {
@@ -117,8 +117,8 @@ impl<V: Value> Layout<V> {
         Ok(Queue::of(self.store, number))
     }
 
-    /// Opens a store that holds all this. `TooLong` where there are more than 256 collections or more than 1,048,576 locations, a collection
-    /// can't have so many stripes, or has more than 4,294,967,295 copies of an element; `Memory` where an allocation fails.
+    /// Opens a store that holds all this. `TooLong` where there are more than 256 collections or more than 1,048,576 locations, a
+    /// collection can't have so many stripes, or has more than 4,294,967,295 copies of an element; `Memory` where an allocation fails.
     pub fn open(self) -> Result<Store<V>, Refusal>
         ensures number { IfOk result (λ store. store.number ≡ self.store) }
         ensures words { IfOk result (λ store. store.opening.words ≡ self.words.items) }

@@ -6,8 +6,8 @@ use std::alloc::Global;
 use std::marker::Model;
 use std::sync::Arc;
 
-/// A value that is never changed. A copy is one more owner of it, and allocates nothing; so it is cheap to put a large value into a map, and to
-/// get it. Contracts see the value.
+/// A value that is never changed. A copy is one more owner of it, and allocates nothing; so it is cheap to put a large value into a map,
+/// and to get it. Contracts see the value.
 #[derive(Debug, Drop)]
 pub struct Shared<T> {
     value: Arc<T>,

@@ -22,8 +22,9 @@ use tx_table::TxTable;
 
 /// Words and collections, on which transactions run. [`crate::Layout::open`] opens it, [`Store::close`] ends it.
 ///
-/// Contracts see its number, what it opened with, the receipts of all its transactions, and of those that it runs itself the last number that
-/// it committed or learnt, the requests, and the counts of attempts. Between two calls it has all its shares, so it can always be closed.
+/// Contracts see its number, what it opened with, the receipts of all its transactions, and of those that it runs itself the last number
+/// that it committed or learnt, the requests, and the counts of attempts. Between two calls it has all its shares, so it can always be
+/// closed.
 #[derive(Drop)]
 pub struct Store<V> {
     pub(crate) alloc: Global,
@@ -170,8 +171,8 @@ impl<V: Value> Store<V> {
     ///
     /// `TooLong` beyond 63 sessions, and `Memory` where an allocation fails: then no session was served, and the store is unchanged.
     ///
-    /// Where a thread can't be started, its session is served after others; so a session that waits for another one to do something may wait
-    /// forever.
+    /// Where a thread can't be started, its session is served after others; so a session that waits for another one to do something may
+    /// wait forever.
     pub fn run<R: Threads + Sync, N: Session<V> + Drop + Send>(
         &mut self,
         rt: &R,
