@@ -162,8 +162,11 @@ pub fn run_tool<H: Threads + Wait + Clock + Sync, R: Read, W: Write, E: Write, P
     ensures unread { ¬ ReadsFile asked.now → reader.new ≡ reader.old }
 {
     match asked {
-        Asked::Information(text) => print_text(out, err, text),
-        Asked::Mistake(text) => refuse_words(err, text),
+        Asked::Information(text) => print(out, err, text.as_bytes()),
+        Asked::Mistake(text) => {
+            tell(err, text.as_bytes());
+            REFUSED
+        }
         Asked::ToDo(task, _) => match output_of(rt, alloc, *task, reader, progress) {
             Ok(output) => print_output(out, err, &output),
             Err(cause) => refuse(alloc, err, cause),
@@ -172,26 +175,17 @@ pub fn run_tool<H: Threads + Wait + Clock + Sync, R: Read, W: Write, E: Write, P
 }
 
 /// Writes the text, or says that it can't be written.
-fn print_text<W: Write, E: Write>(out: &mut W, err: &mut E, text: &String) -> u8
+fn print<W: Write, E: Write>(out: &mut W, err: &mut E, text: &[u8]) -> u8
     ensures status { (result ≡ DONE) ⊎ (result ≡ REFUSED) }
-    ensures done { result ≡ DONE → Appends (W.contents out.old) (W.contents out.new) (string_bytes text.now) }
+    ensures done { result ≡ DONE → Appends (W.contents out.old) (W.contents out.new) text.now }
     ensures quiet { result ≡ DONE → err.new ≡ err.old }
     ensures failed { result ≡ REFUSED → HasBegun (E.contents err.old) (E.contents err.new) (line_of unwritten_text) }
-    ensures broken { result ≡ REFUSED → HasBrokenOff (W.contents out.old) (W.contents out.new) (string_bytes text.now) }
+    ensures broken { result ≡ REFUSED → HasBrokenOff (W.contents out.old) (W.contents out.new) text.now }
 {
-    if !tell(out, text.as_bytes()) {
+    if !tell(out, text) {
         return refuse_output(err);
     }
     DONE
-}
-
-/// Says what is wrong with the words.
-fn refuse_words<E: Write>(err: &mut E, text: &String) -> u8
-    ensures status { result ≡ REFUSED }
-    ensures told { HasBegun (E.contents err.old) (E.contents err.new) (string_bytes text.now) }
-{
-    tell(err, text.as_bytes());
-    REFUSED
 }
 
 /// Writes what is to be printed, and then what the run took, if that is to be told.
