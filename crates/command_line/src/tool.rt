@@ -193,16 +193,15 @@ fn print_output<W: Write, E: Write>(out: &mut W, err: &mut E, output: &Output) -
     ensures status { (result ≡ DONE) ⊎ (result ≡ REFUSED) }
     ensures done { result ≡ DONE → Appends (W.contents out.old) (W.contents out.new) output.now.bytes.items }
     ensures quiet { result ≡ DONE → string_bytes output.now.times ≡ [] → err.new ≡ err.old }
+    ensures times { result ≡ DONE → HasBegun (E.contents err.old) (E.contents err.new) (string_bytes output.now.times) }
     ensures failed { result ≡ REFUSED → HasBegun (E.contents err.old) (E.contents err.new) (line_of unwritten_text) }
     ensures broken { result ≡ REFUSED → HasBrokenOff (W.contents out.old) (W.contents out.new) output.now.bytes.items }
 {
-    if !tell(out, output.bytes.as_slice()) {
-        return refuse_output(err);
-    }
-    if !output.times.is_empty() {
+    let status = print(out, err, output.bytes.as_slice());
+    if status == DONE && !output.times.is_empty() {
         tell(err, output.times.as_bytes());
     }
-    DONE
+    status
 }
 
 /// Says why nothing is printed.
