@@ -3,25 +3,30 @@ use Rattle.std.proofs.Common.{◌≡◌, ◌∙◌, refl, sym, ap, ap₂, inl, i
 use Rattle.std.specs.Prelude.{option_and_then, unwrap_or}
 use Rattle.std.specs.Box.{box_value}
 use Rattle.clap.specs.Words.{HasKind, IsAmong, Kinds, Row, Text, first_of, found_of, kind_of, rows_of, subcommand_name_of}
-use Rattle.clap.specs.Words.{subcommand_of, subcommand_rows_of}
+use Rattle.clap.specs.Words.{subcommand_rows_of}
 use Rattle.clap.specs.declared.error.Error.{Error}
 use Rattle.clap.specs.declared.error.kind.ErrorKind.TheVariants as kind
 use Rattle.clap.specs.declared.parser.matches.ArgMatches.{ArgMatches}
 use Rattle.clap.specs.declared.parser.matches.ArgMatches.TheViews.{out-ArgMatches, out-SubCommand}
 use Rattle.command_line.specs.declared.work.Task.TheVariants.{OnFile}
 use Rattle.command_line.specs.declared.work.Work.TheVariants.{Step}
-use Rattle.command_line.specs.declared.words.Asked.{Asked}
-use Rattle.command_line.specs.declared.words.Asked.TheVariants.{Information, Mistake, ToDo}
-use Rattle.command_line.specs.Words.{AreTaken, AskForInformation, IsAnswerTo, IsAskedBy, IsInformation, IsToDo, faults, file_word, if_none}
-use Rattle.command_line.specs.Words.{not_dash, task_by, task_of, tool_app}
+use Rattle.command_line.specs.Words.{AskForInformation, IsInformation, faults, file_word, if_none, task_by, task_of}
 
 -- an error that is not of memory is one of the words' faults
-is_fault : (kinds : Kinds) (error : Error) → HasKind kinds error → (kind_of error ≡ kind.OutOfMemory → ⊥)
+pub is_fault : (kinds : Kinds) (error : Error) → HasKind kinds error → (kind_of error ≡ kind.OutOfMemory → ⊥)
     → IsAmong (kind_of error) kinds
 is_fault kinds error (inl memory) other = absurd (other memory)
 is_fault kinds error (inr among) other = among
 
-asks_for_information : (words : List Text) (error : Error) → HasKind (faults words) error → IsInformation error
+pub no_file : (kinds : Kinds) (error : Error) (file : Option Text) → IsAmong (kind_of error) kinds → if_none kinds file ≡ None
+no_file [] error file among = absurd among
+no_file (k ∷ ks) error file among = refl
+
+pub not_taken : (kinds : Kinds) (error : Error) → IsAmong (kind_of error) kinds → kinds ≡ [] → ⊥
+not_taken [] error among none = among
+not_taken (k ∷ ks) error among none = cc
+
+pub asks_for_information : (words : List Text) (error : Error) → HasKind (faults words) error → IsInformation error
     → AskForInformation words
 asks_for_information words error has (inl help) =
     inl (rw (sym help) (is_fault (faults words) error has (λ memory.
@@ -68,23 +73,3 @@ task_missed m named = met_none (subcommand_rows_of m) (named ∙ sym (names_are 
 pub file_in_rows : (met : Option (Text × List Row)) → file_word met ≡ option_and_then (first_of (codes "FILE")) (option_map (λ p. p.1) met)
 file_in_rows None = refl
 file_in_rows (Some p) = refl
-
--- what the words ask for, by what was met of them where they are taken, and else by what is wrong with them
-pub asked_by_words : (words : List Text) (met : Option (Text × List Row)) → AreTaken words → met ≡ subcommand_of tool_app words
-    → (asked : Asked) → IsToDo met asked → IsAskedBy words asked
-asked_by_words words met taken same (Information text) is = absurd is
-asked_by_words words met taken same (Mistake text) is = absurd is
-asked_by_words words met taken same (ToDo task file) is =
-    let named = ap (λ (m : Option (Text × List Row)). option_and_then not_dash (file_word m)) same in
-    let all = ap (λ (kinds : Kinds). if_none kinds (option_and_then not_dash (file_word (subcommand_of tool_app words)))) taken in
-    (taken, (is.0 ∙ ap task_of same, is.1 ∙ named ∙ sym all))
-
-pub asked_by_error : (words : List Text) (error : Error) → HasKind (faults words) error → (asked : Asked) → IsAnswerTo error asked
-    → IsAskedBy words asked
-asked_by_error words error has (Information text) is = asks_for_information words error has is
-asked_by_error words error has (Mistake text) is = record {
-  error = error;
-  among = is_fault (faults words) error has is.0;
-  other = is.1;
-}
-asked_by_error words error has (ToDo task file) is = absurd is

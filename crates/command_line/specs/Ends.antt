@@ -1,7 +1,7 @@
 -- How a run ends.
 use Rattle.std.specs.Prelude.{◌≡◌, ◌≢◌, ◌<◌, ◌≤◌, ◌⊎◌, ℕ, List, [], ◌∷◌, ◌++◌, codes, length, Option, IfSome, ⊤}
 use Rattle.std.specs.Io.KnownBytes.{Appends}
-use Rattle.std.specs.String.{string_bytes}
+use Rattle.clap.specs.Words.{Text}
 use Rattle.seq_model.specs.declared.limits.TheConstants.{ACTOR_LIMIT}
 use Rattle.seq_model.specs.declared.refusal.Refusal.{Refusal}
 use Rattle.seq_model.specs.declared.refusal.Refusal.TheVariants.{BadText, Memory as OutOfMemory}
@@ -30,8 +30,7 @@ use Rattle.command_line.specs.declared.work.TimesForm.{TimesForm}
 use Rattle.command_line.specs.declared.work.TimesForm.TheVariants.{Unasked}
 use Rattle.command_line.specs.declared.work.Work.{Work}
 use Rattle.command_line.specs.declared.work.Work.TheVariants.{Served, Step, Vacation}
-use Rattle.command_line.specs.declared.words.Asked.{Asked}
-use Rattle.command_line.specs.declared.words.Asked.TheVariants.{Information, Mistake, ToDo}
+use Rattle.command_line.specs.Words.{AreTaken, AskForInformation, task_named}
 
 -- ---- what is printed of a text
 
@@ -126,6 +125,17 @@ abbrev pub IsWithin : Task → Option (List ℕ) → Type 0
 IsWithin (OnFile work) known = IfSome known (λ bytes. length bytes ≤ FILE_LIMIT)
 IsWithin (OnDrawn drawn times) known = ⊤
 
+-- the words are taken, and so is the length of the file
+pub record IsRead (words : List Text) (known : Option (List ℕ)) : Type 0 where
+  pub taken : AreTaken words
+  pub within : IsWithin (task_named words) known
+
+-- status 0: what the task prints, or help or the version, stands at the end of what the writer holds
+abbrev pub HasWorked : List Text → Option (List ℕ) → Option (List ℕ) → Option (List ℕ) → Type 0
+HasWorked words known old new =
+    AskForInformation words
+    ⊎ (IsRead words known × ((bytes : List ℕ) × (IsKnownOutput (task_named words) known bytes × Appends old new bytes)))
+
 -- ---- what is said of a fault
 
 -- one line
@@ -167,60 +177,21 @@ pub record HasBegun (old new : Option (List ℕ)) (line : List ℕ) : Type 0 whe
   pub whole : line ≡ begun ++ left
   pub grown : Appends old new begun
 
--- a write failed: known bytes have grown by a beginning of the text, and not by all of it
-pub record HasBrokenOff (old new : Option (List ℕ)) (text : List ℕ) : Type 0 where
-  pub begun : HasBegun old new text
-  pub some_left : begun.left ≢ []
-
--- why the task prints nothing is said; it is the cause of this status
-pub record HasToldCause (task : Task) (status : ℕ) (known old new : Option (List ℕ)) : Type 0 where
+-- why nothing is printed is said; it is the cause of this status
+pub record HasToldFault (task : Task) (status : ℕ) (known old new : Option (List ℕ)) : Type 0 where
   pub cause : Cause
   pub is_cause : IsCause task known cause
   pub of_status : status_of cause ≡ status
   pub said : HasBegun old new (line_of (cause_text cause))
 
--- ---- what becomes of what is asked for
+-- a write failed: known bytes have grown by a beginning of the text, and not by all of it
+pub record HasBrokenOff (old new : Option (List ℕ)) (text : List ℕ) : Type 0 where
+  pub begun : HasBegun old new text
+  pub some_left : begun.left ≢ []
 
--- its workers are as many as there may be, and what is drawn is within its limits
-abbrev pub CanBeDone : Asked → Type 0
-CanBeDone (ToDo task file) = IsDoable task
-CanBeDone asked = ⊤
-
--- it is a task
-abbrev pub IsTask : Asked → Type 0
-IsTask (ToDo task file) = ⊤
-IsTask asked = ⊥
-
--- it is a task on the text of a file
-abbrev pub ReadsFile : Asked → Type 0
-ReadsFile (ToDo (OnFile work) file) = ⊤
-ReadsFile asked = ⊥
-
--- it is a task, and what that takes is to be told
-abbrev pub TellsTimes : Asked → Type 0
-TellsTimes (ToDo task file) = AsksForTimes task
-TellsTimes asked = ⊥
-
--- what is to be printed of it, where this is known of the file: help or the version, or what the task prints
-abbrev pub IsPrinted : Asked → Option (List ℕ) → List ℕ → Type 0
-IsPrinted (Information text) known bytes = bytes ≡ string_bytes text
-IsPrinted (Mistake text) known bytes = ⊥
-IsPrinted (ToDo task file) known bytes = IsWithin task known × IsKnownOutput task known bytes
-
--- status 0: all of that stands at the end of what the writer holds
-pub record HasWorked (asked : Asked) (known old new : Option (List ℕ)) : Type 0 where
+-- status 1 where no fault of the words, the file or the text is told: the task has an output, and a write of it failed
+pub record HasStopped (words : List Text) (known old new : Option (List ℕ)) : Type 0 where
+  pub read : IsRead words known
   pub bytes : List ℕ
-  pub output : IsPrinted asked known bytes
-  pub written : Appends old new bytes
-
--- status 1, where no fault is told: a beginning of that stands there, and not all of it, since a write failed
-pub record HasStopped (asked : Asked) (known old new : Option (List ℕ)) : Type 0 where
-  pub bytes : List ℕ
-  pub output : IsPrinted asked known bytes
+  pub output : IsKnownOutput (task_named words) known bytes
   pub broken : HasBrokenOff old new bytes
-
--- status 1, where nothing is printed: what is wrong with the words is said, or why the task prints nothing
-abbrev pub HasToldFault : Asked → Option (List ℕ) → Option (List ℕ) → Option (List ℕ) → Type 0
-HasToldFault (Information text) known old new = ⊥
-HasToldFault (Mistake text) known old new = HasBegun old new (string_bytes text)
-HasToldFault (ToDo task file) known old new = HasToldCause task REFUSED known old new

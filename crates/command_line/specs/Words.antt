@@ -1,8 +1,6 @@
 -- The words that the program takes: `step FILE`, `vacation FILE` and `bench`, the latter two with options, and `--help` and `--version`.
-use Rattle.std.specs.Prelude.{◌≡◌, ◌≢◌, ◌⊎◌, ◌==◌, ℕ, true, List, [], ◌∷◌, Option, Some, None, codes, option_and_then, option_map}
-use Rattle.std.specs.Prelude.{if◌then◌else◌}
+use Rattle.std.specs.Prelude.{◌≡◌, ◌⊎◌, ◌==◌, ℕ, true, List, [], ◌∷◌, Option, Some, None, codes, option_and_then, option_map, if◌then◌else◌}
 use Rattle.std.specs.Str.{bytes_eq}
-use Rattle.std.specs.String.{string_bytes}
 use Rattle.clap.specs.Words.{App, IsAmong, Kinds, Row, Rule, Text, fault_of, first_of, kind_of, new_app, new_rule, subcommand_of, with_rule}
 use Rattle.clap.specs.Kinds.{or_else}
 use Rattle.clap.specs.Words.{with_subcommand}
@@ -13,8 +11,6 @@ use Rattle.command_line.specs.declared.work.Task.{Task}
 use Rattle.command_line.specs.declared.work.Task.TheVariants.{OnDrawn, OnFile}
 use Rattle.command_line.specs.declared.work.Work.{Work}
 use Rattle.command_line.specs.declared.work.Work.TheVariants.{Served, Step, Vacation}
-use Rattle.command_line.specs.declared.words.Asked.{Asked}
-use Rattle.command_line.specs.declared.words.Asked.TheVariants.{Information, Mistake, ToDo}
 use Rattle.command_line.specs.Bench.{bench_app, drawn_of, form_of, word_faults}
 use Rattle.command_line.specs.Numbers.{Numbered, number_of, rule_of_number}
 
@@ -90,33 +86,3 @@ if_none (k ∷ ks) file = None
 -- the file that the words name
 abbrev pub named_file : List Text → Option Text
 named_file words = if_none (faults words) (option_and_then not_dash (file_word (subcommand_of tool_app words)))
-
--- ---- what words ask for
-
--- the task of the words that were met, and the file that they name
-abbrev pub IsToDo : Option (Text × List Row) → Asked → Type 0
-IsToDo met (ToDo task file) = (task ≡ task_of met) × (option_map string_bytes file ≡ option_and_then not_dash (file_word met))
-IsToDo met asked = ⊥
-
--- what is answered where this is wrong with the words
-abbrev pub IsAnswerTo : Error → Asked → Type 0
-IsAnswerTo error (Information text) = IsInformation error
-IsAnswerTo error (Mistake text) = (kind_of error ≢ kind.OutOfMemory) × (IsInformation error → ⊥)
-IsAnswerTo error (ToDo task file) = ⊥
-
--- of what is wrong with the words something is no wish for help or the version
-pub record AreMistaken (words : List Text) : Type 0 where
-  pub error : Error
-  pub among : IsAmong (kind_of error) (faults words)
-  pub other : IsInformation error → ⊥
-
--- these words ask for it
-abbrev pub IsAskedBy : List Text → Asked → Type 0
-IsAskedBy words (Information text) = AskForInformation words
-IsAskedBy words (Mistake text) = AreMistaken words
-IsAskedBy words (ToDo task file) = AreTaken words × ((task ≡ task_named words) × (option_map string_bytes file ≡ named_file words))
-
--- the file that is to be opened for it
-abbrev pub file_asked : Asked → Option Text
-file_asked (ToDo task file) = option_map string_bytes file
-file_asked asked = None

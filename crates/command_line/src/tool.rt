@@ -1,14 +1,18 @@
 //! The program over a reader and two writers.
-ghost use Rattle.std.specs.Prelude.{◌≡◌, ◌≢◌, ◌≤◌, ◌⊎◌, false, [], IsErr, IfOk, IsTrue};
+ghost use Rattle.std.specs.Prelude.{◌≡◌, ◌≢◌, ◌≤◌, ◌⊎◌, ◌↔◌, false, [], map, IsErr, IfOk, IsTrue};
 ghost use Rattle.std.specs.String.{string_bytes};
 ghost use Rattle.std.specs.Io.{WritesAtMost};
 ghost use Rattle.std.specs.Io.KnownBytes.{Appends, WriteAppends};
-ghost use Rattle.command_line.specs.Ends.{CanBeDone, HasBegun, HasBrokenOff, HasStopped, HasToldFault, HasWorked, IsTask, ReadsFile};
-ghost use Rattle.command_line.specs.Ends.{TellsTimes, cause_text, line_of, status_of, unreadable_text, unwritten_text};
+ghost use Rattle.clap.specs.Words.{kind_of};
+ghost use Rattle.command_line.specs.Words.{AreTaken, AskForInformation, IsInformation, task_named};
+ghost use Rattle.command_line.specs.Ends.{AsksForTimes, HasBegun, HasBrokenOff, HasStopped, HasToldFault, HasWorked, IsOnDrawn};
+ghost use Rattle.command_line.specs.Ends.{cause_text, line_of, status_of, unreadable_text, unwritten_text};
 ghost use Rattle.seq_model.specs.Texts.{memory_text, refusal_text};
 
-use crate::words::Asked;
+use crate::words::{matches_of, task_in};
 use crate::work::{Cause, Output, output_of};
+use clap::Error;
+use clap::error::ErrorKind;
 use run_progress::Progress;
 use seq_model::Refusal;
 use session_output::RunFault;
@@ -89,8 +93,8 @@ fn refuse_output<E: Write>(err: &mut E) -> u8
     fault(err, REFUSED, "cannot write the output")
 }
 
-/// Does what is asked for with the file that it names, as it was opened: what `run_tool` does over its text, with each status as that has
-/// it, or the fault that it can't be read.
+/// Runs the words over the file that they name, as it was opened: `run_tool` over its text, with each status as that has it, or
+/// the fault that it can't be read.
 pub fn run_file<
     H: Threads + Wait + Clock + Sync,
     R: Read + Drop,
@@ -100,23 +104,26 @@ pub fn run_file<
 >(
     rt: &H,
     alloc: Global,
-    asked: &Asked,
+    words: &[String],
     opened: io::Result<R>,
     out: &mut W,
     err: &mut E,
     progress: &P,
 ) -> u8
-    requires { CanBeDone asked.now }
     ensures status { result ≤ AUDIT_FAULT }
     ensures sound { result ≢ AUDIT_FAULT }
     ensures done { result ≡ DONE
-        → IfOk opened (λ reader. HasWorked asked.now (R.remaining reader) (W.contents out.old) (W.contents out.new)) }
-    ensures quiet { result ≡ DONE → TellsTimes asked.now ⊎ (err.new ≡ err.old) }
-    ensures refused { result ≡ REFUSED → IfOk opened (λ reader.
-        ((out.new ≡ out.old) × HasToldFault asked.now (R.remaining reader) (E.contents err.old) (E.contents err.new))
+        → IfOk opened (λ reader. HasWorked (map string_bytes words.now) (R.remaining reader) (W.contents out.old) (W.contents out.new)) }
+    ensures quiet { result ≡ DONE → AsksForTimes (task_named (map string_bytes words.now)) ⊎ (err.new ≡ err.old) }
+    ensures memory { result ≡ MEMORY → out.new ≡ out.old }
+    ensures refused { result ≡ REFUSED → IfOk opened (λ reader. (out.new ≡ out.old) ⊎ (AskForInformation (map string_bytes words.now)
+        ⊎ HasStopped (map string_bytes words.now) (R.remaining reader) (W.contents out.old) (W.contents out.new))) }
+    ensures fault { AreTaken (map string_bytes words.now) → result ≡ REFUSED → IfOk opened (λ reader. ((out.new ≡ out.old)
+        × HasToldFault (task_named (map string_bytes words.now)) REFUSED (R.remaining reader) (E.contents err.old) (E.contents err.new))
         ⊎ (HasBegun (E.contents err.old) (E.contents err.new) (line_of unwritten_text)
-        × HasStopped asked.now (R.remaining reader) (W.contents out.old) (W.contents out.new))) }
-    ensures memory { result ≡ MEMORY → IfOk opened (λ _. IsTask asked.now) × (out.new ≡ out.old) }
+        × HasStopped (map string_bytes words.now) (R.remaining reader) (W.contents out.old) (W.contents out.new))) }
+    ensures unwritten { result ≡ REFUSED
+        → (out.new ≡ out.old) ⊎ HasBegun (E.contents err.old) (E.contents err.new) (line_of unwritten_text) }
     ensures starved { result ≡ MEMORY → IfOk opened (λ _. HasBegun (E.contents err.old) (E.contents err.new) (line_of memory_text)) }
     ensures unopened { IsErr opened → (result ≡ REFUSED) × (out.new ≡ out.old) }
     ensures told { IsErr opened → HasBegun (E.contents err.old) (E.contents err.new) (line_of unreadable_text) }
@@ -124,84 +131,111 @@ pub fn run_file<
     match opened {
         Ok(reader) => {
             let mut reader = reader;
-            run_tool(rt, alloc, asked, &mut reader, out, err, progress)
+            run_tool(rt, alloc, words, &mut reader, out, err, progress)
         }
         Err(_) => fault(err, REFUSED, "cannot read the file"),
     }
 }
 
-/// Does what is asked for over what the reader gives, and answers the exit status. How far sessions have come is told meanwhile.
+/// Runs the words, without the program's own name, over what the reader gives, and answers the exit status. How far workers have come is
+/// told meanwhile.
 ///
 /// What it prints goes to `out`, and a fault, one line, to `err`: then nothing goes to `out`. Where a write to `out` fails, `err` says so.
 /// Faults are found in the order words, file, size, text, opening. `sound`: no audit of what was run finds a fault, and all tables
-/// that are left are balanced. `done`: with status 0 `out` has grown by help or the version, or by what the task prints, once that was
-/// audited; what a run took goes to `err` where that is asked for. `unread`: nothing is read for words that name no work on a file.
-/// `refused`: with status 1 either nothing was printed, and `err` grows by what is wrong with the words or by the line of the task's fault;
-/// or `out` has grown by a beginning of what was to be printed, be it help, and not by all of it, and `err` by the line that the output can't
-/// be written. `starved`: with status 2 by the line that memory was refused. Where a write to `err` fails, it is a beginning of that.
+/// that are left are balanced. `done`: with status 0 the words ask for help or the version, or they and the text are taken and `out` has
+/// grown by what the task that they name prints, once that was audited; what a run took goes to `err` where that is asked for. `unread`,
+/// `drawn`: nothing is read for refused words, nor where sessions are drawn. `told`, `starved`: what `err` grows by, but where a write to
+/// it fails, is the line of the fault, and `out` stays as it was (`memory`); or it is the line that the output can't be written, and `out`
+/// has grown by a beginning of what the task prints, but not by all of it. `unwritten`: with status 1 `out` has changed, by help and the
+/// version too, only where that line was written.
 pub fn run_tool<H: Threads + Wait + Clock + Sync, R: Read, W: Write, E: Write, P: Progress + Sync>(
     rt: &H,
     alloc: Global,
-    asked: &Asked,
+    words: &[String],
     reader: &mut R,
     out: &mut W,
     err: &mut E,
     progress: &P,
 ) -> u8
-    requires { CanBeDone asked.now }
     ensures status { result ≤ AUDIT_FAULT }
     ensures sound { result ≢ AUDIT_FAULT }
-    ensures done { result ≡ DONE → HasWorked asked.now (R.remaining reader.old) (W.contents out.old) (W.contents out.new) }
-    ensures quiet { result ≡ DONE → TellsTimes asked.now ⊎ (err.new ≡ err.old) }
+    ensures done { result ≡ DONE
+        → HasWorked (map string_bytes words.now) (R.remaining reader.old) (W.contents out.old) (W.contents out.new) }
+    ensures quiet { result ≡ DONE → AsksForTimes (task_named (map string_bytes words.now)) ⊎ (err.new ≡ err.old) }
     ensures refused { result ≡ REFUSED
-        → ((out.new ≡ out.old) × HasToldFault asked.now (R.remaining reader.old) (E.contents err.old) (E.contents err.new))
+        → (out.new ≡ out.old)
+        ⊎ (AskForInformation (map string_bytes words.now)
+        ⊎ HasStopped (map string_bytes words.now) (R.remaining reader.old) (W.contents out.old) (W.contents out.new)) }
+    ensures memory { result ≡ MEMORY → out.new ≡ out.old }
+    ensures unread { ¬ AreTaken (map string_bytes words.now) → reader.new ≡ reader.old }
+    ensures drawn { IsOnDrawn (task_named (map string_bytes words.now)) → reader.new ≡ reader.old }
+    ensures told { AreTaken (map string_bytes words.now) → result ≡ REFUSED
+        → ((out.new ≡ out.old) × HasToldFault (task_named (map string_bytes words.now)) REFUSED (R.remaining reader.old)
+        (E.contents err.old) (E.contents err.new))
         ⊎ (HasBegun (E.contents err.old) (E.contents err.new) (line_of unwritten_text)
-        × HasStopped asked.now (R.remaining reader.old) (W.contents out.old) (W.contents out.new)) }
-    ensures memory { result ≡ MEMORY → IsTask asked.now × (out.new ≡ out.old) }
+        × HasStopped (map string_bytes words.now) (R.remaining reader.old) (W.contents out.old) (W.contents out.new)) }
+    ensures unwritten { result ≡ REFUSED
+        → (out.new ≡ out.old) ⊎ HasBegun (E.contents err.old) (E.contents err.new) (line_of unwritten_text) }
     ensures starved { result ≡ MEMORY → HasBegun (E.contents err.old) (E.contents err.new) (line_of memory_text) }
-    ensures unread { ¬ ReadsFile asked.now → reader.new ≡ reader.old }
 {
-    match asked {
-        Asked::Information(text) => print(out, err, text.as_bytes()),
-        Asked::Mistake(text) => {
-            tell(err, text.as_bytes());
-            REFUSED
-        }
-        Asked::ToDo(task, _) => match output_of(rt, alloc, *task, reader, progress) {
-            Ok(output) => print_output(out, err, &output),
-            Err(cause) => refuse(alloc, err, cause),
-        },
+    let task = match matches_of(alloc, words) {
+        Ok(matches) => task_in(&matches),
+        Err(error) => return refuse_words(out, err, error),
+    };
+    match output_of(rt, alloc, task, reader, progress) {
+        Ok(output) => print(out, err, &output),
+        Err(cause) => refuse(alloc, err, cause),
     }
 }
 
-/// Writes the text, or says that it can't be written.
-fn print<W: Write, E: Write>(out: &mut W, err: &mut E, text: &[u8]) -> u8
+/// Writes what is to be printed, and then what the run took, if that is to be told.
+fn print<W: Write, E: Write>(out: &mut W, err: &mut E, output: &Output) -> u8
     ensures status { (result ≡ DONE) ⊎ (result ≡ REFUSED) }
-    ensures done { result ≡ DONE → Appends (W.contents out.old) (W.contents out.new) text.now }
-    ensures quiet { result ≡ DONE → err.new ≡ err.old }
+    ensures done { result ≡ DONE → Appends (W.contents out.old) (W.contents out.new) output.now.bytes.items }
+    ensures quiet { result ≡ DONE → string_bytes output.now.times ≡ [] → err.new ≡ err.old }
     ensures failed { result ≡ REFUSED → HasBegun (E.contents err.old) (E.contents err.new) (line_of unwritten_text) }
-    ensures broken { result ≡ REFUSED → HasBrokenOff (W.contents out.old) (W.contents out.new) text.now }
+    ensures broken { result ≡ REFUSED → HasBrokenOff (W.contents out.old) (W.contents out.new) output.now.bytes.items }
 {
-    if !tell(out, text) {
+    if !tell(out, output.bytes.as_slice()) {
         return refuse_output(err);
+    }
+    if !output.times.is_empty() {
+        tell(err, output.times.as_bytes());
     }
     DONE
 }
 
-/// Writes what is to be printed, and then what the run took, if that is to be told.
-fn print_output<W: Write, E: Write>(out: &mut W, err: &mut E, output: &Output) -> u8
-    ensures status { (result ≡ DONE) ⊎ (result ≡ REFUSED) }
-    ensures done { result ≡ DONE → Appends (W.contents out.old) (W.contents out.new) output.now.bytes.items }
-    ensures quiet { result ≡ DONE → string_bytes output.now.times ≡ [] → err.new ≡ err.old }
-    ensures times { result ≡ DONE → HasBegun (E.contents err.old) (E.contents err.new) (string_bytes output.now.times) }
-    ensures failed { result ≡ REFUSED → HasBegun (E.contents err.old) (E.contents err.new) (line_of unwritten_text) }
-    ensures broken { result ≡ REFUSED → HasBrokenOff (W.contents out.old) (W.contents out.new) output.now.bytes.items }
+/// A wish for help or the version is no fault: its text goes to `out`.
+fn refuse_words<W: Write, E: Write>(out: &mut W, err: &mut E, error: Error) -> u8
+    ensures status { result ≤ MEMORY }
+    ensures done { result ≡ DONE → IsInformation error × (err.new ≡ err.old) }
+    ensures kept { (out.new ≡ out.old) ⊎ IsInformation error }
+    ensures unwritten { result ≡ REFUSED
+        → (out.new ≡ out.old) ⊎ HasBegun (E.contents err.old) (E.contents err.new) (line_of unwritten_text) }
+    ensures memory { (result ≡ MEMORY) ↔ (kind_of error ≡ ErrorKind.OutOfMemory) }
+    ensures starved { result ≡ MEMORY → HasBegun (E.contents err.old) (E.contents err.new) (line_of memory_text) }
 {
-    let status = print(out, err, output.bytes.as_slice());
-    if status == DONE && !output.times.is_empty() {
-        tell(err, output.times.as_bytes());
+    match error.kind() {
+        ErrorKind::OutOfMemory => refuse_memory(err),
+        ErrorKind::DisplayHelp | ErrorKind::DisplayVersion => {
+            status_of_write(err, write!(out, "{error}"))
+        }
+        _ => {
+            let _ = write!(err, "{error}");
+            REFUSED
+        }
     }
-    status
+}
+
+fn status_of_write<E: Write>(err: &mut E, written: io::Result<()>) -> u8
+    ensures status { (result ≡ DONE) ⊎ (result ≡ REFUSED) }
+    ensures quiet { result ≡ DONE → err.new ≡ err.old }
+    ensures failed { result ≡ REFUSED → HasBegun (E.contents err.old) (E.contents err.new) (line_of unwritten_text) }
+{
+    match written {
+        Ok(()) => DONE,
+        Err(_) => refuse_output(err),
+    }
 }
 
 /// Says why nothing is printed.

@@ -5,9 +5,9 @@ ghost use Rattle.std.specs.String.{string_bytes};
 ghost use Rattle.clap.specs.Words.{FailsBy, app_of, found_of, kind_of, rows_of, rule_of, subcommand_of, subcommand_rows_of};
 ghost use Rattle.clap.specs.declared.builder.command.Command.TheViews.{out-Command as fields_of};
 ghost use Rattle.command_line.specs.declared.work.Task.TheVariants.{OnFile};
-ghost use Rattle.command_line.specs.Ends.{CanBeDone, IsDoable};
-ghost use Rattle.command_line.specs.Words.{IsAnswerTo, IsAskedBy, IsToDo, faults, file_asked, file_word, not_dash, tool_app, step_app};
-ghost use Rattle.command_line.specs.Words.{vacation_app, file_rule, task_by, faults_of_forms, task_of, vacation_work};
+ghost use Rattle.command_line.specs.Ends.{IsDoable};
+ghost use Rattle.command_line.specs.Words.{faults, file_word, named_file, not_dash, tool_app, step_app, vacation_app, file_rule, task_by};
+ghost use Rattle.command_line.specs.Words.{faults_of_forms, task_of, vacation_work};
 ghost use Rattle.clap.specs.declared.error.kind.ErrorKind.TheVariants.{InvalidValue};
 
 use crate::bench::{bench_command, drawn_in, form_fault, form_in, unknown_form};
@@ -161,60 +161,25 @@ fn work_on_sessions(workers: u64) -> Work
     }
 }
 
-/// What the words ask for.
-#[derive(Drop)]
-pub enum Asked {
-    /// Help or the version: this text.
-    Information(String),
-    /// Nothing that can be done; this text says what is wrong with the words.
-    Mistake(String),
-    /// This task, on the file of this name; without one on standard input, or on drawn sessions.
-    ToDo(Task, Option<String>),
-}
-
-impl Asked {
-    /// The file that is to be opened for it.
-    pub fn file(&self) -> Option<&str>
-        ensures { option_map (λ s. s.now) result ≡ file_asked self.now }
-    {
-        match self {
-            Asked::ToDo(_, Some(file)) => Some(file.as_str()),
-            _ => None,
-        }
-    }
-}
-
-/// What the words, without the program's own name, ask for. `Memory` where they could not be read for want of it.
-pub fn asked_by(alloc: Global, words: &[String]) -> Result<Asked, Memory>
-    ensures asked { IfOk result (IsAskedBy (map string_bytes words.now)) }
-    ensures doable { IfOk result CanBeDone }
+/// The file that the words name. There is none for `-` and for refused words.
+pub fn file_of(alloc: Global, words: &[String]) -> Result<Option<String>, Memory>
+    ensures { IfOk result (λ file. option_map string_bytes file ≡ named_file (map string_bytes words.now)) }
 {
     match matches_of(alloc, words) {
-        Ok(matches) => to_do(alloc, &matches),
-        Err(error) => answer_of(alloc, &error),
+        Ok(matches) => file_in(alloc, &matches),
+        Err(error) => none_for(error),
     }
 }
 
-fn to_do(alloc: Global, matches: &ArgMatches<'_>) -> Result<Asked, Memory>
-    ensures asked { IfOk result (IsToDo (subcommand_rows_of matches.now)) }
-    ensures doable { IfOk result CanBeDone }
+/// Refused words name no file; but words that could not be read for want of memory might.
+fn none_for(error: Error) -> Result<Option<String>, Memory>
+    ensures none { IfOk result (λ file. (file ≡ None) × (kind_of error ≢ ErrorKind.OutOfMemory)) }
+    ensures memory { IsErr result → kind_of error ≡ ErrorKind.OutOfMemory }
 {
-    let task = task_in(matches);
-    let file = file_in(alloc, matches)?;
-    Ok(Asked::ToDo(task, file))
-}
-
-/// A wish for help or the version is no mistake.
-fn answer_of(alloc: Global, error: &Error) -> Result<Asked, Memory>
-    ensures { IfOk result (IsAnswerTo error.now) }
-{
-    match error.kind() {
-        ErrorKind::OutOfMemory => Err(Memory),
-        ErrorKind::DisplayHelp | ErrorKind::DisplayVersion => {
-            Ok(Asked::Information(error.to_string(alloc)?))
-        }
-        _ => Ok(Asked::Mistake(error.to_string(alloc)?)),
+    if error.kind() == ErrorKind::OutOfMemory {
+        return Err(Memory);
     }
+    Ok(None)
 }
 
 fn file_in(alloc: Global, matches: &ArgMatches<'_>) -> Result<Option<String>, Memory>

@@ -28,7 +28,7 @@ pub const FILE_LIMIT: usize = 16_777_216;
 
 /// A kind of work on the text of a file.
 #[derive(Clone, Copy)]
-pub enum Work {
+pub(crate) enum Work {
     /// A step script is run.
     Step,
     /// The sessions of a session file are run, one after another.
@@ -39,7 +39,7 @@ pub enum Work {
 
 /// How it is told what a run took.
 #[derive(Clone, Copy)]
-pub enum TimesForm {
+pub(crate) enum TimesForm {
     /// Not at all.
     Unasked,
     /// In lines for a person.
@@ -50,7 +50,7 @@ pub enum TimesForm {
 
 /// What is to be done.
 #[derive(Clone, Copy)]
-pub enum Task {
+pub(crate) enum Task {
     OnFile(Work),
     /// Sessions are drawn and run by workers; what that takes may be asked for.
     OnDrawn(Drawn, TimesForm),

@@ -4,11 +4,7 @@
 //! standard streams. Where standard error is a terminal it also says how far sessions have come, in one line, which is gone at the end.
 #![tactic(auto)]
 
-ghost use Rattle.command_line.specs.Ends.{CanBeDone};
-
-use command_line::{
-    Asked, Pace, Progress, REFUSED, asked_by, fault, refuse_memory, run_file, run_tool,
-};
+use command_line::{Pace, Progress, REFUSED, fault, file_of, refuse_memory, run_file, run_tool};
 use std::io::{IsTerminal, Write};
 use std::process::ExitCode;
 use std::sync::Wait;
@@ -111,15 +107,6 @@ fn refuse(rt: &HostRuntime, error: io::Error) -> u8 {
 
 // The handle on threads is the runtime, too.
 fn run<H: Threads + Wait + Clock + Sync>(threads: &H, rt: &HostRuntime, words: &[String]) -> u8 {
-    match asked_by(rt.alloc(), words) {
-        Ok(asked) => run_asked(threads, rt, &asked),
-        Err(_) => refuse_memory(&mut rt.stderr()),
-    }
-}
-
-fn run_asked<H: Threads + Wait + Clock + Sync>(threads: &H, rt: &HostRuntime, asked: &Asked) -> u8
-    requires { CanBeDone asked.now }
-{
     let alloc = rt.alloc();
     let mut out = rt.stdout();
     let mut err = rt.stderr();
@@ -129,14 +116,20 @@ fn run_asked<H: Threads + Wait + Clock + Sync>(threads: &H, rt: &HostRuntime, as
         begun: AtomicU64::new(0),
         told: AtomicU64::new(0),
     };
-    match asked.file() {
-        Some(file) => {
-            let opened = std::fs::open(rt, file);
-            run_file(threads, alloc, asked, opened, &mut out, &mut err, &told)
+    match file_of(alloc, words) {
+        Ok(Some(file)) => {
+            let opened = std::fs::open(rt, file.as_str());
+            run_file(threads, alloc, words, opened, &mut out, &mut err, &told)
         }
-        None => {
-            let mut input = rt.stdin();
-            run_tool(threads, alloc, asked, &mut input, &mut out, &mut err, &told)
-        }
+        Ok(None) => run_tool(
+            threads,
+            alloc,
+            words,
+            &mut rt.stdin(),
+            &mut out,
+            &mut err,
+            &told,
+        ),
+        Err(_) => refuse_memory(&mut err),
     }
 }

@@ -1,13 +1,10 @@
 //! The sections, and what is made of each.
-ghost use Rattle.std.specs.Prelude.{IfOk};
-ghost use Rattle.command_line.specs.Ends.{CanBeDone};
-
 use crate::files::{Input, Output, bytes_of, ending_of};
 use crate::laid_out::print_laid_out;
 use crate::reading::print_script;
 use crate::times::{print_missed, print_paces};
 use crate::worlds::print_worlds;
-use command_line::{Asked, DONE, MEMORY, NoProgress, asked_by, run_tool};
+use command_line::{DONE, MEMORY, NoProgress, file_of, run_tool};
 use seq_model::{Memory, Refusal};
 use std::alloc::{AllocError, Global};
 use std::fmt::Write;
@@ -114,21 +111,15 @@ fn print_files(text: &mut String, lines: &str) -> Result<(), AllocError> {
     Ok(())
 }
 
-fn asked_in(alloc: Global, words: &[String]) -> Result<Asked, AllocError>
-    ensures { IfOk result CanBeDone }
-{
-    match asked_by(alloc, words) {
-        Ok(asked) => Ok(asked),
-        Err(Memory) => Err(AllocError),
-    }
-}
-
 // The words' fault is told by what runs them.
 fn print_file(text: &mut String, asked: &str) -> Result<(), AllocError> {
     let alloc = *text.allocator();
     let words = words_of(alloc, asked)?;
-    let asked = asked_in(alloc, words.as_slice())?;
-    text.push_str(asked.file().unwrap_or("no file"))
+    match file_of(alloc, words.as_slice()) {
+        Ok(Some(file)) => text.push_str(file.as_str()),
+        Ok(None) => text.push_str("no file"),
+        Err(Memory) => Err(AllocError),
+    }
 }
 
 fn run_words<H: Threads + Wait + Clock + Sync>(
@@ -175,8 +166,7 @@ fn run_over<H: Threads + Wait + Clock + Sync>(
 ) -> Result<(), AllocError> {
     let alloc = *text.allocator();
     let mut err = output(alloc, false)?;
-    let asked = asked_in(alloc, words)?;
-    let status = run_tool(rt, alloc, &asked, input, out, &mut err, &NoProgress);
+    let status = run_tool(rt, alloc, words, input, out, &mut err, &NoProgress);
     if status == MEMORY {
         return Err(AllocError);
     }
