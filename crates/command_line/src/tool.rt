@@ -1,5 +1,5 @@
 //! The program over a reader and two writers.
-ghost use Rattle.std.specs.Prelude.{◌≡◌, ◌≢◌, ◌≤◌, ◌⊎◌, ◌↔◌, false, [], map, IsErr, IfOk, IsTrue};
+ghost use Rattle.std.specs.Prelude.{◌≡◌, ◌≢◌, ◌≤◌, ◌⊎◌, ◌↔◌, false, [], map, IsErr, IfOk, IsOk, IsTrue};
 ghost use Rattle.std.specs.String.{string_bytes};
 ghost use Rattle.std.specs.Io.{WritesAtMost};
 ghost use Rattle.std.specs.Io.KnownBytes.{Appends, WriteAppends};
@@ -229,6 +229,8 @@ fn refuse_words<W: Write, E: Write>(out: &mut W, err: &mut E, error: Error) -> u
 
 fn status_of_write<E: Write>(err: &mut E, written: io::Result<()>) -> u8
     ensures status { (result ≡ DONE) ⊎ (result ≡ REFUSED) }
+    ensures done { IsOk written → result ≡ DONE }
+    ensures refused { IsErr written → result ≡ REFUSED }
     ensures quiet { result ≡ DONE → err.new ≡ err.old }
     ensures failed { result ≡ REFUSED → HasBegun (E.contents err.old) (E.contents err.new) (line_of unwritten_text) }
 {

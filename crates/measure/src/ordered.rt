@@ -5,7 +5,6 @@ use crate::clock::seconds_since;
 use crate::sessions::{Mix, SEED, STRIPES, memory, no_such_sessions, options};
 use generated_sessions::{Options, generate, opening};
 use ordered_sessions::run_in_order;
-use run_progress::NoProgress;
 use std::io;
 use std::rt::Runtime;
 use std::time::Instant;
@@ -54,7 +53,7 @@ fn timed(
 {
     let tables = opening(rt.alloc(), SEED, options).map_err(memory)?;
     let start = Instant::now(rt);
-    let run = run_in_order(rt.alloc(), tables, STRIPES, actions, &NoProgress);
+    let run = run_in_order(rt.alloc(), tables, STRIPES, actions);
     let is_refused = run.is_err();
     drop(run);
     if is_refused {

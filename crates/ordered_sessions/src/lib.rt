@@ -7,4 +7,4 @@
 mod order;
 mod session;
 
-pub use order::{Ordered, run_in_order};
+pub use order::{Ordered, run_in_order, run_in_order_with};

@@ -12,7 +12,7 @@ ghost use Rattle.ordered_sessions.specs.Turns.{HasOpened, IsAtRest, RunsAll};
 
 use crate::session::run_session;
 use conflict::is_stripe_count;
-use run_progress::Progress;
+use run_progress::{NoProgress, Progress};
 use running_world::World;
 use seq_model::{Items, Memory, Record, Refusal, State};
 use served_sessions::{are_allowed, session_of};
@@ -81,11 +81,24 @@ fn finish(alloc: Global, world: World<Entry>) -> Result<Ordered, Memory>
 }
 
 /// Runs the sessions of these actions, one after another, on a world that opens on these tables, each collection in so many stripes.
-/// After each of them `progress` is told how many it were.
 ///
 /// `TooLong` where a collection can't have so many stripes, or an action isn't allowed, which is found before anything runs; and
 /// `Memory` where a growth was refused.
-pub fn run_in_order<P: Progress>(
+pub fn run_in_order(
+    alloc: Global,
+    tables: Tables,
+    stripes: u32,
+    actions: &[Action],
+) -> Result<Ordered, Refusal>
+    requires { IsBalanced tables }
+    ensures ordered { IfOk result (λ ordered. AreReceipts tables actions.now ordered.receipts ordered.state) }
+    ensures refused { IfErr result (λ refusal. IsTooLong refusal (IsStripeCount stripes × All IsAllowed actions.now)) }
+{
+    run_in_order_with(alloc, tables, stripes, actions, &NoProgress)
+}
+
+/// What `run_in_order` does; after each session `progress` is told how many it were.
+pub fn run_in_order_with<P: Progress>(
     alloc: Global,
     tables: Tables,
     stripes: u32,

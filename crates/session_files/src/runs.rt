@@ -6,7 +6,7 @@ ghost use Rattle.vac_model.specs.Balanced.{IsBalanced};
 ghost use Rattle.session_output.specs.declared.fault.RunFault.TheVariants.{Refused};
 ghost use Rattle.session_files.specs.Runs.{IsSessionRun};
 
-use ordered_sessions::run_in_order;
+use ordered_sessions::run_in_order_with;
 use run_progress::Progress;
 use session_lines::lines_of;
 use session_output::{RunFault, STRIPES, SessionRun, inspect};
@@ -34,7 +34,7 @@ pub fn run_sessions<P: Progress>(
     runs_are_actions();
     states_tell_tables();
     let opening = state_of(alloc, &tables)?;
-    let ordered = run_in_order(alloc, tables, STRIPES, actions, progress)?;
+    let ordered = run_in_order_with(alloc, tables, STRIPES, actions, progress)?;
     let receipts = ordered.receipts.as_slice();
     let left = tables_of(alloc, &ordered.state)?;
     inspect(alloc, &opening, receipts, &ordered.state, &left)?;

@@ -2,7 +2,6 @@
 use crate::print::{print_ordered, print_trace};
 use crate::rows::{actions_in, events_in, stripes_in, tables_in};
 use ordered_sessions::run_in_order;
-use run_progress::NoProgress;
 use seq_model::Refusal;
 use std::alloc::Global;
 use std::fmt::Write;
@@ -97,7 +96,7 @@ fn run_ordered(
     let alloc = *text.allocator();
     let actions = actions_in(alloc, rows)?;
     let tables = tables_in(alloc, rows)?;
-    match run_in_order(alloc, tables, stripes, actions.as_slice(), &NoProgress) {
+    match run_in_order(alloc, tables, stripes, actions.as_slice()) {
         Ok(ordered) => Ok(Ok(print_ordered(text, &ordered)?)),
         Err(refusal) => Ok(Err(refusal)),
     }

@@ -1,6 +1,6 @@
 use Rattle.std.proofs.Common.{length}
 use Rattle.ordered_sessions.proofs.OpeningLemmas.{opened}
-use Rattle.ordered_sessions.proofs.order.run_in_order.Goals as goal
+use Rattle.ordered_sessions.proofs.order.run_in_order_with.Goals as goal
 
 pub run_all-requires-clause-allowed : goal.run_all-requires-clause-allowed
 run_all-requires-clause-allowed g c = c.are_allowed.ensures.0 c.if-not-are_allowed.false
