@@ -3,6 +3,7 @@ mod RunsLemmas
 mod AnswerLemmas
 mod OwnsLemmas
 mod PreparesLemmas
+mod HeldLemmas
 mod CopyingLemmas
 mod CallsLemmas
 mod OwnAsksLemmas

@@ -1,0 +1,37 @@
+-- What a copy holds it answers, where the call is of its block's kind: a call on keys by what was touched of them, and one on a whole copy
+-- as any call that the block knows.
+use Rattle.std.proofs.Common.{◌≡◌, ℕ, ◌<◌, true, true≢false, Option, Some, refl, sym, ap}
+use Rattle.std.specs.Prelude.{IsSome, is_some}
+use Rattle.std.specs.Ordering.{nat_cmp}
+use Rattle.std.specs.FinMap.{FinMap}
+use Rattle.seq_model.specs.declared.call.Op.{Op}
+use Rattle.seq_model.specs.declared.call.Op.TheVariants.{Get, Put, Remove, Len, Count, Add, Take}
+use Rattle.replay_log.specs.Base.{Shown, OfMap, OfBag, shown_of}
+use Rattle.replay_log.specs.Contents.{Block}
+use Rattle.replay_log.specs.Parts.{kind_of}
+use Rattle.replay_log.specs.Worlds.{is_known}
+use Rattle.shadow.specs.Memo.{answer_with, holds_with}
+use Rattle.actor_copies.specs.declared.copies.Copied.{Copied}
+use Rattle.actor_copies.specs.declared.copies.Copied.TheVariants.{Keys, Whole}
+use Rattle.actor_copies.specs.Copies.{answer_of, holds_call}
+use Rattle.actor_copies.specs.Footprints.{base_in}
+use Rattle.actor_copies.proofs.CopiedLemmas.{known_at}
+
+module _ {V : Type 0} where
+  keys_answer : (s : Shown V) (es : FinMap nat_cmp (Option V)) (cs : FinMap nat_cmp ℕ) (total : Option ℕ) (grown shrunk : ℕ) (op : Op V)
+      → holds_with s es cs total op ≡ true → IsSome (answer_with s es cs total grown shrunk op)
+  keys_answer (OfMap b) es cs total grown shrunk Len h = refl
+  keys_answer (OfMap b) es cs total grown shrunk (Get k) h = refl
+  keys_answer (OfMap b) es cs total grown shrunk (Put k v) h = refl
+  keys_answer (OfMap b) es cs total grown shrunk (Remove k) h = refl
+  keys_answer (OfBag b) es cs total grown shrunk (Count x) h = refl
+  keys_answer (OfBag b) es cs total grown shrunk (Add x) h = refl
+  keys_answer (OfBag b) es cs total grown shrunk (Take x) h = refl
+  keys_answer s es cs total grown shrunk op h = absurd (true≢false (sym h))
+
+  -- a copy of a block answers what it holds
+  pub held_answers : (b : Block) (c : Copied V) (op : Op V) → 0 < b.stripes → kind_of (shown_of (base_in c)) ≡ b.kind
+      → is_known (Some b) op ≡ true → holds_call c op ≡ true → IsSome (answer_of c op)
+  held_answers b (Keys m es) op pos kind known holds =
+      keys_answer (shown_of m.blank) m.entries m.copies m.total m.grown m.shrunk op holds
+  held_answers b (Whole s) op pos kind known holds = ap is_some (known_at b (shown_of s.base) op pos kind known).1
