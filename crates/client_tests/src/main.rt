@@ -1,41 +1,60 @@
-//! Tests of `wolimevar`, above all on what it refuses: handles, layouts, bodies, values and sessions.
+//! Tests of `wolimevar`, above all on what it refuses: handles, layouts, bodies, values and sessions. Each section prints one line, and
+//! what all must print stands in the file `stdout`.
 //!
-//! They are rows of text in the file `stdin`, one test a row, each of which is printed with its answer; what all must answer stands in the
-//! file `stdout`. So the crate is proved once, however many rows there are. What a row may say is told at [`rows::answer_all`].
+//! Most sections run on one store, which `main` opens and lends to them: [`stores`] says what it holds.
 #![tactic(auto)]
 
-mod contents;
+mod aborts;
+mod bodies;
+mod copies;
+mod ends;
 mod handles;
-mod layouts;
+mod limits;
 mod numbers;
 mod refusals;
-mod rows;
-mod scripts;
 mod sessions;
-mod steps;
+mod stores;
 mod values;
 
-use rows::answer_all;
-use std::io;
-use std::process::ExitCode;
+use std::alloc::Global;
 use std::thread::Threads;
+use stores::{Handles, open};
+use wolimevar::{Refusal, Store};
 
-/// The status of a run that could not read its rows or print its answers.
-const FAILED: u8 = 1;
-
-fn main(rt: HostRuntime) -> ExitCode {
-    match run(&rt, &rt) {
-        Ok(()) => ExitCode::from(0),
-        Err(_) => ExitCode::from(FAILED),
-    }
+/// The sections on one store.
+fn test_store<R: Threads + Sync>(
+    rt: &R,
+    alloc: Global,
+    text: &mut String,
+    store: &mut Store<u64>,
+    handles: Handles,
+) -> Result<(), Refusal> {
+    ends::test_calls(text, store, handles)?;
+    numbers::test(rt, alloc, text, store, handles)?;
+    handles::test(alloc, text, store, handles)?;
+    limits::test_calls(text, store, handles)?;
+    aborts::test(alloc, text, store, handles)?;
+    sessions::test(rt, alloc, text, store, handles)
 }
 
-// The handle on threads is the runtime, too. All is answered before anything is printed.
-fn run<H: Threads + Sync>(threads: &H, rt: &HostRuntime) -> io::Result<()> {
-    let rows = io::read_to_string(rt.alloc(), rt.stdin())?;
+/// All sections, up to one that fails.
+fn test<R: Threads + Sync>(rt: &R, alloc: Global, text: &mut String) -> Result<(), Refusal> {
+    let (mut store, handles) = open(alloc, 0)?;
+    let tested = test_store(rt, alloc, text, &mut store, handles);
+    let closed = ends::test_closed(alloc, text, store.close(), handles);
+    tested?;
+    closed?;
+    handles::test_another(alloc, text, handles)?;
+    limits::test(alloc, text)?;
+    copies::test(rt, alloc, text)?;
+    values::test(alloc, text)?;
+    refusals::test(text)
+}
+
+fn main(rt: HostRuntime) -> std::io::Result<()> {
     let mut text = String::new(rt.alloc());
-    match answer_all(threads, rt.alloc(), &mut text, rows.as_str()) {
-        Ok(()) => rt.print(text.as_str()),
-        Err(_) => Err(io::Error::from(io::ErrorKind::OutOfMemory)),
+    if let Err(refusal) = test(&rt, rt.alloc(), &mut text) {
+        println!(rt; "failed: {refusal}")?;
     }
+    print!(rt; "{text}")
 }

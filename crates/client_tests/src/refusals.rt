@@ -1,5 +1,4 @@
 //! Which refusals are conflicts, and what each explains.
-use std::alloc::AllocError;
 use std::fmt::Write;
 use wolimevar::Refusal;
 
@@ -32,8 +31,7 @@ const REFUSALS: [Refusal; 13] = [
     Refusal::BadText { line: 1 },
 ];
 
-/// Prints each with its kind and what it explains.
-pub fn print_explained(text: &mut String) -> Result<(), AllocError> {
+pub fn test(text: &mut String) -> Result<(), Refusal> {
     for refusal in &REFUSALS {
         let kind = if refusal.is_conflict() {
             "conflict"
