@@ -29,4 +29,4 @@ mod SizesLemmas
 pub mod TakingLemmas
 mod PutBackLemmas
 mod RoomLemmas
-mod WeighedLemmas
+pub mod WeighedLemmas

@@ -58,7 +58,7 @@ use Rattle.actor_copies.proofs.KeptLemmas.{first_at}
 use Rattle.tx_actor.proofs.OwnAsksLemmas.{comes_owns}
 use Rattle.tx_actor.proofs.OwnsLemmas.{owns_by}
 use Rattle.actor_copies.proofs.TakingLemmas.{some_copy}
-use Rattle.tx_actor.proofs.HeldLemmas.{held_answers}
+use Rattle.actor_copies.proofs.WeighedLemmas.{held_answers}
 use Rattle.tx_actor.proofs.PreparesLemmas.{alike_owns, alike_seat}
 
 -- the writes of an accepted call are those that are ready

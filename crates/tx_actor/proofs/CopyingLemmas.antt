@@ -48,7 +48,7 @@ use Rattle.actor_copies.proofs.CallingLemmas.{not_read}
 use Rattle.actor_copies.proofs.FootprintLemmas.{sized}
 use Rattle.actor_copies.proofs.GoingLemmas.{GoesOn, fresh}
 use Rattle.actor_copies.proofs.TakingLemmas.{kept_same, some_copy, taken_copies, taken_goes_back, taken_in_block, taken_pieces, taken_there}
-use Rattle.tx_actor.proofs.HeldLemmas.{held_answers}
+use Rattle.actor_copies.proofs.WeighedLemmas.{held_answers}
 use Rattle.tx_actor.specs.declared.actor.Asked.{Asked}
 use Rattle.tx_actor.specs.declared.actor.Stage.TheVariants as stage
 use Rattle.tx_actor.specs.declared.actor.Told.{Told}

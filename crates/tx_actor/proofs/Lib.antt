@@ -3,7 +3,6 @@ mod RunsLemmas
 mod AnswerLemmas
 mod OwnsLemmas
 mod PreparesLemmas
-mod HeldLemmas
 mod CopyingLemmas
 mod CallsLemmas
 mod OwnAsksLemmas
