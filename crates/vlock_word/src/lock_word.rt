@@ -1,5 +1,5 @@
 //! The lock word of a location.
-ghost use Rattle.std.specs.Prelude.{◌≡◌, ◌<◌, ◌^◌};
+ghost use Rattle.std.specs.Prelude.{◌≡◌, ◌<◌, ◌%◌, ◌^◌};
 ghost use Rattle.vlock_word.specs.LockWord.{bits, unbits, version_of, is_locked_word, is_usable_at};
 ghost use Rattle.vlock_word.specs.declared.lock_word.LockWord.TheVariants.{Free, Locked};
 
@@ -42,15 +42,15 @@ impl LockWord {
         }
     }
 
-    /// The number of this lock word, `2 * version + locked`.
+    /// The number of this lock word, `2 * version + locked`. Of a version of 2^63 or more the top bit is lost.
     pub fn bits(self) -> u64
-        requires { version_of self < 2 ^ 63 }
-        ensures is { result ≡ bits self }
-        ensures back { unbits result ≡ self }
+        ensures wraps { result ≡ bits self % 2 ^ 64 }
+        ensures is { version_of self < 2 ^ 63 → result ≡ bits self }
+        ensures back { version_of self < 2 ^ 63 → unbits result ≡ self }
     {
         match self {
-            LockWord::Free(version) => 2 * version,
-            LockWord::Locked(version) => 2 * version + 1,
+            LockWord::Free(version) => version.wrapping_mul(2),
+            LockWord::Locked(version) => version.wrapping_mul(2).wrapping_add(1),
         }
     }
 
