@@ -6,8 +6,8 @@ use Rattle.replay_log.specs.Contents.{Block, end_of, home_of, is_plain, size, si
 use Rattle.replay_log.specs.Contents as contents
 use Rattle.replay_log.specs.Parts as parts
 use Rattle.replay_log.specs.Worlds.{World, all_of, distinct}
-use Rattle.actor_words.specs.declared.blocks.Kind.{Kind}
-use Rattle.actor_words.specs.declared.blocks.Kind.TheVariants as kind
+use Rattle.seq_model.specs.declared.kind.Kind.{Kind}
+use Rattle.seq_model.specs.declared.kind.Kind.TheVariants as kind
 use Rattle.actor_words.specs.declared.blocks.Placed.{Placed}
 use Rattle.actor_words.specs.declared.blocks.TheConstants.{COLLECTION_LIMIT, TABLE_LIMIT}
 

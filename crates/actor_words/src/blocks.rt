@@ -4,7 +4,7 @@ ghost use Rattle.replay_log.specs.Contents.{end_of, size_by};
 ghost use Rattle.seq_model.specs.declared.refusal.Refusal.TheVariants.{TooLong};
 ghost use Rattle.actor_words.specs.Blocks.{kind_of};
 
-use seq_model::Refusal;
+use seq_model::{Kind, Refusal};
 use std::alloc::Global;
 use std::marker::Model;
 
@@ -13,15 +13,6 @@ pub const COLLECTION_LIMIT: usize = 256;
 
 /// A table has at most so many locations.
 pub const TABLE_LIMIT: u32 = step_core::TABLE_LIMIT as u32;
-
-/// What a collection is.
-#[derive(Clone, Copy, Debug, PartialEq, Eq)]
-pub enum Kind {
-    Map,
-    Bag,
-    Pq,
-    Queue,
-}
 
 // How many locations a collection has beside its stripes.
 fn more_locations(kind: Kind) -> u64

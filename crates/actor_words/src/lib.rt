@@ -15,7 +15,7 @@ mod next;
 mod notice;
 mod requests;
 
-pub use blocks::{Blocks, COLLECTION_LIMIT, Kind, TABLE_LIMIT};
+pub use blocks::{Blocks, COLLECTION_LIMIT, TABLE_LIMIT};
 pub use calls::{has_room, has_room_below};
 pub use ending::{abort, cancel, release};
 pub use homes::written_homes;

@@ -7,7 +7,7 @@ use Rattle.replay_log.specs.Contents.{Block}
 use Rattle.replay_log.specs.Parts as parts
 use Rattle.step_core.proofs.Lists.{get_or_same}
 use Rattle.actor_words.specs.Blocks.{kind_of}
-use Rattle.actor_words.specs.declared.blocks.Kind.{Kind}
+use Rattle.seq_model.specs.declared.kind.Kind.{Kind}
 use Rattle.world_table.specs.Openings.{blocks_of}
 
 module _ {V : Type 0} where

@@ -4,8 +4,8 @@ ghost use Rattle.replay_log.specs.Collections.{kind_of_held};
 ghost use Rattle.actor_words.specs.Blocks.{kind_of};
 ghost use Rattle.world_table.specs.Openings.{blocks_of};
 
-use actor_words::{Blocks, Kind, TABLE_LIMIT};
-use seq_model::{Held, Refusal};
+use actor_words::{Blocks, TABLE_LIMIT};
+use seq_model::{Held, Kind, Refusal};
 use std::alloc::Global;
 
 fn kind<V>(held: &Held<V>) -> Kind

@@ -1,7 +1,7 @@
 use Rattle.std.proofs.Common.{◌≡◌, Bool, true, false, leb, get_or, sym, ap, subst, ◌∙◌, arith, rules}
 use Rattle.std.specs.List.Sorted.{IsPartitionedBy, IsPartitionPoint}
 use Rattle.std.proofs.lemmas.List.Sorted.{IsPartitionPoint-from_clause}
-use Rattle.actor_words.specs.declared.blocks.Kind.TheVariants as kind
+use Rattle.seq_model.specs.declared.kind.Kind.TheVariants as kind
 use Rattle.actor_words.specs.declared.blocks.Placed.{Placed}
 use Rattle.actor_words.specs.Blocks.{BlocksView, home_in}
 use Rattle.actor_words.proofs.BlocksLemmas.{beyond, home_there, no_home_beyond, no_home_word, parted, up_to}
