@@ -7,8 +7,7 @@ ghost use Rattle.actor_copies.specs.Copies.{IsAccepted, IsForgotten, IsFound, Is
 
 use crate::spares::Spares;
 use boxes::Boxed;
-use conflict::{Change, Outcome};
-use few_keys::FewKeys;
+use conflict::{Change, FewKeys, Outcome};
 use replay_log::{Base, LocationEditions, Touch};
 use seq_model::{Memory, Op, Refusal, Value};
 use shadow::{Memo, Shadow};

@@ -8,7 +8,7 @@ ghost use Rattle.actor_copies.specs.First.{IsBlank};
 
 use crate::copies::{Copied, CopyOf};
 use boxes::Boxed;
-use few_keys::FewKeys;
+use conflict::FewKeys;
 use replay_log::{Base, LocationEditions, Log, Touch};
 use seq_model::{Memory, Op, Refusal, Value};
 use shadow::{Memo, MemoKind, Shadow};

@@ -3,8 +3,7 @@ ghost use Rattle.std.specs.Prelude.{◌≡◌, ℕ, Some};
 ghost use Rattle.replay_log.specs.Worlds as worlds;
 ghost use Rattle.actor_words.specs.Blocks as blocks;
 
-use crate::blocks::Kind;
-use seq_model::Op;
+use seq_model::{Kind, Op};
 
 /// Whether a collection of this kind answers the call.
 pub fn is_known<V>(kind: Kind, op: &Op<V>) -> bool

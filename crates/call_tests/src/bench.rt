@@ -5,13 +5,11 @@ use crate::memos::answer_remembered;
 use crate::print::{print_changes, print_outcome};
 use conflict::{Changes, LocSet, Outcome, conflicts};
 use replay_log::{Base, Log};
-use row_parts::{
-    changes_of, from_index, print_base, print_held, print_reply, script_of, stripes_in,
-};
+use row_parts::{changes_of, from_index, print_base, print_held, print_reply, script_of, stripes_in};
 use seq_model::{Call, Held, Memory, Op, Refusal, Reply, Request, State};
+use session_text::{EventLine, Script};
 use shadow::Shadow;
 use std::alloc::Global;
-use step_script::{EventLine, Script};
 
 /// A collection, and the state of the sequential model after the same calls.
 #[derive(Drop)]

@@ -4,3 +4,4 @@ pub mod LocationLemmas
 pub mod MultisetLemmas
 pub mod SortLemmas
 pub mod CountLemmas
+mod FewLemmas

@@ -10,3 +10,4 @@ pub mod Places
 pub mod Multisets
 pub mod Editions
 pub mod Counts
+pub mod Few

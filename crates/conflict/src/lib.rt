@@ -11,12 +11,14 @@
 //! every collection, that legal outcomes that do not conflict commute.
 //!
 //! Beside it stand the things that all four collections use: [`LocSet`], a small set of locations; [`Editions`], the number of
-//! commits that changed each location; and [`Table`], a hash map that says for how many more entries it has room.
+//! commits that changed each location; [`Table`], a hash map that says for how many more entries it has room; and [`FewKeys`],
+//! the same map to its callers, but for the room after `clear`, which keeps up to sixteen keys in a list.
 #![tactic(auto)]
 
 mod change;
 mod conflict;
 mod editions;
+mod few;
 pub mod laws;
 mod loc_set;
 mod outcome;
@@ -26,9 +28,8 @@ mod table;
 pub use change::{Change, Changes};
 pub use conflict::Conflict;
 pub use editions::Editions;
+pub use few::FewKeys;
 pub use loc_set::{LocSet, conflicts};
 pub use outcome::{Note, Outcome};
-pub use stripes::{
-    PQ_STRIPE_LIMIT, STRIPE_LIMIT, is_pq_stripe_count, is_stripe_count, is_stripe_count_of,
-};
+pub use stripes::{PQ_STRIPE_LIMIT, STRIPE_LIMIT, is_pq_stripe_count, is_stripe_count, is_stripe_count_of};
 pub use table::Table;

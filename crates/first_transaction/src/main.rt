@@ -7,14 +7,14 @@
 
 ghost use Rattle.std.specs.Prelude.{IfOk, OnOk};
 ghost use Rattle.first_transaction.specs.Opening.{two_ones};
-ghost use Rattle.running_world.specs.Serial.{IsFrom};
-ghost use Rattle.running_world.specs.Traces.{IsSerialTrace};
+ghost use Rattle.step_world.specs.Serial.{IsFrom};
+ghost use Rattle.step_world.specs.Traces.{IsSerialTrace};
 
-use running_world::{Trace, World};
 use seq_model::{Answer, Call, Event, Items, Memory, Notice, Op, Refusal, Request, Shape, State};
 use std::alloc::Global;
 use std::fmt::Write;
 use std::io;
+use step_world::{Trace, World};
 
 /// No request of a transaction on two words has so many steps.
 const STEP_LIMIT: u32 = 100;

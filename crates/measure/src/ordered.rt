@@ -4,11 +4,11 @@ ghost use Rattle.generated_sessions.specs.Options.{AreWithin};
 use crate::clock::seconds_since;
 use crate::sessions::{Mix, SEED, STRIPES, memory, no_such_sessions, options};
 use generated_sessions::{Options, generate, opening};
-use ordered_sessions::run_in_order;
 use std::io;
 use std::rt::Runtime;
 use std::time::Instant;
 use vac_model::Action;
+use vacation_core::run_in_order;
 
 /// Prints what a session takes with few items and with many, of few sessions and of many.
 pub fn measure(rt: &(impl Runtime + AllocGlobal)) -> io::Result<()> {

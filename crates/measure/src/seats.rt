@@ -2,7 +2,7 @@
 ghost use Rattle.std.specs.Prelude.{◌<◌, ◌≡◌, IfOk};
 ghost use Rattle.std.specs.Thread.{IsSync};
 ghost use Rattle.tx_table.specs.Seated.{view};
-ghost use Rattle.transactions.specs.Ready.{HasBegunSince, IsReady};
+ghost use Rattle.tx_engine.specs.Ready.{HasBegunSince, IsReady};
 
 use crate::clock::seconds_since;
 use crate::outcomes::Outcomes;
@@ -15,7 +15,7 @@ use std::io;
 use std::rt::Runtime;
 use std::thread::{Threads, join};
 use std::time::Instant;
-use transactions::TxSeat;
+use tx_engine::TxSeat;
 use tx_table::TxTable;
 
 /// What comes of so many transactions of each thread, and the seconds that they take. There are one, two or four threads.

@@ -3,11 +3,12 @@ ghost use Rattle.std.specs.Prelude.{◌≡◌, ◌≤◌, IfOk, length};
 ghost use Rattle.generated_sessions.specs.Options.{AreWithin};
 ghost use Rattle.vac_model.specs.Balanced.{IsBalanced};
 ghost use Rattle.tx_table.specs.Seated.{view};
-ghost use Rattle.transactions.specs.Ready.{IsReady};
+ghost use Rattle.tx_engine.specs.Ready.{IsReady};
 
 use crate::clock::seconds_since;
 use crate::sessions::{STRIPES, lists_of, memory, no_such_sessions};
 use crate::tries::Tries;
+use client_sessions::{Entry, Session, state_of};
 use generated_sessions::{Options, opening};
 use seq_model::{ACTOR_LIMIT, Items, Memory, Refusal, Shape, State};
 use std::alloc::Global;
@@ -16,10 +17,9 @@ use std::rt::Runtime;
 use std::sync::Wait;
 use std::thread::Threads;
 use std::time::Instant;
-use transactions::TxSeat;
+use tx_engine::TxSeat;
 use tx_table::TxTable;
 use vac_model::{Action, Tables};
-use vacation_core::{Entry, Session, state_of};
 use workers::{Report, run_workers_owned};
 
 /// The most attempts of a session.

@@ -1,8 +1,8 @@
 //! How often workers attempt their sessions.
-use attempts::Pause;
 use seq_model::{Memory, Refusal};
 use std::alloc::Global;
 use std::sync::atomic::{AtomicU64, Ordering};
+use tx_engine::Pause;
 
 /// Those of one worker.
 #[derive(Drop)]

@@ -4,8 +4,8 @@ use Rattle.seq_model.specs.declared.call.Call.{Call}
 use Rattle.seq_model.specs.declared.call.Reply.{Reply}
 use Rattle.seq_model.specs.declared.record.Record.{Record}
 use Rattle.seq_model.specs.declared.refusal.Refusal.{Refusal}
-use Rattle.transactions.specs.Ready.{HasCalled, HasFinished}
-use Rattle.transactions.specs.declared.seats.TxSeat.{TxSeat}
+use Rattle.tx_engine.specs.Ready.{HasCalled, HasFinished}
+use Rattle.tx_engine.specs.declared.seats.TxSeat.{TxSeat}
 use Rattle.tx_table.specs.declared.table.TxTable.{TxTable}
 
 module _ {V : Type 0} (t : TxTable V) (s u : TxSeat V) (P : Refusal → Type 0) where

@@ -1,6 +1,6 @@
 //! A call of a transaction, with what the table shows of it from then on.
 //!
-//! Nothing here computes anything new: it shows that the contracts of `transactions` and the laws of `serial_seats` chain at a call.
+//! Nothing here computes anything new: it shows that the contracts of `tx_engine` and its laws chain at a call.
 #![tactic(auto)]
 
 ghost use Rattle.std.specs.Prelude.{◌≡◌, IfErr, List, None};
@@ -8,12 +8,12 @@ ghost use Rattle.seq_model.specs.declared.call.Call.{Call as Asked};
 ghost use Rattle.seq_model.specs.declared.call.Reply.{Reply as Replied};
 ghost use Rattle.tx_phases.specs.Phases.{Rests, Stands};
 ghost use Rattle.tx_table.specs.Seated.{contents_in, opening_of};
-ghost use Rattle.transactions.specs.Ready.{HasBegunSince, IsReady, standing};
-ghost use Rattle.serial_seats.specs.Aborted.{SeesOneState, ShownBy, WasAborted, WasAbortedFor};
+ghost use Rattle.tx_engine.specs.Ready.{HasBegunSince, IsReady, standing};
+ghost use Rattle.tx_engine.specs.Aborted.{SeesOneState, ShownBy, WasAborted, WasAbortedFor};
 
 use seq_model::{Call, Record, Refusal, Reply, Value};
-use serial_seats::laws::{aborted_transactions_saw_one_state, open_transactions_see_one_state};
-use transactions::TxSeat;
+use tx_engine::TxSeat;
+use tx_engine::laws::{aborted_transactions_saw_one_state, open_transactions_see_one_state};
 use tx_table::TxTable;
 
 /// A call. Where it is refused and has ended its transaction, the table shows it as an aborted one that saw one state; where the

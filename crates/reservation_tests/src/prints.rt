@@ -1,6 +1,6 @@
 //! What actions answer and what tables hold, as text.
 use seq_model::Refusal;
-use session_script::{Line, print_sessions};
+use session_text::{Line, print_sessions};
 use std::fmt::Write;
 use vac_balance::is_balanced_by_tally;
 use vac_model::{ActionReply, Kind, Tables, Ticket};

@@ -1,11 +1,10 @@
 //! A trace that is laid out by hand, and what is printed of it.
 use crate::notices::{narrow, notice_of};
-use running_world::Trace;
+use file_runs::{ScriptRun, print_trace};
 use seq_model::{Call, Held, Items, Memory, Notice, Op, Record, Refusal, Reply, State};
-use session_text::{ScriptRun, print_trace};
+use session_text::{Script, number, parse_steps, tokens_of};
 use std::alloc::Global;
-use step_script::{Script, parse_steps};
-use text_lines::{number, tokens_of};
+use step_world::Trace;
 
 /// Prints the trace of these lines:
 ///

@@ -1,6 +1,6 @@
 //! Notices, as their tokens spell them.
 use seq_model::{Answer, Notice, Refusal, Reply};
-use text_lines::number;
+use session_text::number;
 
 /// A number of 32 bits.
 pub fn narrow(token: &str) -> Option<u32> {

@@ -4,14 +4,14 @@
 use Rattle.std.proofs.Common.{◌≡◌, ◌∙◌, refl, sym, ap, subst, ℕ, zero, suc, ◌+◌, ◌<◌, List, [], ◌∷◌, ◌++◌, length, get_or, arith, map}
 use Rattle.std.specs.Prelude.{IfOk, Result, Ok, Err}
 use Rattle.std.proofs.lemmas.List.{append_assoc, append-nil}
-use Rattle.dealing.specs.Deals.{AreDealtLike}
+use Rattle.workers.specs.Deals.{AreDealtLike}
 use Rattle.seq_model.specs.declared.record.Record.{Record}
 use Rattle.vac_model.specs.declared.action.Action.{Action}
-use Rattle.vacation_core.specs.declared.entry.Entry.{Entry}
+use Rattle.client_sessions.specs.declared.entry.Entry.{Entry}
 use Rattle.workers.specs.declared.causes.LastAbort.{LastAbort}
 use Rattle.workers.specs.Tasks.{Outcome, missed_in, receipts_in}
-use Rattle.session_script.specs.declared.print.Line.{Line}
-use Rattle.serving.specs.Serving.{all_missed}
+use Rattle.session_text.specs.declared.session_print.Line.{Line}
+use Rattle.workers.specs.Serving.{all_missed}
 use Rattle.served_runs.specs.Lines.{AreLinesOf, IsLineOf, missed_line}
 use Rattle.served_runs.specs.Unread.{AreAllLines, AreAllOwn, AreAllUnread, AreOwn, AreUnread, HasUnread, IsBeyond, IsFirst, IsNext}
 

@@ -8,7 +8,7 @@ use Rattle.std.specs.Prelude.{All, Ok, Err}
 use Rattle.std.proofs.lemmas.List.{length-append, get_or_append_left}
 use Rattle.std.proofs.Math.Seq.{get_or-append_seam}
 use Rattle.std.proofs.lemmas.List.Elements.{All-cons, All-head, All-nil, All-tail}
-use Rattle.dealing.specs.Deals.{AreDealt, every}
+use Rattle.workers.specs.Deals.{AreDealt, every}
 use Rattle.seq_model.proofs.LawLemmas.{runs_have_no_fault}
 use Rattle.seq_model.specs.Audit.{IsAuditFault}
 use Rattle.seq_model.specs.Contents.{Contents}
@@ -17,23 +17,23 @@ use Rattle.generated_sessions.specs.Sessions.{sessions_of}
 use Rattle.vac_model.specs.declared.action.Action.{Action}
 use Rattle.vac_model.specs.Actions.{IsAllowed}
 use Rattle.vac_model.specs.Holdings.{Holdings}
-use Rattle.vacation_core.specs.declared.entry.Entry.{Entry}
-use Rattle.vacation_core.specs.Holding.{state_of}
+use Rattle.client_sessions.specs.declared.entry.Entry.{Entry}
+use Rattle.client_sessions.specs.Holding.{state_of}
 use Rattle.workers.specs.Tasks.{Outcome}
-use Rattle.serving.specs.declared.served.Served.{Served}
-use Rattle.serving.specs.Serving.{AreAllOutcomes, AreAllowed, AreOwnOutcomes, IsServed}
-use Rattle.session_script.specs.declared.print.Line.{Line}
-use Rattle.session_script.specs.Sessions.{IsUnreadable}
-use Rattle.session_output.specs.declared.fault.RunFault.{RunFault}
-use Rattle.session_output.specs.declared.fault.RunFault.TheVariants.{Audit, NotBalanced, Refused}
-use Rattle.session_output.specs.Faults.{IsFault}
-use Rattle.session_output.specs.Findings.{IsFinding, IsSound}
+use Rattle.workers.specs.declared.served.Served.{Served}
+use Rattle.workers.specs.Serving.{AreAllOutcomes, AreAllowed, AreOwnOutcomes, IsServed}
+use Rattle.session_text.specs.declared.session_print.Line.{Line}
+use Rattle.session_text.specs.Sessions.{IsUnreadable}
+use Rattle.file_runs.specs.declared.fault.RunFault.{RunFault}
+use Rattle.file_runs.specs.declared.fault.RunFault.TheVariants.{Audit, NotBalanced, Refused}
+use Rattle.file_runs.specs.Faults.{IsFault}
+use Rattle.file_runs.specs.Findings.{IsFinding, IsSound}
 use Rattle.served_runs.specs.declared.drawn.Drawn.{Drawn}
 use Rattle.served_runs.specs.declared.file.TheConstants.{TRIES}
 use Rattle.served_runs.specs.Drawn.{AreDrawn, IsDrawnRun}
 use Rattle.served_runs.specs.Lines.{AreLinesOf, AreToldOf}
-use Rattle.session_output.specs.declared.output.SessionRun.{SessionRun}
-use Rattle.session_output.specs.declared.output.TheConstants.{STRIPES}
+use Rattle.file_runs.specs.declared.printing.SessionRun.{SessionRun}
+use Rattle.file_runs.specs.declared.printing.TheConstants.{STRIPES}
 use Rattle.served_runs.specs.Runs.{IsInspected, IsServedRun, IsWantOfMemory, receipts_of}
 use Rattle.served_runs.specs.Unread.{AreAllOwn, AreAllUnread, AreOwn, IsTold, IsToldRun}
 use Rattle.served_runs.proofs.LineLemmas.{lines_at}

@@ -5,8 +5,8 @@ use Rattle.generated_sessions.specs.Openings.{opening_of}
 use Rattle.generated_sessions.specs.Options.{AreWithin}
 use Rattle.generated_sessions.specs.Sessions.{sessions_of}
 use Rattle.vac_model.specs.declared.action.Action.{Action}
-use Rattle.session_output.specs.Prints.{ending}
-use Rattle.serving.specs.declared.served.Served.{Served}
+use Rattle.file_runs.specs.SessionPrints.{ending}
+use Rattle.workers.specs.declared.served.Served.{Served}
 use Rattle.served_runs.specs.declared.drawn.Drawn.{Drawn}
 use Rattle.served_runs.specs.Runs.{IsInspected}
 

@@ -1,14 +1,14 @@
 -- What is told of sessions that workers ran.
 use Rattle.std.specs.Prelude.{◌≡◌, ◌<◌, ℕ, List, [], ◌∷◌, Ok, Err, get_or, length, ⊤}
-use Rattle.dealing.specs.Deals.{every}
+use Rattle.workers.specs.Deals.{every}
 use Rattle.vac_model.specs.declared.action.Action.{Action}
-use Rattle.vacation_core.specs.declared.entry.Entry.{Entry}
+use Rattle.client_sessions.specs.declared.entry.Entry.{Entry}
 use Rattle.workers.specs.declared.causes.LastAbort.{LastAbort}
 use Rattle.workers.specs.declared.causes.LastAbort.TheVariants as last
 use Rattle.workers.specs.Tasks.{Outcome}
-use Rattle.session_script.specs.declared.print.Line.{Line}
-use Rattle.session_script.specs.declared.print.Line.TheVariants as line
-use Rattle.session_lines.specs.Receipts.{IsLine}
+use Rattle.session_text.specs.declared.session_print.Line.{Line}
+use Rattle.session_text.specs.declared.session_print.Line.TheVariants as line
+use Rattle.file_runs.specs.Receipts.{IsLine}
 
 abbrev pub missed_line : LastAbort → Line
 missed_line (last.Refused refusal) = line.Refused refusal

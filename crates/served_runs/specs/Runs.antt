@@ -1,21 +1,21 @@
 -- What comes of the sessions of a file where workers run them.
 use Rattle.std.specs.Prelude.{◌≡◌, ℕ, List, flat_map}
-use Rattle.dealing.specs.Deals.{AreDealt}
+use Rattle.workers.specs.Deals.{AreDealt}
 use Rattle.seq_model.specs.declared.record.Record.{Record}
 use Rattle.seq_model.specs.declared.refusal.Refusal.TheVariants.{Memory as OutOfMemory}
 use Rattle.vac_model.specs.declared.action.Action.{Action}
 use Rattle.vac_model.specs.Holdings.{Holdings}
-use Rattle.vacation_core.specs.declared.entry.Entry.{Entry}
-use Rattle.vacation_core.specs.Holding.{state_of}
-use Rattle.session_script.specs.Sessions.{IsSessionText}
-use Rattle.session_output.specs.declared.fault.RunFault.{RunFault}
-use Rattle.session_output.specs.declared.fault.RunFault.TheVariants.{Refused}
-use Rattle.session_output.specs.declared.output.SessionRun.{SessionRun}
-use Rattle.session_output.specs.declared.output.TheConstants.{STRIPES}
-use Rattle.session_output.specs.Findings.{IsSound}
-use Rattle.session_output.specs.Prints.{run_text}
-use Rattle.serving.specs.declared.served.Served.{Served}
-use Rattle.serving.specs.Serving.{IsServed}
+use Rattle.client_sessions.specs.declared.entry.Entry.{Entry}
+use Rattle.client_sessions.specs.Holding.{state_of}
+use Rattle.session_text.specs.Sessions.{IsSessionText}
+use Rattle.file_runs.specs.declared.fault.RunFault.{RunFault}
+use Rattle.file_runs.specs.declared.fault.RunFault.TheVariants.{Refused}
+use Rattle.file_runs.specs.declared.printing.SessionRun.{SessionRun}
+use Rattle.file_runs.specs.declared.printing.TheConstants.{STRIPES}
+use Rattle.file_runs.specs.Findings.{IsSound}
+use Rattle.file_runs.specs.SessionPrints.{run_text}
+use Rattle.workers.specs.declared.served.Served.{Served}
+use Rattle.workers.specs.Serving.{IsServed}
 use Rattle.served_runs.specs.declared.file.TheConstants.{TRIES}
 use Rattle.served_runs.specs.Lines.{AreToldOf}
 

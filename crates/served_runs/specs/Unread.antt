@@ -1,19 +1,19 @@
 -- What is still to be told of the sessions of workers: their outcomes, as receipts and missed jobs.
 use Rattle.std.specs.Prelude.{◌≡◌, ◌<◌, ℕ, List, [], ◌∷◌, ◌++◌, Ok, Err, length, map, ⊤}
-use Rattle.dealing.specs.Deals.{AreDealt}
+use Rattle.workers.specs.Deals.{AreDealt}
 use Rattle.seq_model.specs.declared.record.Record.{Record}
-use Rattle.tx_engine.specs.declared.job.Ask.TheVariants as ask
-use Rattle.tx_engine.specs.Programs.{after, asked, replies_of}
+use Rattle.jobs.specs.declared.job.Ask.TheVariants as ask
+use Rattle.jobs.specs.Programs.{after, asked, replies_of}
 use Rattle.vac_model.specs.declared.action.Action.{Action}
 use Rattle.vac_model.specs.Holdings.{Holdings}
-use Rattle.vacation_core.specs.declared.entry.Entry.{Entry}
-use Rattle.vacation_core.specs.Sessions.{session}
+use Rattle.client_sessions.specs.declared.entry.Entry.{Entry}
+use Rattle.client_sessions.specs.Sessions.{session}
 use Rattle.workers.specs.declared.causes.LastAbort.{LastAbort}
 use Rattle.workers.specs.Tasks.{Outcome, missed_in, receipts_in}
-use Rattle.session_script.specs.declared.print.Line.{Line}
-use Rattle.session_output.specs.declared.output.SessionRun.{SessionRun}
-use Rattle.serving.specs.declared.served.Served.{Served}
-use Rattle.serving.specs.Serving.{all_missed}
+use Rattle.session_text.specs.declared.session_print.Line.{Line}
+use Rattle.file_runs.specs.declared.printing.SessionRun.{SessionRun}
+use Rattle.workers.specs.declared.served.Served.{Served}
+use Rattle.workers.specs.Serving.{all_missed}
 use Rattle.served_runs.specs.declared.file.TheConstants.{TRIES}
 use Rattle.served_runs.specs.Lines.{AreLinesOf}
 use Rattle.served_runs.specs.Runs.{IsInspected}

@@ -2,30 +2,30 @@
 ghost use Rattle.std.specs.Prelude.{◌≡◌, All, IfErr, IfOk, OnOk};
 ghost use Rattle.vac_model.specs.Actions.{IsAllowed};
 ghost use Rattle.vac_model.specs.Balanced.{IsBalanced};
-ghost use Rattle.vacation_core.specs.Holding.{state_of as state_that_holds};
-ghost use Rattle.dealing.specs.Deals.{in_lists};
+ghost use Rattle.client_sessions.specs.Holding.{state_of as state_that_holds};
+ghost use Rattle.workers.specs.Deals.{in_lists};
 ghost use Rattle.generated_sessions.specs.Openings.{opening_of};
 ghost use Rattle.generated_sessions.specs.Options.{AreWithin};
-ghost use Rattle.serving.specs.Serving.{AreAllowed};
-ghost use Rattle.session_output.specs.Findings.{IsFinding, IsSound};
+ghost use Rattle.workers.specs.Serving.{AreAllowed};
+ghost use Rattle.file_runs.specs.Findings.{IsFinding, IsSound};
 ghost use Rattle.served_runs.specs.Runs.{IsWantOfMemory, receipts_of};
 ghost use Rattle.served_runs.specs.Drawn.{AreDrawn, IsDrawable, IsDrawnRun, drawn_text};
 
 use crate::inspection::inspected;
 use crate::progress::Receipts;
 use crate::tally::{Tally, Times, causes_of};
+use client_sessions::{Entry, state_of};
+use file_runs::{RunFault, STRIPES, with_ending};
 use generated_sessions::{Options, generate, opening};
 use run_progress::Progress;
 use seq_model::{Memory, Refusal, State};
-use serving::{Served, serve_allowed};
-use session_output::{RunFault, STRIPES, with_ending};
 use std::alloc::Global;
 use std::fmt::Write;
 use std::sync::Wait;
 use std::thread::Threads;
 use std::time::{Clock, Duration};
 use vac_model::{Action, Tables};
-use vacation_core::{Entry, state_of};
+use workers::{Served, serve_allowed};
 
 /// Sessions that are to be drawn and run.
 #[derive(Clone, Copy, Debug, PartialEq, Eq)]

@@ -1,29 +1,28 @@
 //! What workers make of a session file.
 ghost use Rattle.std.specs.Prelude.{◌≡◌, ◌≤◌, All, IfErr, IfOk, length};
-ghost use Rattle.dealing.specs.Deals.{AreDealt, AreDealtLike, in_lists};
+ghost use Rattle.workers.specs.Deals.{AreDealt, AreDealtLike, in_lists};
 ghost use Rattle.vac_model.specs.Actions.{IsAllowed};
 ghost use Rattle.vac_model.specs.Balanced.{IsBalanced};
-ghost use Rattle.vacation_core.specs.Holding.{state_of as state_that_holds};
-ghost use Rattle.serving.specs.Serving.{AreAllowed};
-ghost use Rattle.session_output.specs.Faults.{IsFault};
+ghost use Rattle.client_sessions.specs.Holding.{state_of as state_that_holds};
+ghost use Rattle.workers.specs.Serving.{AreAllowed};
+ghost use Rattle.file_runs.specs.Faults.{IsFault};
 ghost use Rattle.served_runs.specs.Runs.{IsServedOutput, IsServedRun, IsWantOfMemory};
 ghost use Rattle.served_runs.specs.Unread.{IsToldRun};
 
 use crate::inspection::inspected;
 use crate::lines::lines_of_report;
 use crate::progress::Receipts;
-use dealing::deal;
+use client_sessions::{Entry, Session, state_of};
+use file_runs::{RunFault, STRIPES, SessionRun, text_of};
 use run_progress::Progress;
 use seq_model::{ACTOR_LIMIT, Memory, Refusal, State};
-use served_sessions::sessions_of;
-use serving::serve_allowed;
-use session_output::{RunFault, STRIPES, SessionRun, text_of};
-use session_script::parse_sessions;
+use session_text::parse_sessions;
 use std::alloc::Global;
 use std::sync::Wait;
 use std::thread::Threads;
 use vac_model::{Action, Tables};
-use vacation_core::{Entry, Session, state_of};
+use vacation_core::sessions_of;
+use workers::{deal, serve_allowed};
 
 /// The most attempts of each session.
 pub const TRIES: u64 = 1_000;

@@ -1,15 +1,14 @@
 //! The receipts of the workers are audited, and the tables looked through.
 ghost use Rattle.std.specs.Prelude.{◌≡◌, IfErr, IfOk, OnOk, flat_map};
-ghost use Rattle.session_output.specs.Findings.{IsFinding, IsSound};
+ghost use Rattle.file_runs.specs.Findings.{IsFinding, IsSound};
 ghost use Rattle.served_runs.specs.Runs as specs;
 
+use client_sessions::Entry;
+use file_runs::{RunFault, inspect};
 use seq_model::{Items, Memory, Record, State};
-use serving::Served;
-use session_output::{RunFault, inspect};
 use std::alloc::Global;
 use vac_model::Tables;
-use vacation_core::Entry;
-use workers::Report;
+use workers::{Report, Served};
 
 /// The receipts of all workers, one worker's after another's. They are moved, not copied.
 fn receipts_of(

@@ -1,21 +1,20 @@
 //! A line for each session that workers ran.
 ghost use Rattle.std.specs.Prelude.{◌≡◌, ◌+◌, ◌++◌, ◌≤◌, ◌↔◌, ℕ, List, IfOk, IsTrue, length};
-ghost use Rattle.dealing.specs.Deals.{AreDealtLike, in_lists};
-ghost use Rattle.vacation_core.specs.declared.entry.Entry.{Entry as AnEntry};
+ghost use Rattle.workers.specs.Deals.{AreDealtLike, in_lists};
+ghost use Rattle.client_sessions.specs.declared.entry.Entry.{Entry as AnEntry};
 ghost use Rattle.workers.specs.declared.causes.LastAbort.{LastAbort as ACause};
 ghost use Rattle.workers.specs.Tasks.{Outcome, missed_in, receipts_in};
 ghost use Rattle.served_runs.specs.Lines.{AreLinesOf, IsLineOf};
 ghost use Rattle.served_runs.specs.Lines as specs;
 ghost use Rattle.served_runs.specs.Unread.{AreAllUnread, AreUnread, HasAllUnread, HasNext, HasUnread, IsFirst, IsNext, IsTold};
 
-use dealing::gather;
+use client_sessions::{Entry, Session};
+use file_runs::line_of;
 use seq_model::{ACTOR_LIMIT, Memory, Record};
-use session_lines::line_of;
-use session_script::Line;
+use session_text::Line;
 use std::alloc::Global;
 use std::collections::VecDeque;
-use vacation_core::{Entry, Session};
-use workers::{LastAbort, Report};
+use workers::{LastAbort, Report, gather};
 
 /// A worker, the place of a job in its list, and why that one has no receipt.
 pub(crate) type Missed = (u64, u64, LastAbort);

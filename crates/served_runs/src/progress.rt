@@ -1,10 +1,10 @@
 //! How far workers have come.
 use crate::tally::milliseconds;
-use attempts::Pause;
 use run_progress::Progress;
 use std::fmt;
 use std::sync::atomic::{AtomicU64, Ordering};
 use std::time::Duration;
+use tx_engine::Pause;
 
 /// So many sessions of all have their receipts, after this time. As text it says how many a second that is, and when the others have
 /// theirs, if it goes on so.

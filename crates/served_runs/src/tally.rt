@@ -3,13 +3,13 @@ ghost use Rattle.std.specs.Prelude.{◌<◌};
 
 use crate::lines::Missed;
 use crate::progress::Receipts;
-use attempts::Pause;
 use run_progress::Progress;
 use seq_model::{Memory, Refusal};
 use std::alloc::Global;
 use std::fmt::Write;
 use std::sync::atomic::{AtomicU64, Ordering};
 use std::time::Duration;
+use tx_engine::Pause;
 use workers::LastAbort;
 
 /// The first columns of the times as comma-separated values, and the names of those of what refuses an attempt.

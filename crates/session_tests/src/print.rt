@@ -1,11 +1,10 @@
 //! What came of sessions, as text.
-use ordered_sessions::Ordered;
+use client_sessions::{Entry, tables_of};
 use seq_model::{Items, Record, Refusal};
-use session_script::{Line, print_sessions};
+use session_text::{Line, print_sessions};
 use std::fmt::Write;
 use vac_model::{ActionReply, Tables};
-use vac_world::VacTrace;
-use vacation_core::{Entry, tables_of};
+use vacation_core::{Ordered, VacTrace};
 
 fn kind_of(writes: bool) -> &'static str {
     if writes { "write" } else { "read" }

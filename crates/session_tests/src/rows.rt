@@ -3,11 +3,10 @@ ghost use Rattle.std.specs.Prelude.{IfOk};
 ghost use Rattle.vac_model.specs.Balanced.{IsBalanced};
 
 use seq_model::{Items, Refusal};
-use session_script::parse_sessions;
+use session_text::{number, parse_sessions};
 use std::alloc::Global;
-use text_lines::number;
 use vac_model::{Action, Tables};
-use vac_world::VacEvent;
+use vacation_core::VacEvent;
 
 /// How a row begins that says which item there is.
 const ITEM: &str = "have ";

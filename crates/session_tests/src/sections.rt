@@ -1,11 +1,10 @@
 //! The sections, and what each comes to.
 use crate::print::{print_ordered, print_trace};
 use crate::rows::{actions_in, events_in, stripes_in, tables_in};
-use ordered_sessions::run_in_order;
 use seq_model::Refusal;
 use std::alloc::Global;
 use std::fmt::Write;
-use vac_world::VacWorld;
+use vacation_core::{VacWorld, run_in_order};
 
 /// What the sections come to, each behind its name, and how many they are. A section has a name, then a row `64 stripes`, then the items that there are, as a
 /// session file has them, and then what happens, row by row. What is refused is answered by the refusal.

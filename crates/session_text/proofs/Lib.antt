@@ -1,3 +1,13 @@
-mod LeadLemmas
-mod PlayLemmas
-mod RunLemmas
+pub mod NumberLemmas
+pub mod CutLemmas
+pub mod ReadingLemmas
+pub mod PairLemmas
+pub mod EventLemmas
+pub mod EntryLemmas
+pub mod LineLemmas
+pub mod PrintLemmas
+pub mod AskLemmas
+pub mod ChangeLemmas
+pub mod ActionLemmas
+pub mod OpeningLemmas
+pub mod SessionLemmas

@@ -1,20 +1,28 @@
-//! The texts of the program: step scripts and session files, how they are read, and what is printed.
+//! The texts of step scripts and session files: how they are read, and how what came of sessions is printed.
 //!
-//! A step script lays out a world and says, event by event, what happens in it. `parse_steps` reads one, `run_script`
-//! feeds it to a world, `audit_run` audits the trace, and `print_trace` prints the result. A session file says which
-//! items there are and what clients ask for: `parse_sessions` reads one, and `print_sessions` prints what became of each
-//! session. `generate` and `opening` draw sessions and tables from a seed. Grammars and prints stand in docs/formats.md.
+//! Each line ends with a line feed, its tokens stand with one space between, and a number is decimal ([`first_line`], [`tokens_of`],
+//! [`number`]). A *step script* lays out a world and says, event by event, what happens in it; [`parse_steps`] reads one. A *session file*
+//! says which items there are and, line by line, what clients ask for: each line is a session. [`parse_sessions`] reads one, and
+//! [`print_sessions`] prints what became of each session and what the tables hold then.
 //!
-//! Reading and drawing are handed on from `step_script`, `session_script` and `generated_sessions`.
+//! The grammars are the definitions `IsScriptText` and `IsSessionText`, the print is `printed`; docs/formats.md has them in words.
 #![tactic(auto)]
 
-mod audit;
-mod print;
-mod run;
+mod cut;
+mod decimal;
+mod event;
+mod number;
+mod request;
+mod script;
+mod script_line;
+mod script_parser;
+mod session_line;
+mod session_parser;
+mod session_print;
 
-pub use audit::audit_run;
-pub use generated_sessions::{Options, generate, opening};
-pub use print::print_trace;
-pub use run::{ScriptRun, run_script};
-pub use session_script::{Line, parse_sessions, print_sessions};
-pub use step_script::{Collection, EventLine, STEP_LIMIT, Script, parse_steps};
+pub use cut::{first_line, tokens_of};
+pub use decimal::number;
+pub use script::{Collection, EventLine, STEP_LIMIT, Script};
+pub use script_parser::parse_steps;
+pub use session_parser::parse_sessions;
+pub use session_print::{Line, print_sessions};

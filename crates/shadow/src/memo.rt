@@ -17,8 +17,7 @@ ghost use Rattle.shadow.specs.Memo.{entries_after, entries_kept};
 ghost use Rattle.shadow.specs.Memo.{entries_without, grown_after, grown_kept, holds, kind_room, map_answer, shape, shrunk_after};
 ghost use Rattle.shadow.specs.Memo.{shrunk_kept, total_without, with_count, with_entry, with_key, with_number, with_total, IsTold};
 
-use conflict::{Change, LocSet, Note, Outcome, is_stripe_count};
-use few_keys::FewKeys;
+use conflict::{Change, FewKeys, LocSet, Note, Outcome, is_stripe_count};
 use replay_log::{Log, Touch, Touched};
 use seq_model::{COPY_LIMIT, Items, Memory, Op, Refusal, Reply, Value};
 use std::alloc::Global;

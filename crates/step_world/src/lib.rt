@@ -1,7 +1,23 @@
 //! A world of transactions over words and collections, one atomic step at a time, with the events that it is fed and what it answers.
 //!
-//! What stands here is handed on: the world is that of `running_world`, and its events are those of `seq_model`.
+//! A world has parts: its table, the actors that run on it, and what has come of them. An event is taken by its actor and by one word or
+//! gate of the table. The contracts say that each event leaves and tells what the definitions' event does, and that what is shown is in
+//! serial order. A growth that is refused to an event may leave the parts half changed, so the world answers no more then.
 #![tactic(auto)]
 
-pub use running_world::{ACTORS, Ended, Trace, World, run_world};
+mod copying;
+mod feeding;
+mod homes;
+mod loading;
+mod opening;
+mod parts;
+mod steps;
+mod trace;
+mod turns;
+mod world;
+
+pub use opening::ACTORS;
+pub use parts::Parts;
 pub use seq_model::{Answer, Event, Notice, Request, Shape};
+pub use trace::{Ended, Trace};
+pub use world::{World, run_world};

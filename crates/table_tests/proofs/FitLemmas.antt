@@ -3,10 +3,10 @@ use Rattle.std.proofs.Common.{◌≡◌}
 use Rattle.tx_table.specs.declared.table.TxTable.{TxTable}
 use Rattle.tx_table.specs.Seated.{opening_of}
 use Rattle.tx_phases.specs.Phases.{Rests}
-use Rattle.transactions.proofs.ReadyLemmas.{rests_since}
+use Rattle.tx_engine.proofs.ReadyLemmas.{rests_since}
 use Rattle.driven_turns.specs.Driven.{standing}
-use Rattle.transactions.specs.Ready.{IsReady}
-use Rattle.transactions.specs.declared.seats.TxSeat.{TxSeat}
+use Rattle.tx_engine.specs.Ready.{IsReady}
+use Rattle.tx_engine.specs.declared.seats.TxSeat.{TxSeat}
 use Rattle.table_tests.specs.Fit.{IsFit}
 
 module _ {V : Type 0} where

@@ -1,7 +1,7 @@
 -- A seat between its requests.
 use Rattle.tx_table.specs.declared.table.TxTable.{TxTable}
-use Rattle.transactions.specs.declared.seats.TxSeat.{TxSeat}
-use Rattle.transactions.specs.Ready.{HasBegunSince, IsReady}
+use Rattle.tx_engine.specs.declared.seats.TxSeat.{TxSeat}
+use Rattle.tx_engine.specs.Ready.{HasBegunSince, IsReady}
 
 pub record IsFit {V : Type 0} (t : TxTable V) (s : TxSeat V) : Type 0 where
   pub ready : IsReady t s

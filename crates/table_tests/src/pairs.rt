@@ -1,12 +1,12 @@
 //! Two seats of a table, whose rows are answered in turn or in threads.
 ghost use Rattle.std.specs.Prelude.{◌≡◌};
 ghost use Rattle.tx_table.specs.Seated.{view};
-ghost use Rattle.transactions.specs.Ready.{IsReady};
+ghost use Rattle.tx_engine.specs.Ready.{IsReady};
 
 use crate::engine::turns::{at_once, four_at_once, in_turn};
 use crate::shared::{Order, Page, commit_after};
 use std::thread::Threads;
-use transactions::TxSeat;
+use tx_engine::TxSeat;
 use tx_table::TxTable;
 
 /// How many of the table's shares the second seat has.

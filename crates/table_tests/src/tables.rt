@@ -1,7 +1,7 @@
 //! A table, from its opening to its end.
 ghost use Rattle.std.specs.Prelude.{◌≡◌};
 ghost use Rattle.tx_table.specs.Seated.{view};
-ghost use Rattle.transactions.specs.Ready.{IsReady};
+ghost use Rattle.tx_engine.specs.Ready.{IsReady};
 
 use crate::pairs::run_pair;
 use crate::shared::{Page, close_told, end_page, open, opening_of, say_places};
@@ -10,11 +10,10 @@ use crate::worker::retries::retry_rows;
 use crate::worker::runs::run_lists;
 use row_parts::script_of;
 use seq_model::{Refusal, State};
+use session_text::{Script, number};
 use std::sync::Wait;
 use std::thread::Threads;
-use step_script::Script;
-use text_lines::number;
-use transactions::TxSeat;
+use tx_engine::TxSeat;
 use tx_table::TxTable;
 
 /// What the rows on a table are.

@@ -1,1 +1,22 @@
-pub mod ProgramLemmas
+pub mod RequestLemmas
+pub mod KindLemmas
+pub mod AskLemmas
+pub mod CallLemmas
+pub mod CommitLemmas
+pub mod ReadyLemmas
+pub mod OpeningLemmas
+pub mod ShareLemmas
+pub mod CloseLemmas
+mod ReaderLemmas
+pub mod JobLemmas
+pub mod GainLemmas
+pub mod AttemptLemmas
+pub mod SeatLemmas
+pub mod TurnLemmas
+pub mod TriedLemmas
+pub mod HeldLemmas
+pub mod RefusedLemmas
+pub mod StepLemmas
+pub mod WeightLemmas
+pub mod ShownLemmas
+pub mod AbortedLemmas

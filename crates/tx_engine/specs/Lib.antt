@@ -1,1 +1,12 @@
-pub mod Programs
+pub mod Requests
+pub mod Ready
+pub mod Closing
+pub mod Borrowed
+pub mod Jobs
+pub mod Attempts
+pub mod Seats
+pub mod Tries
+pub mod Refused
+pub mod Steps
+pub mod Records
+pub mod Aborted

@@ -1,10 +1,31 @@
-//! Jobs: what a transaction is to ask, call by call, by the replies so far.
+//! Transactions that threads run on the shared table: [`begin`] gives a [`Tx`], which borrows its [`TxSeat`].
 //!
-//! A *job* is asked for its next call, given the replies that it got so far, until it is done or gives up. It keeps nothing
-//! between the calls, so a transaction that was refused is run again by asking from the beginning. What a job asks can be
-//! said by a *program* (`specs/Programs.antt`): a call, and what is left of the program after each reply.
+//! A *seat* of the table has a running actor beside it, to which it is tied (`tx_turns`). A request is asked, and driven (`driven_turns`):
+//! its turns are taken, one atomic step on the table each, until it is answered or refused. What it comes to is what the definitions say of
+//! it in the own world of the seat, which to its actor is one that events have reached. Between two requests no gate is held.
+//!
+//! A *job* is run by an *attempt* ([`attempt`]): a transaction begins at a seat, the calls that the job asks are made, each after the
+//! replies to those before it, and the transaction commits once the job is done. Where the job gives up, or a request is refused, no
+//! transaction is left, and the seat is ready for the next attempt.
+//!
+//! A table shows a world that events have reached (the rule of `tx_table`), and each seat keeps what that world is to its actor. So what
+//! `replay_log` proves of every such world holds while transactions are open and commits half done ([`laws`]).
 #![tactic(auto)]
 
-mod job;
+mod attempts;
+mod calls;
+mod commits;
+pub mod laws;
+mod pause;
+mod reply_room;
+mod requests;
+mod seats;
+mod shares;
+mod tx;
+mod unheld;
 
-pub use job::{Ask, Job};
+pub use attempts::{Attempt, attempt_with};
+pub use pause::{NoPause, Pause};
+pub use seats::TxSeat;
+pub use tx::{Receipt, Tx, begin, begin_read, learn};
+pub use unheld::attempt;

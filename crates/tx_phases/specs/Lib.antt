@@ -1,2 +1,5 @@
 pub mod Phases
 pub mod Courses
+pub mod Alone
+pub mod Beside
+pub mod Limits

@@ -1,6 +1,6 @@
 //! Typed calls of a transaction: a map, a multiset, a priority queue, a queue and a word of the table, each with the calls of its kind.
 //!
-//! Each type has the number of its collection, or of its word, alone. A typed call is [`transactions::Tx::call`] of its kind: it is
+//! Each type has the number of its collection, or of its word, alone. A typed call is [`tx_engine::Tx::call`] of its kind: it is
 //! refused as that is, and a call on a collection of another kind is `NoSuch`.
 #![tactic(auto)]
 

@@ -1,11 +1,11 @@
 //! The typed calls on a map.
 ghost use Rattle.std.specs.Prelude.{◌≡◌};
 ghost use Rattle.seq_model.specs.declared.call.Op.TheVariants as op;
-ghost use Rattle.transactions.specs.Ready.{HasBegunSince, HasCalled, IsReady};
+ghost use Rattle.tx_engine.specs.Ready.{HasBegunSince, HasCalled, IsReady};
 
 use seq_model::{Op, Refusal, Reply, Value};
 use std::marker::PhantomData;
-use transactions::Tx;
+use tx_engine::Tx;
 
 /// The map of this number.
 #[derive_where(Clone, Copy)]

@@ -1,10 +1,10 @@
 //! The typed calls on a queue.
 ghost use Rattle.std.specs.Prelude.{◌≡◌};
 ghost use Rattle.seq_model.specs.declared.call.Op.TheVariants as op;
-ghost use Rattle.transactions.specs.Ready.{HasBegunSince, HasCalled, IsReady};
+ghost use Rattle.tx_engine.specs.Ready.{HasBegunSince, HasCalled, IsReady};
 
 use seq_model::{Op, Refusal, Reply, Value};
-use transactions::Tx;
+use tx_engine::Tx;
 
 /// The queue of this number.
 #[derive(Clone, Copy)]

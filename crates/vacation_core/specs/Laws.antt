@@ -1,43 +1,29 @@
--- A session is its action, and a state is that of one tables.
-use Rattle.std.specs.Prelude.{◌≡◌, ◌≢◌, List, None}
-use Rattle.seq_model.specs.declared.call.Call.{Call}
-use Rattle.seq_model.specs.declared.call.Reply.{Reply}
-use Rattle.seq_model.specs.Contents.{call_of}
-use Rattle.seq_model.specs.Runs.{IsLegal, after_calls}
-use Rattle.vac_model.specs.declared.action.Action.{Action}
-use Rattle.vac_model.specs.declared.action.ActionReply.{ActionReply}
-use Rattle.vac_model.specs.Holdings.{Holdings}
-use Rattle.vac_model.specs.Actions.{action_of, IsAllowed}
+-- Whatever events say, the sessions that commit are their actions, one after another.
+use Rattle.std.specs.Prelude.{◌≡◌, List, []}
+use Rattle.replay_log.specs.Contents.{Block, HaveStripes}
+use Rattle.replay_log.specs.Collections.{Suit}
+use Rattle.replay_log.specs.Worlds.{state}
 use Rattle.vac_model.specs.Balanced.{IsBalanced}
-use Rattle.vacation_core.specs.declared.entry.Entry.{Entry}
-use Rattle.vacation_core.specs.Holding.{state_of}
-use Rattle.tx_engine.specs.Programs.{Asks, Answers, GivesUp, Follows}
-use Rattle.vacation_core.specs.Sessions.{SessionProgram, session}
+use Rattle.vac_model.specs.Holdings.{Holdings}
+use Rattle.client_sessions.specs.Holding.{HoldsTables, state_of}
+use Rattle.vacation_core.specs.Histories.{opening_of, world_in}
+use Rattle.vacation_core.specs.Serial.{IsSerialSessions}
+use Rattle.vacation_core.specs.declared.events.VacEvent.{VacEvent}
+use Rattle.vacation_core.specs.Plays.{AreAllowed, Play, played_all, unplayed}
 
--- these calls are those that the session asked, with legal replies, and this is left of the session
-abbrev pub Reaches : Action → Holdings → List (Call Entry × Reply Entry) → SessionProgram → Type 0
-Reaches action tables calls rest = Follows (session action) calls rest × IsLegal calls (state_of tables)
+-- The turns are those of sessions in serial order, each of a committed one being of the action that its own start began; no session gave
+-- up.
+pub record IsSerialPlay (p : Play) : Type 0 where
+  pub serial : IsSerialSessions p.history.tables p.history.actions (opening_of p.history) p.history.turns
+  pub goes_on : p.given_up ≡ []
 
--- a session that has ended answered what its action answers, and left what its action leaves
-abbrev pub EndsAsAction : Type 0
-EndsAsAction =
-    (action : Action) (tables : Holdings) (calls : List (Call Entry × Reply Entry)) (reply : ActionReply)
-    → IsAllowed action → IsBalanced tables → Reaches action tables calls (Answers reply)
-    → (reply ≡ (action_of action tables).0) × (after_calls calls (state_of tables) ≡ state_of (action_of action tables).1)
+abbrev pub PlaysAreSerial : Type 0
+PlaysAreSerial =
+    (blocks : List Block) (tables : Holdings) (events : List VacEvent) → HaveStripes blocks → Suit blocks (state_of tables).held
+    → IsBalanced tables → AreAllowed events → IsSerialPlay (played_all (unplayed blocks tables) events)
 
--- from balanced tables no session gives up
-abbrev pub NeverGivesUp : Type 0
-NeverGivesUp =
-    (action : Action) (tables : Holdings) (calls : List (Call Entry × Reply Entry))
-    → IsAllowed action → IsBalanced tables → Reaches action tables calls GivesUp → ⊥
-
--- and each call that it asks has an answer
-abbrev pub AsksLegalCalls : Type 0
-AsksLegalCalls =
-    (action : Action) (tables : Holdings) (calls : List (Call Entry × Reply Entry)) (call : Call Entry)
-    (next : Reply Entry → SessionProgram) → IsAllowed action → IsBalanced tables → Reaches action tables calls (Asks call next)
-    → call_of call (after_calls calls (state_of tables)) ≢ None
-
--- no two tables have one state
-abbrev pub StatesTellTables : Type 0
-StatesTellTables = (one other : Holdings) → state_of one ≡ state_of other → one ≡ other
+-- words and collections hold tables, whatever is half done
+abbrev pub PlaysHoldTables : Type 0
+PlaysHoldTables =
+    (blocks : List Block) (tables : Holdings) (events : List VacEvent) → HaveStripes blocks → Suit blocks (state_of tables).held
+    → IsBalanced tables → AreAllowed events → HoldsTables (state (world_in (played_all (unplayed blocks tables) events).history))

@@ -1,24 +1,38 @@
-//! The reservation actions as transactions, each on one word, five maps and three queues.
+//! Vacation's sessions on a world: one client after another, many at once, and what their receipts say.
 //!
-//! A *session* is the transaction of one action: it asks a call, goes on with the reply, and in the end answers what the action
-//! answers. Its calls are a program (`specs/Sessions.antt`), run on the state that holds the tables (`specs/Holding.antt`).
-//! [`laws`] says that it is its action: from balanced tables it answers the action's reply and leaves the state that holds the
-//! action's tables, it never gives up, and each call that it asks has a reply.
+//! Each session is one transaction of calls on collections (`client_sessions`), and a client is an actor of the world: it begins a
+//! transaction for an action, asks what the action's session asks after the replies so far ([`ask`]), and commits where the session is
+//! done. [`run_in_order`] runs a list of actions by one client, one session after another. [`VacWorld`] has sessions of many clients, whose
+//! steps interleave as its events say.
+//!
+//! A session makes few calls, and its calls lie on few locations, so it finds room in its transaction's sets ([`cost_laws`],
+//! [`room_laws`]). Every record of a world whose actors ask as sessions do is a whole session: over every interleaving the replies are
+//! those of the actions, one after another, and the tables are what these leave ([`world_laws`], [`play_laws`]). Receipts that have all
+//! calls of sessions, and in commit order are a run from balanced tables, are these actions, whoever ran them ([`job_laws`]).
 #![tactic(auto)]
 
-mod delete;
-mod entry;
-pub mod laws;
-mod reserve;
+mod asking;
+mod client;
+pub mod cost_laws;
+mod events;
+pub mod job_laws;
+mod opening;
+mod order;
+pub mod play_laws;
+pub mod room_laws;
+mod run;
 mod session;
-mod shared;
-mod split;
-mod state;
-mod update;
-mod walk;
+mod sessions;
+mod tables;
+mod told;
+mod world;
+pub mod world_laws;
 
-pub use entry::Entry;
-pub use session::Session;
-pub use shared::SharedCustomer;
-pub use split::SplitCustomer;
-pub use state::{state_of, tables_of};
+pub use asking::ask;
+pub use events::VacEvent;
+pub use opening::open;
+pub use order::{Ordered, run_in_order, run_in_order_with};
+pub use run::VacTrace;
+pub use sessions::{are_allowed, session_of, sessions_of};
+pub use tables::tables_left;
+pub use world::VacWorld;

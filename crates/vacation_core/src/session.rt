@@ -1,174 +1,84 @@
-//! The session of one action.
-ghost use Rattle.std.specs.Prelude.{◌≡◌, IfOk, IfErr, IfSome};
-ghost use Rattle.tx_engine.specs.Programs.{after, asked, replies_of, Answers};
-ghost use Rattle.vac_model.specs.Actions.{IsAllowed};
-ghost use Rattle.vacation_core.specs.Sessions as programs;
-ghost use Rattle.vacation_core.specs.Walks.{Comes};
-ghost use Rattle.vacation_core.specs.Left.{replies_in};
-ghost use Rattle.vacation_core.specs.Gets.{get_due};
-ghost use Rattle.vacation_core.specs.Refusals.{IsSessionRefusal};
-ghost use Rattle.tx_engine.specs.declared.job.Ask.TheVariants as ask;
+//! One session of the client, from its begin to its commit.
+ghost use Rattle.std.specs.Prelude.{◌≡◌, IfOk, OnOk};
+ghost use Rattle.vacation_core.specs.Turns.{Begins, Calls, Commits, HasBegun, MakesCalls, MayCall, MayRun, Runs, replied};
 
-use crate::entry::Entry;
-use crate::reserve::due_of;
-use crate::walk::{Left, Stop, Walk, get_of};
-use seq_model::{Items, Memory, Record, Refusal, Reply};
+use crate::asking::ask;
+use client_sessions::{Entry, Session};
+use jobs::{Ask, Job};
+use seq_model::{Answer, CALL_LIMIT, Call, Memory, Notice, Reply, Request};
 use std::alloc::Global;
-use std::marker::Model;
-use tx_engine::{Ask, Job};
-use vac_model::{Action, ActionReply, Ask as ItemAsk, Kind};
+use step_world::World;
 
-/// The transaction of one action, which is within its limits. It keeps nothing between its calls.
-#[derive(Drop)]
-pub struct Session {
-    alloc: Global,
-    action: Action,
-}
+/// The client is this actor.
+pub const CLIENT: u32 = 1;
 
-impl Model for Session {
-    ghost use Rattle.vac_model.specs.declared.action.Action.{Action as AnAction};
-    ghost use Rattle.vac_model.specs.Actions.{IsAllowed};
+/// A session asks no more often than this: its calls, and the end.
+const ASK_LIMIT: usize = CALL_LIMIT + 1;
 
-    ghost Value = { AnAction };
-
-    ghost view = { λ a. a.action };
-
-    ghost invariant = { λ a. IsAllowed a.action };
-}
-
-fn copy_of(alloc: Global, action: &Action) -> Result<Action, Memory>
-    ensures { IfOk result (λ copy. copy ≡ action.now) }
+fn reply_in(notice: Notice<Entry>) -> Option<Reply<Entry>>
+    ensures { result ≡ replied notice }
 {
-    Ok(match action {
-        Action::Reserve {
-            customer,
-            units,
-            asks,
-        } => Action::Reserve {
-            customer: *customer,
-            units: *units,
-            asks: Items::from_vec(Vec::from_slice(alloc, asks.as_slice())?),
-        },
-        Action::Delete { customer } => Action::Delete {
-            customer: *customer,
-        },
-        Action::Update { changes } => Action::Update {
-            changes: Items::from_vec(Vec::from_slice(alloc, changes.as_slice())?),
-        },
-        Action::QueryItem { kind, id } => Action::QueryItem {
-            kind: *kind,
-            id: *id,
-        },
-        Action::QueryBill { customer } => Action::QueryBill {
-            customer: *customer,
-        },
-    })
-}
-
-impl<'a> Walk<'a> {
-    fn query_item(&mut self, kind: Kind, id: u64) -> Result<ActionReply, Stop>
-        ensures { Comes (after (programs.query_item kind id) self.old) result (λ reply. Answers reply) }
-    {
-        match self.get_item(kind, id)? {
-            Some(item) => Ok(ActionReply::Found { item }),
-            None => Ok(ActionReply::Absent),
-        }
-    }
-
-    fn query_bill(&mut self, customer: u64) -> Result<ActionReply, Stop>
-        ensures { Comes (after (programs.query_bill customer) self.old) result (λ reply. Answers reply) }
-    {
-        match self.get_customer(customer)? {
-            Some(who) => Ok(ActionReply::Bill { sum: who.bill() }),
-            None => Ok(ActionReply::Absent),
-        }
+    match notice {
+        Notice::Answered(_, Answer::Replied(reply)) => Some(reply),
+        _ => None,
     }
 }
 
-impl Session {
-    /// The session of this action.
-    ///
-    /// `TooLong` where the action isn't allowed, and `Memory` where a growth was refused.
-    pub fn new(alloc: Global, action: &Action) -> Result<Session, Refusal>
-        ensures ok { IfOk result (λ session. session ≡ action.now) }
-        ensures refused { IfErr result (λ refusal. IsSessionRefusal refusal (¬ IsAllowed action.now)) }
-    {
-        if !action.is_allowed() {
-            return Err(Refusal::TooLong);
-        }
-        let action = copy_of(alloc, action)?;
-        Ok(Session { alloc, action })
-    }
+/// Begins the transaction of a session.
+fn begin(world: &mut World<Entry>) -> Result<(), Memory>
+    ensures { OnOk result (Begins world.old.parts world.new.parts) }
+{
+    let _told = ask(world, CLIENT, Request::Begin)?;
+    Ok(())
+}
 
-    /// Where the replies so far lead.
-    fn play(&self, left: Left<'_>) -> Result<ActionReply, Stop>
-        ensures { Comes (after (programs.session self.now) (replies_in left.entry)) result (λ reply. Answers reply) }
-    {
-        let mut walk = Walk::new(self.alloc, left);
-        match &self.action {
-            Action::Reserve {
-                customer,
-                units,
-                asks,
-            } => walk.reserve(*customer, *units, asks.as_slice()),
-            Action::Delete { customer } => walk.delete(*customer),
-            Action::Update { changes } => {
-                let changes = walk.update(changes.as_slice())?;
-                Ok(ActionReply::Updated { changes })
+/// Makes a call of the session. It is refused nothing but memory.
+fn call(world: &mut World<Entry>, call: Call<Entry>) -> Result<Reply<Entry>, Memory>
+    requires { MayCall call world.old.parts }
+    ensures { IfOk result (λ reply. Calls call world.old.parts reply world.new.parts) }
+{
+    let told = ask(world, CLIENT, Request::Call(call))?;
+    match reply_in(told) {
+        Some(reply) => Ok(reply),
+        None => unreachable!(),
+    }
+}
+
+/// Commits the transaction of the session.
+fn commit(world: &mut World<Entry>) -> Result<(), Memory>
+    ensures { OnOk result (Commits world.old.parts world.new.parts) }
+{
+    let _told = ask(world, CLIENT, Request::Commit)?;
+    Ok(())
+}
+
+/// Makes all calls of a session, each after the replies to those before it. It doesn't give up, and asks no more than it may.
+fn make_calls(alloc: Global, world: &mut World<Entry>, session: &Session) -> Result<(), Memory>
+    requires { HasBegun session.now world.old.parts }
+    ensures { OnOk result (MakesCalls session.now world.old.parts world.new.parts) }
+{
+    let mut replies = Vec::new(alloc);
+    for _ in 0..ASK_LIMIT {
+        let next = session.ask(replies.as_slice())?;
+        match next {
+            Ask::Call(asked) => {
+                let reply = call(world, asked)?;
+                replies.push(reply)?;
             }
-            Action::QueryItem { kind, id } => walk.query_item(*kind, *id),
-            Action::QueryBill { customer } => walk.query_bill(*customer),
+            Ask::Done => return Ok(()),
+            Ask::GiveUp => unreachable!(),
         }
     }
-
-    /// What the replies so far lead to, walked from the first.
-    #[inline(always)]
-    fn walked(&self, replies: &[Reply<Entry>]) -> Result<Ask<Entry>, Memory>
-        ensures { IfOk result (λ ask. ask ≡ asked (after (programs.session self.now) replies.now)) }
-    {
-        match self.play(Left::Replies(replies)) {
-            Ok(_) => Ok(Ask::Done),
-            Err(Stop::Asks(call)) => Ok(Ask::Call(call)),
-            Err(Stop::GivesUp) => Ok(Ask::GiveUp),
-            Err(Stop::Memory) => Err(Memory),
-        }
-    }
-
-    /// The item that a reservation gets next, while not all that it asks for are got: no candidate is weighed for that.
-    fn due(&self, replies: &[Reply<Entry>]) -> Option<ItemAsk>
-        ensures { IfSome result (λ due. asked (after (programs.session self.now) replies.now) ≡ ask.Call (get_due due)) }
-    {
-        match &self.action {
-            Action::Reserve { asks, .. } => due_of(asks.as_slice(), replies),
-            _ => None,
-        }
-    }
-
-    /// What the session answered in this receipt, which is one of its own.
-    pub fn reply(&self, receipt: &Record<Entry>) -> Result<ActionReply, Memory>
-        requires { asked (after (programs.session self.now) (replies_of receipt.now.calls)) ≡ ask.Done }
-        ensures { IfOk result (λ reply. after (programs.session self.now) (replies_of receipt.now.calls) ≡ Answers reply) }
-    {
-        match self.play(Left::Calls(receipt.calls.as_slice())) {
-            Ok(reply) => Ok(reply),
-            Err(Stop::Memory) => Err(Memory),
-            Err(_) => unreachable!(),
-        }
-    }
+    unreachable!()
 }
 
-impl Job<Entry> for Session {
-    ghost use Rattle.tx_engine.specs.Programs.{after, asked};
-    ghost use Rattle.vacation_core.specs.Sessions as programs;
-
-    ghost asks = { λ action replies ask. ask ≡ asked (after (programs.session action) replies) };
-
-    /// What the session asks after these replies: it gives up where no balanced tables answer so.
-    #[inline(always)]
-    fn ask(&self, replies: &[Reply<Entry>]) -> Result<Ask<Entry>, Memory> {
-        if let Some(due) = self.due(replies) {
-            return Ok(Ask::Call(get_of(due)));
-        }
-        self.walked(replies)
-    }
+/// Runs a session: it begins, makes its calls, and commits.
+pub fn run_session(alloc: Global, world: &mut World<Entry>, session: &Session) -> Result<(), Memory>
+    requires { MayRun session.now world.old.parts }
+    ensures { OnOk result (Runs session.now world.old.parts world.new.parts) }
+{
+    begin(world)?;
+    make_calls(alloc, world, session)?;
+    commit(world)?;
+    Ok(())
 }

@@ -12,9 +12,9 @@ use Rattle.driven_turns.specs.Requested.{requests_of}
 use Rattle.seq_model.specs.declared.record.Record.{Record}
 use Rattle.tx_table.specs.declared.table.TxTable.{TxTable}
 use Rattle.tx_table.specs.Seated.{opening_of}
-use Rattle.transactions.specs.declared.seats.TxSeat.{TxSeat}
-use Rattle.transactions.specs.Ready.{HasFinished, standing}
-use Rattle.transactions.specs.Requests.{HasAskedFor, HasAskedToBegin, IsOpen, begin_request}
+use Rattle.tx_engine.specs.declared.seats.TxSeat.{TxSeat}
+use Rattle.tx_engine.specs.Ready.{HasFinished, standing}
+use Rattle.tx_engine.specs.Requests.{HasAskedFor, HasAskedToBegin, IsOpen, begin_request}
 use Rattle.wolimevar.specs.Asked.{AreOf, HasAsked, IsOf}
 
 module _ {V : Type 0} (d : Bool) where

@@ -11,9 +11,9 @@ use Rattle.replay_log.specs.Seats.{World}
 use Rattle.tx_table.specs.declared.seat.Seat.{Seat}
 use Rattle.tx_table.specs.declared.table.TxTable.{TxTable}
 use Rattle.tx_table.specs.Seated.{actor, view}
-use Rattle.transactions.specs.declared.seats.TxSeat.{TxSeat}
-use Rattle.transactions.specs.Ready.{IsReady}
-use Rattle.transactions.specs.Requests.{OnlyKnows}
+use Rattle.tx_engine.specs.declared.seats.TxSeat.{TxSeat}
+use Rattle.tx_engine.specs.Ready.{IsReady}
+use Rattle.tx_engine.specs.Requests.{OnlyKnows}
 use Rattle.wolimevar.specs.Clients.{IsAtClient, shown, shown_at}
 use Rattle.wolimevar.specs.Ends.{ClientShown, EndsAs}
 use Rattle.tx_table.specs.declared.view.TheConstants.{SHARES}

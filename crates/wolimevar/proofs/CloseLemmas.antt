@@ -5,8 +5,8 @@ use Rattle.seq_model.specs.declared.held.Held.{Held}
 use Rattle.tx_table.specs.declared.closed.Closed.{Closed}
 use Rattle.tx_table.specs.declared.table.TxTable.{TxTable}
 use Rattle.tx_table.specs.Seated.{contents_in, view}
-use Rattle.transactions.specs.declared.seats.TxSeat.{TxSeat}
-use Rattle.transactions.specs.Closing as closing
+use Rattle.tx_engine.specs.declared.seats.TxSeat.{TxSeat}
+use Rattle.tx_engine.specs.Closing as closing
 use Rattle.wolimevar.specs.declared.tally.Tally.{Tally}
 use Rattle.wolimevar.specs.Stores.{IsLeftBy, StoreShown}
 use Rattle.wolimevar.specs.StoreSeats.{store_at}

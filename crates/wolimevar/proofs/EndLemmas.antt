@@ -9,9 +9,9 @@ use Rattle.replay_log.specs.Seats.{World}
 use Rattle.tx_table.specs.declared.seat.Seat.{Seat}
 use Rattle.tx_table.specs.declared.table.TxTable.{TxTable}
 use Rattle.tx_table.specs.Seated.{opening_of}
-use Rattle.transactions.specs.declared.seats.TxSeat.{TxSeat}
-use Rattle.transactions.specs.Ready.{HasFinished}
-use Rattle.transactions.specs.Requests.{KeepsReceipts}
+use Rattle.tx_engine.specs.declared.seats.TxSeat.{TxSeat}
+use Rattle.tx_engine.specs.Ready.{HasFinished}
+use Rattle.tx_engine.specs.Requests.{KeepsReceipts}
 use Rattle.wolimevar.specs.declared.failures.Failure.{Failure}
 use Rattle.wolimevar.specs.declared.failures.Failure.TheVariants.{Refused, Aborted}
 use Rattle.wolimevar.specs.Frames.{calls_made, calls_of}

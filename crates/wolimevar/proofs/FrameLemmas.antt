@@ -15,10 +15,10 @@ use Rattle.tx_phases.specs.Phases.{Rests}
 use Rattle.tx_table.specs.declared.seat.Seat.{Seat}
 use Rattle.tx_table.specs.declared.table.TxTable.{TxTable}
 use Rattle.tx_table.specs.Seated.{actor, opening_of, view}
-use Rattle.transactions.specs.declared.seats.TxSeat.{TxSeat}
-use Rattle.transactions.specs.Ready.{HasBegunSince, HasCalled, IsReady, standing}
-use Rattle.transactions.specs.Requests.{IsOpen, KeepsReceipts}
-use Rattle.transactions.proofs.RequestLemmas.{keeps_self, then_keeps}
+use Rattle.tx_engine.specs.declared.seats.TxSeat.{TxSeat}
+use Rattle.tx_engine.specs.Ready.{HasBegunSince, HasCalled, IsReady, standing}
+use Rattle.tx_engine.specs.Requests.{IsOpen, KeepsReceipts}
+use Rattle.tx_engine.proofs.RequestLemmas.{keeps_self, then_keeps}
 use Rattle.wolimevar.specs.Frames.{AreBy, ComesBack, Frame, GoesOn, HasMadeCalls, IsClient, IsIn, IsOfSeat, IsUnderWay, calls_made, calls_of, transaction_at}
 use Rattle.wolimevar.specs.Made.{TransactionShown, with_call}
 use Rattle.wolimevar.specs.Asked.{HasAsked}

@@ -7,7 +7,7 @@ use Rattle.std.proofs.lemmas.List.Elements.{All-append, All-cons, All-nil}
 use Rattle.seq_model.specs.declared.record.Record.{Record}
 use Rattle.tx_table.specs.declared.table.TxTable.{TxTable}
 use Rattle.tx_table.specs.Seated.{actor, view}
-use Rattle.transactions.specs.declared.seats.TxSeat.{TxSeat}
+use Rattle.tx_engine.specs.declared.seats.TxSeat.{TxSeat}
 use Rattle.wolimevar.specs.declared.sessions.Task.{Task}
 use Rattle.wolimevar.specs.Sessions.{AreServed, IsFinished, IsOfOne, IsServed, IsWaiting, joined, receipts_at}
 use Rattle.wolimevar.specs.Frames.{AreBy}

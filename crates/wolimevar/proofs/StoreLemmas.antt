@@ -6,7 +6,7 @@ use Rattle.seq_model.specs.declared.call.Reply.{Reply}
 use Rattle.seq_model.specs.declared.record.Record.{Record}
 use Rattle.tx_table.specs.declared.table.TxTable.{TxTable}
 use Rattle.tx_table.specs.Seated.{actor, view}
-use Rattle.transactions.specs.declared.seats.TxSeat.{TxSeat}
+use Rattle.tx_engine.specs.declared.seats.TxSeat.{TxSeat}
 use Rattle.wolimevar.specs.declared.failures.Failure.{Failure}
 use Rattle.wolimevar.specs.declared.tally.Tally.{Tally}
 use Rattle.wolimevar.specs.Ends.{EndsAs}

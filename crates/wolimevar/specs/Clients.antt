@@ -5,7 +5,7 @@ use Rattle.tx_table.specs.declared.table.TxTable.{TxTable}
 use Rattle.tx_table.specs.Seated.{actor, view}
 use Rattle.driven_turns.specs.Requested.{requests_of}
 use Rattle.wolimevar.specs.declared.tally.Tally.{Tally}
-use Rattle.transactions.specs.declared.seats.TxSeat.{TxSeat}
+use Rattle.tx_engine.specs.declared.seats.TxSeat.{TxSeat}
 use Rattle.wolimevar.specs.Ends.{ClientShown}
 use Rattle.wolimevar.specs.Frames.{Frame, IsClient}
 

@@ -8,11 +8,11 @@ use Rattle.tx_phases.specs.Phases.{Phase, Rests, Begins, Stands, Calls, Commits,
 use Rattle.tx_table.specs.declared.seat.Seat.{Seat}
 use Rattle.tx_table.specs.declared.table.TxTable.{TxTable}
 use Rattle.tx_table.specs.Seated.{actor, opening_of, view}
-use Rattle.transactions.specs.declared.seats.TxSeat.{TxSeat}
-use Rattle.transactions.specs.Ready.{HasBegunSince, IsReady, standing}
+use Rattle.tx_engine.specs.declared.seats.TxSeat.{TxSeat}
+use Rattle.tx_engine.specs.Ready.{HasBegunSince, IsReady, standing}
 use Rattle.driven_turns.specs.Driven.{is_declared}
 use Rattle.driven_turns.specs.Requested.{requests_of}
-use Rattle.transactions.specs.Requests.{KeepsReceipts}
+use Rattle.tx_engine.specs.Requests.{KeepsReceipts}
 use Rattle.wolimevar.specs.Asked.{HasAsked}
 use Rattle.wolimevar.specs.Made.{TransactionShown}
 

@@ -6,8 +6,8 @@ use Rattle.seq_model.specs.declared.refusal.Refusal.TheVariants.{Memory as OutOf
 use Rattle.tx_table.specs.declared.table.TxTable.{TxTable}
 use Rattle.tx_table.specs.declared.view.TheConstants.{SHARES}
 use Rattle.tx_table.specs.Seated.{actor, view}
-use Rattle.transactions.specs.declared.seats.TxSeat.{TxSeat}
-use Rattle.transactions.specs.Ready.{IsReady}
+use Rattle.tx_engine.specs.declared.seats.TxSeat.{TxSeat}
+use Rattle.tx_engine.specs.Ready.{IsReady}
 use Rattle.wolimevar.specs.declared.sessions.Task.{Task}
 use Rattle.wolimevar.specs.Frames.{AreBy}
 

@@ -5,8 +5,8 @@ use Rattle.tx_table.specs.Seated.{contents_in, view}
 use Rattle.tx_table.specs.declared.view.TheConstants.{SHARES}
 use Rattle.driven_turns.specs.Requested.{requests_of}
 use Rattle.wolimevar.specs.declared.tally.Tally.{Tally}
-use Rattle.transactions.specs.declared.seats.TxSeat.{TxSeat}
-use Rattle.transactions.specs.Ready.{IsReady}
+use Rattle.tx_engine.specs.declared.seats.TxSeat.{TxSeat}
+use Rattle.tx_engine.specs.Ready.{IsReady}
 use Rattle.wolimevar.specs.Stores.{StoreShown}
 
 module _ {V : Type 0} where

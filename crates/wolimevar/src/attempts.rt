@@ -7,8 +7,8 @@ ghost use Rattle.std.specs.Prelude.{◌≡◌, IfErr, IfOk, Err, Ok, Some, false
 ghost use Rattle.tx_table.specs.Seated.{opening_of};
 ghost use Rattle.driven_turns.specs.Driven.{is_declared};
 ghost use Rattle.driven_turns.specs.Requested.{requests_of};
-ghost use Rattle.transactions.specs.Ready.{HasBegunSince, IsReady};
-ghost use Rattle.transactions.specs.Requests.{KeepsReceipts};
+ghost use Rattle.tx_engine.specs.Ready.{HasBegunSince, IsReady};
+ghost use Rattle.tx_engine.specs.Requests.{KeepsReceipts};
 ghost use Rattle.wolimevar.specs.Asked.{HasAsked};
 ghost use Rattle.wolimevar.specs.Ends.{EndsAs};
 ghost use Rattle.wolimevar.specs.Frames.{HasMadeCalls, calls_made};
@@ -23,7 +23,7 @@ use seq_model::{Refusal, Value};
 use std::hint::spin_loop;
 use std::marker::{Brand, PhantomData};
 use std::thread::yield_now;
-use transactions::{Receipt, TxSeat};
+use tx_engine::{Receipt, TxSeat};
 use tx_table::TxTable;
 
 /// From so many attempts on a client yields its thread between two of them; before, it spins.

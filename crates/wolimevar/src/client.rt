@@ -2,7 +2,7 @@
 ghost use Rattle.std.specs.Prelude.{◌≡◌, ◌<◌, ◌≤◌, ◌∷◌, ◌++◌, [], IfErr, IfOk, IfSome, OnErr, OnOk, Some, false, max, true};
 ghost use Rattle.seq_model.specs.declared.refusal.Refusal.TheVariants.{Ahead};
 ghost use Rattle.tx_table.specs.Seated.{actor, view};
-ghost use Rattle.transactions.specs.Ready.{IsReady};
+ghost use Rattle.tx_engine.specs.Ready.{IsReady};
 ghost use Rattle.wolimevar.specs.Asked.{HasAsked};
 ghost use Rattle.wolimevar.specs.Ends.{IsAbortBy};
 ghost use Rattle.wolimevar.specs.Frames.{AreBy, ComesBack};
@@ -15,7 +15,7 @@ use crate::scope::Scope;
 use crate::tally::Tally;
 use seq_model::{Refusal, Value};
 use std::marker::{Model, PhantomData};
-use transactions::{Receipt, TxSeat};
+use tx_engine::{Receipt, TxSeat};
 use tx_table::TxTable;
 
 /// A client of a store, which runs one transaction after another. Each session of [`crate::Store::run`] has one.

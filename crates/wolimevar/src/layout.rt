@@ -11,7 +11,7 @@ use crate::tally::Tally;
 use crate::words::Word;
 use seq_model::{Counts, Entries, Held, Items, Memory, QueueItems, Refusal, Shape, State, Value};
 use std::alloc::Global;
-use transactions::TxSeat;
+use tx_engine::TxSeat;
 
 /// A collection: how many stripes it is in, and what it holds at first.
 #[derive(Drop)]

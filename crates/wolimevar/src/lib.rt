@@ -66,5 +66,5 @@ pub use store::Store;
 pub use tally::Tally;
 pub use text::Text;
 pub use transaction::Transaction;
-pub use transactions::Receipt;
+pub use tx_engine::Receipt;
 pub use words::Word;

@@ -7,7 +7,7 @@ ghost use Rattle.std.specs.Prelude.{◌≡◌, ℕ, ◌+◌, ◌<◌, ◌≤◌,
 ghost use Rattle.std.specs.Vec.{vec_capacity};
 ghost use Rattle.tx_table.specs.Seated.{actor, view};
 ghost use Rattle.driven_turns.specs.Requested.{requests_of};
-ghost use Rattle.transactions.specs.Ready.{IsReady};
+ghost use Rattle.tx_engine.specs.Ready.{IsReady};
 ghost use Rattle.wolimevar.specs.Frames.{AreBy};
 ghost use Rattle.wolimevar.specs.Sessions.{IsFinished, HaveServed, IsServed, IsWhy, IsWaiting, joined, receipts_at};
 
@@ -16,9 +16,9 @@ use crate::scope::Scope;
 use seq_model::{Refusal, Value};
 use std::alloc::Global;
 use std::marker::Brand;
-use std::thread;
 use std::thread::Threads;
-use transactions::TxSeat;
+use std::thread;
+use tx_engine::TxSeat;
 use tx_table::{SHARES, TxTable};
 
 /// What a thread does with a client of its own.

@@ -17,7 +17,7 @@ use seq_model::{Memory, Refusal, Value};
 use std::alloc::Global;
 use std::marker::Model;
 use std::thread::Threads;
-use transactions::{Receipt, TxSeat};
+use tx_engine::{Receipt, TxSeat};
 use tx_table::TxTable;
 
 /// Words and collections, on which transactions run. [`crate::Layout::open`] opens it, [`Store::close`] ends it.

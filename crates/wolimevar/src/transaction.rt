@@ -5,7 +5,7 @@ ghost use Rattle.wolimevar.specs.Made.{HasMade, RefusesForeign, with_call};
 use crate::scope::Scope;
 use seq_model::{Call, Op, Refusal, Reply, Value};
 use std::marker::{Model, PhantomData};
-use transactions::TxSeat;
+use tx_engine::TxSeat;
 use tx_table::TxTable;
 
 /// The transaction in which a body runs. Its calls are made by the handles of the store's layout.

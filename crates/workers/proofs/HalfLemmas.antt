@@ -5,13 +5,13 @@
 use Rattle.std.proofs.Common.{◌≡◌, ◌⊎◌, ℕ, List, [], ◌∷◌, ◌++◌, inl, inr, sym, ap, ◌∙◌, subst}
 use Rattle.std.proofs.lemmas.List.{append_assoc}
 use Rattle.seq_model.specs.declared.call.Reply.{Reply}
-use Rattle.tx_engine.specs.declared.job.Ask.{Ask}
+use Rattle.jobs.specs.declared.job.Ask.{Ask}
 use Rattle.tx_table.specs.Seated.{actor, view}
 use Rattle.tx_table.specs.Shown.{both_of, left_of, right_of}
 use Rattle.tx_table.specs.declared.table.TxTable.{TxTable}
 use Rattle.tx_table.specs.declared.view.Turn.{Turn}
-use Rattle.transactions.specs.declared.seats.TxSeat.{TxSeat}
-use Rattle.transactions.specs.Ready.{IsReady}
+use Rattle.tx_engine.specs.declared.seats.TxSeat.{TxSeat}
+use Rattle.tx_engine.specs.Ready.{IsReady}
 use Rattle.workers.specs.declared.tree.Tree.{Tree}
 use Rattle.workers.specs.Tasks.{Gains, GetsJoined, Took}
 use Rattle.workers.specs.Trees.{AreDone, AreLeft, ComesBack, gained, works}

@@ -9,15 +9,15 @@ use Rattle.std.proofs.lemmas.List.Elements.{All-append, All-cons, All-nil, All-w
 use Rattle.std.proofs.Math.Seq.{take-length}
 use Rattle.seq_model.specs.declared.call.Reply.{Reply}
 use Rattle.seq_model.specs.declared.record.Record.{Record}
-use Rattle.tx_engine.specs.declared.job.Ask.{Ask}
+use Rattle.jobs.specs.declared.job.Ask.{Ask}
 use Rattle.workers.specs.declared.causes.LastAbort.{LastAbort}
 use Rattle.workers.specs.declared.causes.LastAbort.TheVariants.{NotStarted}
 use Rattle.tx_table.specs.declared.table.TxTable.{TxTable}
 use Rattle.tx_table.specs.Seated.{actor, view}
 use Rattle.tx_table.specs.declared.view.Turn.{Turn}
-use Rattle.transactions.specs.declared.seats.TxSeat.{TxSeat}
-use Rattle.transactions.specs.Ready.{IsReady}
-use Rattle.transactions.specs.Requests.{KeepsReceipts}
+use Rattle.tx_engine.specs.declared.seats.TxSeat.{TxSeat}
+use Rattle.tx_engine.specs.Ready.{IsReady}
+use Rattle.tx_engine.specs.Requests.{KeepsReceipts}
 use Rattle.workers.specs.declared.tasks.Task.{Task}
 use Rattle.workers.specs.Tasks.{AreNotStarted, AreReported, AreTried, AreTriedBy, Gains, GetsJoined, IsDone, IsReported, IsSameTask}
 use Rattle.workers.specs.Tasks.{IsTried, Outcome, Took, missed_in, receipts_in, records_of}

@@ -3,3 +3,5 @@ pub mod Tasks
 pub mod Trees
 pub mod Reports
 pub mod Texts
+pub mod Deals
+pub mod Serving

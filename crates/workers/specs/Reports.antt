@@ -5,19 +5,19 @@ use Rattle.std.specs.Vec.{vec_capacity}
 use Rattle.std.specs.declared.alloc.Global.{Global}
 use Rattle.seq_model.specs.declared.call.Reply.{Reply}
 use Rattle.seq_model.specs.declared.record.Record.{Record}
-use Rattle.tx_engine.specs.declared.job.Ask.{Ask}
+use Rattle.jobs.specs.declared.job.Ask.{Ask}
 use Rattle.tx_phases.specs.Phases.{Rests}
 use Rattle.tx_table.specs.Seated.{actor, opening_of, view}
 use Rattle.tx_table.specs.declared.table.TxTable.{TxTable}
 use Rattle.tx_table.specs.declared.view.Turn.{Turn}
 use Rattle.driven_turns.specs.Begins.{begins_of}
-use Rattle.transactions.specs.Ready.{standing}
-use Rattle.transactions.specs.Requests.{HasAborted, IsOpen, KeepsReceipts}
+use Rattle.tx_engine.specs.Ready.{standing}
+use Rattle.tx_engine.specs.Requests.{HasAborted, IsOpen, KeepsReceipts}
 use Rattle.workers.specs.declared.causes.LastAbort.{LastAbort}
 use Rattle.workers.specs.declared.report.Draft.{Draft}
 use Rattle.workers.specs.declared.report.Report.{Report}
 use Rattle.workers.specs.declared.tree.Tree.{Tree}
-use Rattle.transactions.specs.declared.seats.TxSeat.{TxSeat}
+use Rattle.tx_engine.specs.declared.seats.TxSeat.{TxSeat}
 use Rattle.workers.specs.Trees.{IsFresh, leaves, works}
 use Rattle.workers.specs.Tasks.{AreOutcomes, Gains, GetsJoined, Outcome, Took, missed_in, receipts_in}
 

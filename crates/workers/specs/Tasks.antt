@@ -3,12 +3,12 @@ use Rattle.std.specs.Prelude.{◌≡◌, ◌⊎◌, ℕ, ◌+◌, ◌<◌, ◌�
 use Rattle.std.specs.Vec.{vec_capacity}
 use Rattle.seq_model.specs.declared.call.Reply.{Reply}
 use Rattle.seq_model.specs.declared.record.Record.{Record}
-use Rattle.tx_engine.specs.declared.job.Ask.{Ask}
+use Rattle.jobs.specs.declared.job.Ask.{Ask}
 use Rattle.tx_table.specs.declared.table.TxTable.{TxTable}
 use Rattle.tx_table.specs.Seated.{actor, view}
 use Rattle.tx_table.specs.declared.view.Turn.{Turn}
-use Rattle.transactions.specs.declared.seats.TxSeat.{TxSeat}
-use Rattle.transactions.specs.Ready.{IsReady}
+use Rattle.tx_engine.specs.declared.seats.TxSeat.{TxSeat}
+use Rattle.tx_engine.specs.Ready.{IsReady}
 use Rattle.workers.specs.declared.causes.LastAbort.{LastAbort}
 use Rattle.workers.specs.declared.causes.LastAbort.TheVariants.{NotStarted}
 use Rattle.workers.specs.declared.tasks.Task.{Task}

@@ -3,12 +3,12 @@ use Rattle.std.specs.Prelude.{◌≡◌, ◌⊎◌, ℕ, ◌+◌, ◌<◌, ◌�
 use Rattle.seq_model.specs.declared.call.Reply.{Reply}
 use Rattle.seq_model.specs.declared.limits.TheConstants.{ACTOR_LIMIT}
 use Rattle.seq_model.specs.declared.record.Record.{Record}
-use Rattle.tx_engine.specs.declared.job.Ask.{Ask}
+use Rattle.jobs.specs.declared.job.Ask.{Ask}
 use Rattle.tx_table.specs.declared.table.TxTable.{TxTable}
 use Rattle.tx_table.specs.Seated.{actor, view}
 use Rattle.tx_table.specs.declared.view.Turn.{Turn}
-use Rattle.transactions.specs.declared.seats.TxSeat.{TxSeat}
-use Rattle.transactions.specs.Ready.{IsReady}
+use Rattle.tx_engine.specs.declared.seats.TxSeat.{TxSeat}
+use Rattle.tx_engine.specs.Ready.{IsReady}
 use Rattle.workers.specs.declared.causes.LastAbort.{LastAbort}
 use Rattle.workers.specs.declared.tree.Tree.{Tree, Taken, Leaf, Both'}
 use Rattle.workers.specs.Tasks.{Gains, GetsJoined, IsDone, IsFreshTask, IsLeft, Took}

@@ -4,15 +4,15 @@ use Rattle.seq_model.specs.declared.call.Reply.{Reply}
 use Rattle.seq_model.specs.declared.record.Record.{Record}
 use Rattle.seq_model.specs.declared.refusal.Refusal.{Refusal}
 use Rattle.seq_model.specs.declared.refusal.Refusal.TheVariants.{Moved, Busy, Stale, GateBusy, Invalid}
-use Rattle.tx_engine.specs.declared.job.Ask.{Ask}
+use Rattle.jobs.specs.declared.job.Ask.{Ask}
 use Rattle.tx_table.specs.declared.seat.Seat.{Seat}
 use Rattle.tx_table.specs.declared.table.TxTable.{TxTable}
 use Rattle.tx_table.specs.Seated.{actor, acts, opening_of, view}
-use Rattle.transactions.specs.Requests.{KeepsReceipts}
-use Rattle.attempts.specs.Attempts.{AttemptsTo}
-use Rattle.attempts.specs.Jobs.{IsWholeJob}
-use Rattle.attempts.specs.declared.jobs.Attempt.{Attempt}
-use Rattle.attempts.specs.declared.jobs.Attempt.TheVariants.{Committed, GivenUp}
+use Rattle.tx_engine.specs.Requests.{KeepsReceipts}
+use Rattle.tx_engine.specs.Attempts.{AttemptsTo}
+use Rattle.tx_engine.specs.Jobs.{IsWholeJob}
+use Rattle.tx_engine.specs.declared.attempts.Attempt.{Attempt}
+use Rattle.tx_engine.specs.declared.attempts.Attempt.TheVariants.{Committed, GivenUp}
 use Rattle.workers.specs.declared.causes.LastAbort.{LastAbort}
 use Rattle.workers.specs.declared.causes.LastAbort.TheVariants as last
 

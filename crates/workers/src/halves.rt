@@ -3,20 +3,19 @@ ghost use Rattle.std.specs.Prelude.{◌≡◌, ◌<◌, ◌≤◌, max};
 ghost use Rattle.std.specs.Thread.{IsSend, IsSync};
 ghost use Rattle.tx_table.specs.Seated.{actor, view};
 ghost use Rattle.tx_table.specs.Shown.{both_of, left_of, right_of};
-ghost use Rattle.transactions.specs.Ready.{IsReady};
+ghost use Rattle.tx_engine.specs.Ready.{IsReady};
 ghost use Rattle.workers.specs.Trees.{AreOthers, CanRun, ComesBack, IsFresh, Ran, WasLeft, leaves};
 
 use crate::tree::Tree;
 use crate::way::Way;
-use attempts::Pause;
+use jobs::Job;
 use seq_model::{ACTOR_LIMIT, Value};
 use std::snapshot::Snapshot;
 use std::sync::Wait;
 use std::sync::atomic::{AtomicBool, Ordering};
 use std::thread::{Promise, Threads};
 use std::{mem, thread};
-use transactions::TxSeat;
-use tx_engine::Job;
+use tx_engine::{Pause, TxSeat};
 use tx_table::TxTable;
 
 /// A seat, and the lists that were run with it.

@@ -6,9 +6,9 @@ ghost use Rattle.workers.specs.Trees.{AreOthers, IsFresh, leaves, works};
 
 use crate::tasks::Task;
 use crate::tree::Tree;
+use jobs::Job;
 use seq_model::{Memory, Value};
 use std::alloc::Global;
-use tx_engine::Job;
 
 impl<V: Value, J: Job<V> + Drop> Task<V, J> {
     /// A worker's list, with room for what comes of it.

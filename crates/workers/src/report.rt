@@ -6,9 +6,9 @@ ghost use Rattle.workers.specs.Reports.{HasRoomFor, jobs_in};
 
 use crate::causes::LastAbort;
 use crate::tree::Tree;
+use jobs::Job;
 use seq_model::{Items, Memory, Record, Value};
 use std::alloc::Global;
-use tx_engine::Job;
 
 /// What comes of a run of workers.
 #[derive(Debug, Drop)]

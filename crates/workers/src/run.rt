@@ -3,7 +3,7 @@ ghost use Rattle.std.specs.Prelude.{◌≡◌, ◌≤◌, IfOk, OnErr, length};
 ghost use Rattle.std.specs.Thread.{IsSend, IsSync};
 ghost use Rattle.tx_table.specs.Seated.{opening_of, view};
 ghost use Rattle.tx_phases.specs.Phases.{Rests};
-ghost use Rattle.transactions.specs.Ready.{IsReady, standing};
+ghost use Rattle.tx_engine.specs.Ready.{IsReady, standing};
 ghost use Rattle.workers.specs.Reports.{HasNotRun, HasRoomFor, HasRun, IsReportOf, IsTreeOf, jobs_of};
 
 use crate::halves::run_tree;
@@ -11,14 +11,13 @@ use crate::lists::tree_of;
 use crate::report::{Draft, Report};
 use crate::tree::Tree;
 use crate::way::Way;
-use attempts::Pause;
 use core::mem::replace_with;
+use jobs::Job;
 use seq_model::{ACTOR_LIMIT, Memory, Value};
 use std::alloc::Global;
 use std::sync::Wait;
 use std::thread::Threads;
-use transactions::TxSeat;
-use tx_engine::Job;
+use tx_engine::{Pause, TxSeat};
 use tx_table::TxTable;
 
 /// All that is to be filled: a report with room for what may come of these lists, and the lists as a tree.

@@ -1,16 +1,15 @@
 //! A worker's list of jobs.
 ghost use Rattle.std.specs.Prelude.{◌≡◌, ◌<◌, ◌≤◌, ◌+◌, ◌++◌, ◌∷◌, [], length};
 ghost use Rattle.tx_table.specs.Seated.{actor, view};
-ghost use Rattle.transactions.specs.Ready.{IsReady};
+ghost use Rattle.tx_engine.specs.Ready.{IsReady};
 ghost use Rattle.workers.specs.Tasks.{Gains, GetsJoined, HasRoom, IsDone, IsFreshTask, IsLeft, IsSameTask, missed_in, receipts_in};
 
 use crate::causes::LastAbort;
 use crate::tries::retry_in;
 use crate::way::{Courtesy, Way};
-use attempts::Pause;
+use jobs::Job;
 use seq_model::{Record, Value};
-use transactions::TxSeat;
-use tx_engine::Job;
+use tx_engine::{Pause, TxSeat};
 use tx_table::TxTable;
 
 /// A worker's number and its jobs, with room for what comes of them.

@@ -3,8 +3,8 @@ ghost use Rattle.std.specs.Prelude.{◌≡◌, ◌≤◌, []};
 ghost use Rattle.workers.specs.Trees.{AreLeft, AreOthers, IsFresh, gained, leaves, works};
 
 use crate::tasks::Task;
+use jobs::Job;
 use seq_model::{ACTOR_LIMIT, Value};
-use tx_engine::Job;
 
 /// The lists of jobs of some workers, halved and halved again.
 #[derive(Drop)]

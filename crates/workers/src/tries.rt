@@ -2,17 +2,16 @@
 ghost use Rattle.std.specs.Prelude.{◌≡◌, ◌≤◌, ◌↔◌, IfErr, IfOk, IsTrue};
 ghost use Rattle.tx_table.specs.Seated.{opening_of};
 ghost use Rattle.tx_phases.specs.Phases.{Rests};
-ghost use Rattle.transactions.specs.Ready.{IsReady, standing};
+ghost use Rattle.tx_engine.specs.Ready.{IsReady, standing};
 ghost use Rattle.workers.specs.Tries.{HasReceipt, HasNoReceipt, IsTransient};
 
 use crate::causes::LastAbort;
 use crate::way::{Courtesy, Way};
-use attempts::{Attempt, Pause, attempt_with};
+use jobs::Job;
 use seq_model::{Record, Refusal, Value};
 use std::hint::spin_loop;
 use std::thread::yield_now;
-use transactions::TxSeat;
-use tx_engine::Job;
+use tx_engine::{Attempt, Pause, TxSeat, attempt_with};
 use tx_table::TxTable;
 
 /// After so many attempts a worker yields where it spun before.

@@ -1,5 +1,5 @@
 use Rattle.first_transaction.specs.Opening.{two_ones}
-use Rattle.running_world.specs.Serial.{IsFrom}
+use Rattle.step_world.specs.Serial.{IsFrom}
 use Rattle.first_transaction.proofs.ask.Given as goal
 
 abbrev pub invariant-loop-step : goal.invariant-loop-step

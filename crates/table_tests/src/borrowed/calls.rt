@@ -1,9 +1,9 @@
 //! Calls of a transaction that borrows its seat, at any type of values: by the transaction itself, or typed.
 ghost use Rattle.std.specs.Prelude.{◌≡◌};
-ghost use Rattle.transactions.specs.Ready.{HasBegunSince, IsReady};
+ghost use Rattle.tx_engine.specs.Ready.{HasBegunSince, IsReady};
 
 use seq_model::{Call, Op, Refusal, Reply, Value};
-use transactions::Tx;
+use tx_engine::Tx;
 use tx_wrap::{TBag, TMap, TPq, TQueue, TWord};
 
 /// How the calls of a transaction are made. What is asked for its length is a map with the last one, and else a queue.

@@ -1,8 +1,8 @@
 //! How a transaction that borrows its seat ends, at any type of values.
-ghost use Rattle.transactions.specs.Ready.{HasBegunSince, IsReady};
+ghost use Rattle.tx_engine.specs.Ready.{HasBegunSince, IsReady};
 
 use seq_model::{Record, Refusal, Value};
-use transactions::Tx;
+use tx_engine::Tx;
 
 /// How a transaction is to end.
 #[derive(Clone, Copy)]

@@ -1,9 +1,9 @@
 //! Transactions that borrow their seat, at any type of values.
 ghost use Rattle.std.specs.Prelude.{◌≡◌};
-ghost use Rattle.transactions.specs.Ready.{HasBegunSince, IsReady};
+ghost use Rattle.tx_engine.specs.Ready.{HasBegunSince, IsReady};
 
 use seq_model::{Call, Record, Refusal, Value};
-use transactions::{Tx, TxSeat, begin};
+use tx_engine::{Tx, TxSeat, begin};
 use tx_table::TxTable;
 
 /// Makes these calls in one transaction, and commits. A call that is refused memory has aborted it, so there is nothing to commit then.

@@ -1,19 +1,19 @@
 //! Workers at a table of such values, whose commits overlap, and one of whose copies is refused.
 ghost use Rattle.std.specs.Prelude.{◌≡◌, ◌≤◌, IfOk, length};
 ghost use Rattle.tx_table.specs.Seated.{view};
-ghost use Rattle.transactions.specs.Ready.{IsReady};
+ghost use Rattle.tx_engine.specs.Ready.{IsReady};
 
-use super::rations::{Ration, Rationed};
-use super::seats::commit_puts;
-use super::tables::Made;
-use super::waits::{Step, put_of};
 use crate::shared::{Meeting, Order};
 use crate::worker::reports::memory_missed;
 use seq_model::{Memory, Record, Refusal};
 use std::alloc::Global;
 use std::sync::Wait;
 use std::thread::Threads;
-use transactions::TxSeat;
+use super::rations::{Ration, Rationed};
+use super::seats::commit_puts;
+use super::tables::Made;
+use super::waits::{Step, put_of};
+use tx_engine::TxSeat;
 use tx_table::TxTable;
 use workers::{Report, run_workers_owned};
 

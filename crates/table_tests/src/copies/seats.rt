@@ -1,11 +1,11 @@
 //! A transaction at a seat of a shared table, one of whose copies is refused.
-ghost use Rattle.transactions.specs.Ready.{IsReady};
+ghost use Rattle.tx_engine.specs.Ready.{IsReady};
 
+use seq_model::{Record, Refusal};
 use super::borrowers::commit_calls;
 use super::rations::{Ration, Rationed, get};
 use super::tables::Made;
-use seq_model::{Record, Refusal};
-use transactions::TxSeat;
+use tx_engine::TxSeat;
 use tx_table::TxTable;
 
 /// The transaction is run with the copy at this place refused; whether one was. It is answered as a want of memory then, and else it

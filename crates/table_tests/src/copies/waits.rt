@@ -2,20 +2,19 @@
 //! the gate of a map, until the second worker was refused at both.
 ghost use Rattle.std.specs.Prelude.{◌≡◌, IfOk, length};
 ghost use Rattle.tx_table.specs.Seated.{view};
-ghost use Rattle.transactions.specs.Ready.{IsReady};
+ghost use Rattle.tx_engine.specs.Ready.{IsReady};
 
-use super::rations::{Ration, Rationed, get};
-use super::seats::commit_puts;
-use super::tables::Made;
 use crate::shared::print_receipt;
 use crate::worker::reports::{memory_missed, print_all_missed};
-use attempts::Pause;
+use jobs::{Ask, Job};
 use seq_model::{Call, Items, Memory, Op, Record, Refusal, Reply};
 use std::alloc::Global;
 use std::sync::Wait;
 use std::thread::Threads;
-use transactions::TxSeat;
-use tx_engine::{Ask, Job};
+use super::rations::{Ration, Rationed, get};
+use super::seats::commit_puts;
+use super::tables::Made;
+use tx_engine::{Pause, TxSeat};
 use tx_table::TxTable;
 use workers::{Report, run_workers_owned};
 

@@ -2,10 +2,9 @@
 ghost use Rattle.table_tests.specs.Fit.{IsFit};
 
 use crate::shared::{Listed, Meeting, Page};
-use attempts::{Attempt, Pause, attempt_with};
 use seq_model::{Call, Refusal, Request};
-use step_script::EventLine;
-use transactions::TxSeat;
+use session_text::EventLine;
+use tx_engine::{Attempt, Pause, TxSeat, attempt_with};
 use tx_table::TxTable;
 
 /// A request at a seat, and what it is answered. The receipt of a commit joins the others.
@@ -125,7 +124,7 @@ fn attempt(
     if is_held {
         attempt_with(table, seat, job, worker, meeting)
     } else {
-        attempts::attempt(table, seat, job)
+        tx_engine::attempt(table, seat, job)
     }
 }
 

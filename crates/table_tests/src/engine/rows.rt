@@ -1,16 +1,15 @@
 //! Rows at two seats.
 ghost use Rattle.table_tests.specs.Fit.{IsFit};
 
-use super::requests::{ask, leave_open, repeat, try_job};
 use crate::borrowed::calls::{Caller, Style};
 use crate::borrowed::transacted::answer_transaction;
 use crate::shared::{Meeting, Order, Page, job_of, learn, say_last};
 use row_parts::script_of;
 use seq_model::Refusal;
+use session_text::{EventLine, Script, number};
 use std::alloc::Global;
-use step_script::{EventLine, Script};
-use text_lines::number;
-use transactions::TxSeat;
+use super::requests::{ask, leave_open, repeat, try_job};
+use tx_engine::TxSeat;
 use tx_table::TxTable;
 
 /// Where a row stands: whose it is, and below how many others.

@@ -1,10 +1,10 @@
 //! What is printed of sessions that workers served.
 use crate::shared::print_receipt;
+use client_sessions::Entry;
 use seq_model::{Items, Memory, Record, Refusal};
-use session_script::print_sessions;
+use session_text::print_sessions;
 use std::fmt::Write;
 use vac_model::Tables;
-use vacation_core::Entry;
 use workers::{LastAbort, Report};
 
 /// The receipts of each worker, and what the tables hold.

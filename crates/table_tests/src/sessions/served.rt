@@ -2,18 +2,16 @@
 ghost use Rattle.std.specs.Prelude.{◌≤◌, length};
 ghost use Rattle.vac_model.specs.Balanced.{IsBalanced};
 
-use super::printed::{is_refused, print_served};
 use crate::shared::{Meeting, Order, audit_receipts};
-use dealing::deal;
+use client_sessions::{Entry, state_of};
 use seq_model::{Items, Record, Refusal, State};
-use serving::{Served, serve};
-use session_script::parse_sessions;
+use session_text::parse_sessions;
 use std::alloc::Global;
 use std::sync::Wait;
 use std::thread::Threads;
+use super::printed::{is_refused, print_served};
 use vac_model::{Action, Tables};
-use vacation_core::{Entry, state_of};
-use workers::Report;
+use workers::{Report, Served, deal, serve};
 
 /// How sessions are served: by how many workers, stripes for each collection, attempts of a session at most, and how many workers meet.
 #[derive(Clone, Copy)]

@@ -1,9 +1,9 @@
 //! Jobs that a row spells.
+use jobs::{Ask, Job};
 use row_parts::script_of;
 use seq_model::{Memory, Refusal, Reply, Request};
+use session_text::{EventLine, Script};
 use std::alloc::Global;
-use step_script::{EventLine, Script};
-use tx_engine::{Ask, Job};
 
 /// A job that a row spells.
 #[derive(Drop)]

@@ -1,10 +1,10 @@
 //! What a seat knows of the commits of others.
-ghost use Rattle.transactions.specs.Ready.{IsReady};
+ghost use Rattle.tx_engine.specs.Ready.{IsReady};
 
-use super::pages::Page;
 use seq_model::Refusal;
-use text_lines::number;
-use transactions::TxSeat;
+use session_text::number;
+use super::pages::Page;
+use tx_engine::TxSeat;
 use tx_table::TxTable;
 
 /// The seat learns of the commit of this number.
@@ -22,7 +22,7 @@ fn learn_number(page: &mut Page, table: &TxTable<u64>, seat: &mut TxSeat<u64>, l
     requires ready { IsReady table.now seat.old }
     ensures ready { IsReady table.now seat.new }
 {
-    let done = transactions::learn(table, seat, learnt);
+    let done = tx_engine::learn(table, seat, learnt);
     page.hear_done("learnt", done);
 }
 

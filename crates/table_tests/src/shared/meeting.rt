@@ -1,8 +1,8 @@
 //! Workers that wait for one another.
-use attempts::Pause;
 use seq_model::Refusal;
 use std::sync::atomic::{AtomicBool, AtomicU64, Ordering};
 use std::thread::yield_now;
+use tx_engine::Pause;
 
 /// A worker is held for at most so many turns.
 const TURNS: u64 = 10_000_000;

@@ -1,12 +1,12 @@
 //! How a row opens a table.
 ghost use Rattle.std.specs.Prelude.{◌≡◌, IfOk};
 ghost use Rattle.tx_table.specs.Seated.{view};
-ghost use Rattle.transactions.specs.Ready.{IsReady};
+ghost use Rattle.tx_engine.specs.Ready.{IsReady};
 
 use seq_model::{Held, Items, Memory, Refusal, Shape, State};
+use session_text::Script;
 use std::alloc::Global;
-use step_script::Script;
-use transactions::TxSeat;
+use tx_engine::TxSeat;
 use tx_table::TxTable;
 
 /// The state that the header of a script says.

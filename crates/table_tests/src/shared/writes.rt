@@ -1,10 +1,10 @@
 //! A write that a seat commits after a want of memory.
-ghost use Rattle.transactions.specs.Ready.{HasBegunSince, IsReady};
+ghost use Rattle.tx_engine.specs.Ready.{HasBegunSince, IsReady};
 
-use super::pages::Page;
 use seq_model::{Call, Op, Record, Refusal};
 use std::thread::yield_now;
-use transactions::TxSeat;
+use super::pages::Page;
+use tx_engine::TxSeat;
 use tx_table::TxTable;
 
 /// So many kinds of what can be written: words, and four of collections.

@@ -1,10 +1,10 @@
 //! Attempts of a job at one seat, up to a receipt.
 ghost use Rattle.std.specs.Prelude.{◌≤◌};
-ghost use Rattle.transactions.specs.Ready.{IsReady};
+ghost use Rattle.tx_engine.specs.Ready.{IsReady};
 
 use crate::shared::{Listed, Page, commit_after, job_of};
 use seq_model::Refusal;
-use transactions::TxSeat;
+use tx_engine::TxSeat;
 use tx_table::TxTable;
 use workers::{LastAbort, NoPause, retry};
 

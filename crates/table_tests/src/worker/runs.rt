@@ -1,15 +1,15 @@
 //! Jobs on a table, each list by a worker of its own.
 ghost use Rattle.std.specs.Prelude.{◌≡◌, ◌≤◌, length};
 ghost use Rattle.tx_table.specs.Seated.{view};
-ghost use Rattle.transactions.specs.Ready.{IsReady};
+ghost use Rattle.tx_engine.specs.Ready.{IsReady};
 
-use super::lists::{Limits, lists_of, wants_of};
-use super::reports::{memory_missed, print_report, receive_all};
 use crate::shared::{Listed, Meeting, Page, commit_write};
 use seq_model::{Memory, Refusal};
 use std::sync::Wait;
 use std::thread::Threads;
-use transactions::TxSeat;
+use super::lists::{Limits, lists_of, wants_of};
+use super::reports::{memory_missed, print_report, receive_all};
+use tx_engine::TxSeat;
 use tx_table::TxTable;
 use workers::{Report, run_workers_owned};
 

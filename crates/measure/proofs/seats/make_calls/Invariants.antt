@@ -1,4 +1,4 @@
-use Rattle.transactions.specs.Ready.{HasBegunSince, IsReady}
+use Rattle.tx_engine.specs.Ready.{HasBegunSince, IsReady}
 use Rattle.measure.proofs.seats.make_calls.Given as goal
 
 abbrev pub invariant-calls : goal.invariant-calls

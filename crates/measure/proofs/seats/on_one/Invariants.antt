@@ -1,4 +1,4 @@
-use Rattle.transactions.specs.Ready.{IsReady}
+use Rattle.tx_engine.specs.Ready.{IsReady}
 use Rattle.measure.proofs.seats.on_one.Given as goal
 
 abbrev pub invariant-transactions : goal.invariant-transactions

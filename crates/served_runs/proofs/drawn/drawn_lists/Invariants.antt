@@ -1,5 +1,5 @@
 use Rattle.std.specs.Prelude.{All}
-use Rattle.dealing.specs.Deals.{in_lists}
+use Rattle.workers.specs.Deals.{in_lists}
 use Rattle.vac_model.specs.Actions.{IsAllowed}
 use Rattle.served_runs.proofs.RunLemmas.{AreDrawnTo}
 use Rattle.served_runs.proofs.drawn.drawn_lists.Given as goal

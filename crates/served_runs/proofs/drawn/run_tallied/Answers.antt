@@ -1,5 +1,5 @@
 use Rattle.std.proofs.Common.{rules}
-use Rattle.dealing.specs.Deals.{in_lists}
+use Rattle.workers.specs.Deals.{in_lists}
 use Rattle.served_runs.proofs.RunLemmas.{drawn_run, only_memory}
 use Rattle.served_runs.proofs.drawn.run_tallied.Goals as goal
 

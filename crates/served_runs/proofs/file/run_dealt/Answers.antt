@@ -2,9 +2,9 @@ use Rattle.std.proofs.Common.{◌≡◌, ◌∙◌, ap, length, rules, subst, sy
 use Rattle.std.proofs.lemmas.Result.{IfOk-weaker}
 use Rattle.std.specs.declared.alloc.Global.{Global}
 use Rattle.std.specs.declared.vec.Vec.{Vec}
-use Rattle.dealing.specs.Deals.{in_lists}
+use Rattle.workers.specs.Deals.{in_lists}
 use Rattle.vac_model.specs.declared.action.Action.{Action}
-use Rattle.serving.specs.Serving.{AreAllowed}
+use Rattle.workers.specs.Serving.{AreAllowed}
 use Rattle.served_runs.specs.Unread.{IsToldRun}
 use Rattle.served_runs.proofs.RunLemmas.{dealt_allowed, dealt_run, dealt_same}
 use Rattle.served_runs.proofs.file.run_dealt.Goals as goal

@@ -1,5 +1,5 @@
 use Rattle.std.proofs.Common.{rules}
-use Rattle.dealing.specs.Deals.{in_lists}
+use Rattle.workers.specs.Deals.{in_lists}
 use Rattle.served_runs.proofs.RunLemmas.{all_unread, only_memory, told_run}
 use Rattle.served_runs.proofs.file.run_from.Goals as goal
 

@@ -2,8 +2,8 @@ use Rattle.std.proofs.Common.{arith, ap, length, subst, sym, ◌≡◌, ◌∙�
 use Rattle.std.proofs.lemmas.List.{length-append, length-map, map-append}
 use Rattle.seq_model.specs.declared.record.Record.{Record}
 use Rattle.vac_model.specs.declared.action.Action.{Action}
-use Rattle.vacation_core.specs.declared.entry.Entry.{Entry}
-use Rattle.dealing.specs.Deals.{AreDealt, AreDealtLike, in_lists, in_queues}
+use Rattle.client_sessions.specs.declared.entry.Entry.{Entry}
+use Rattle.workers.specs.Deals.{AreDealt, AreDealtLike, in_lists, in_queues}
 use Rattle.served_runs.specs.Lines.{AreLinesOf}
 use Rattle.served_runs.specs.Unread.{AreUnread, HasUnread}
 use Rattle.served_runs.proofs.LineLemmas.{IsAllAt, all_at_end, all_at_next, both_ok, has_unread, queues_like}

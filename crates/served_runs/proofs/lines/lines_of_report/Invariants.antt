@@ -1,7 +1,7 @@
 use Rattle.std.proofs.Common.{◌≡◌, ◌+◌, length, List}
-use Rattle.dealing.specs.Deals.{in_lists, in_queues}
+use Rattle.workers.specs.Deals.{in_lists, in_queues}
 use Rattle.workers.specs.Tasks.{Outcome}
-use Rattle.vacation_core.specs.declared.entry.Entry.{Entry}
+use Rattle.client_sessions.specs.declared.entry.Entry.{Entry}
 use Rattle.served_runs.specs.Unread.{AreAllUnread}
 use Rattle.served_runs.proofs.LineLemmas.{IsAllAt}
 use Rattle.served_runs.proofs.lines.lines_of_report.Given as goal

@@ -1,6 +1,6 @@
 use Rattle.std.proofs.Common.{◌≡◌, ◌+◌, length, List}
 use Rattle.workers.specs.Tasks.{Outcome}
-use Rattle.vacation_core.specs.declared.entry.Entry.{Entry}
+use Rattle.client_sessions.specs.declared.entry.Entry.{Entry}
 use Rattle.served_runs.specs.Unread.{AreUnread}
 use Rattle.served_runs.proofs.LineLemmas.{IsAt, Missed}
 use Rattle.served_runs.proofs.lines.lines_of_worker.Given as goal

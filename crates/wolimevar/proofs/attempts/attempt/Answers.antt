@@ -1,5 +1,5 @@
 use Rattle.tx_table.specs.Seated.{opening_of}
-use Rattle.transactions.proofs.RequestLemmas.{then_keeps}
+use Rattle.tx_engine.proofs.RequestLemmas.{then_keeps}
 use Rattle.wolimevar.proofs.AskedLemmas.{then_asks}
 use Rattle.wolimevar.proofs.EndLemmas.{attempted, ok_then, refused}
 use Rattle.wolimevar.proofs.attempts.attempt.Goals as goal

@@ -1,7 +1,7 @@
 use Rattle.std.proofs.Common.{◌≡◌, ◌≤◌}
 use Rattle.std.specs.Prelude.{IfOk, false, max, true}
 use Rattle.driven_turns.specs.Requested.{requests_of}
-use Rattle.transactions.specs.Ready.{IsReady}
+use Rattle.tx_engine.specs.Ready.{IsReady}
 use Rattle.wolimevar.specs.Asked.{HasAsked}
 use Rattle.wolimevar.specs.Ends.{EndsAs}
 use Rattle.wolimevar.proofs.TallyLemmas.{AreSoFar}

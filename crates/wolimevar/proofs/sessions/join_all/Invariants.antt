@@ -4,7 +4,7 @@ use Rattle.std.specs.Vec.{vec_capacity, vec_len}
 use Rattle.std.specs.Vec.Iter.{into_iter_items}
 use Rattle.tx_table.specs.Seated.{view}
 use Rattle.driven_turns.specs.Requested.{requests_of}
-use Rattle.transactions.specs.Ready.{IsReady}
+use Rattle.tx_engine.specs.Ready.{IsReady}
 use Rattle.wolimevar.specs.Sessions.{IsFinished, joined, receipts_at}
 use Rattle.wolimevar.proofs.sessions.join_all.Given as goal
 

@@ -3,7 +3,7 @@ use Rattle.std.specs.Prelude.{All}
 use Rattle.std.specs.Vec.{vec_capacity}
 use Rattle.tx_table.specs.Seated.{view}
 use Rattle.driven_turns.specs.Requested.{requests_of}
-use Rattle.transactions.specs.Ready.{IsReady}
+use Rattle.tx_engine.specs.Ready.{IsReady}
 use Rattle.wolimevar.specs.Sessions.{IsWaiting}
 use Rattle.wolimevar.proofs.sessions.prepare_all.Given as goal
 

@@ -1,8 +1,8 @@
 use Rattle.std.proofs.Common.{rules, ◌≡◌, ◌+◌, ◌<◌, Ok, Result, ap, inl, inr, refl, subst, ◌∙◌, arith}
 use Rattle.seq_model.specs.declared.refusal.Refusal.{Refusal}
 use Rattle.tx_table.specs.Seated.{opening_of}
-use Rattle.attempts.specs.Attempts.{AttemptsTo}
-use Rattle.attempts.specs.declared.jobs.Attempt.{Attempt}
+use Rattle.tx_engine.specs.Attempts.{AttemptsTo}
+use Rattle.tx_engine.specs.declared.attempts.Attempt.{Attempt}
 use Rattle.workers.specs.Tries.{IsTransient}
 use Rattle.workers.proofs.TryLemmas.{all_in_vain, gives_up, has_receipt, none_yet, one_more, refused_last}
 use Rattle.workers.proofs.tries.retry_in.Goals as goal

@@ -1,7 +1,7 @@
 use Rattle.std.proofs.Common.{◌≡◌, ◌⊎◌}
 use Rattle.tx_table.specs.Seated.{opening_of}
 use Rattle.tx_phases.specs.Phases.{Rests}
-use Rattle.transactions.specs.Ready.{IsReady, standing}
+use Rattle.tx_engine.specs.Ready.{IsReady, standing}
 use Rattle.workers.specs.Tries.{HasNoReceipt}
 use Rattle.workers.proofs.TryLemmas.{InVain}
 use Rattle.workers.proofs.tries.retry_in.Given as goal

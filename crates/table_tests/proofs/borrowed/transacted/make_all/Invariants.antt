@@ -1,5 +1,5 @@
 use Rattle.std.proofs.Common.{◌≡◌}
-use Rattle.transactions.specs.Ready.{HasBegunSince, IsReady}
+use Rattle.tx_engine.specs.Ready.{HasBegunSince, IsReady}
 use Rattle.table_tests.proofs.borrowed.transacted.make_all.Given as goal
 
 -- the transaction runs at the same seat and table, which is ready

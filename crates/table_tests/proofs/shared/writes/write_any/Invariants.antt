@@ -1,4 +1,4 @@
-use Rattle.transactions.specs.Ready.{HasBegunSince, IsReady}
+use Rattle.tx_engine.specs.Ready.{HasBegunSince, IsReady}
 use Rattle.table_tests.proofs.shared.writes.write_any.Given as goal
 
 abbrev pub invariant-kinds : goal.invariant-kinds

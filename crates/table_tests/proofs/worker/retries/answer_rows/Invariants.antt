@@ -1,4 +1,4 @@
-use Rattle.transactions.specs.Ready.{IsReady}
+use Rattle.tx_engine.specs.Ready.{IsReady}
 use Rattle.table_tests.proofs.worker.retries.answer_rows.Given as goal
 
 abbrev pub invariant-rows : goal.invariant-rows

@@ -1,5 +1,5 @@
 use Rattle.std.proofs.Common.{[]}
-use Rattle.transactions.specs.Ready.{IsReady}
+use Rattle.tx_engine.specs.Ready.{IsReady}
 use Rattle.workers.specs.Tasks.{Gains, GetsJoined, HasRoom, IsSameTask}
 use Rattle.workers.proofs.TaskLemmas.{TriedTo}
 use Rattle.workers.proofs.tasks.Task.work.Given as goal

@@ -1,4 +1,0 @@
-mod ReaderLemmas
-pub mod JobLemmas
-pub mod GainLemmas
-pub mod AttemptLemmas

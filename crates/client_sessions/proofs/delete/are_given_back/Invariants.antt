@@ -1,0 +1,8 @@
+use Rattle.std.proofs.Common.{◌≡◌, ◌*◌, drop}
+use Rattle.jobs.specs.Programs.{after}
+use Rattle.client_sessions.specs.Sessions.{SessionProgram, give_all_back}
+use Rattle.client_sessions.proofs.delete.are_given_back.Given as goal
+
+abbrev pub invariant-loop-i : goal.invariant-loop-i
+invariant-loop-i l = (next : SessionProgram) → after (give_all_back l.bookings next) l.replies
+    ≡ after (give_all_back (drop l.i l.bookings) next) (drop (2 * l.i) l.replies)

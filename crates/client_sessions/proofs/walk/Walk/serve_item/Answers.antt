@@ -1,0 +1,44 @@
+use Rattle.std.proofs.Common.{◌∙◌, ap}
+use Rattle.std.proofs.lemmas.Result.{err_from_is_err_and}
+use Rattle.jobs.specs.Programs.{after}
+use Rattle.client_sessions.specs.Sessions as programs
+use Rattle.client_sessions.proofs.WalkLemmas.{along, stops_along}
+use Rattle.client_sessions.proofs.walk.Walk.serve_item.Goals as goal
+
+pub returns-in_err-item-clause-comes : goal.returns-in_err-item-clause-comes
+returns-in_err-item-clause-comes c = λ later end. let p = err_from_is_err_and c.from_residual.result c.from_residual.ensures.1 in
+    rw (p.1, p.2) (c.in_err-item.ensures.comes (λ o. programs.serve_item c.args.kind c.args.ticket c.args.waiting o later end))
+
+pub returns-in-Some-clause-comes : goal.returns-in-Some-clause-comes
+returns-in-Some-clause-comes c =
+    λ later end. along _ _ _ _ (c.in_ok-item.ensures.comes (λ o. programs.serve_item c.args.kind c.args.ticket c.args.waiting o later end)
+    ∙ ap (λ o. after (programs.serve_item c.args.kind c.args.ticket c.args.waiting o later end) c.get_item.new.self) c.in-Some.is)
+    (c.serve_from.ensures.comes later end)
+
+pub returns-in_err-end_wait-in-None-clause-comes : goal.returns-in_err-end_wait-in-None-clause-comes
+returns-in_err-end_wait-in-None-clause-comes c =
+    λ later end.
+    let p = err_from_is_err_and
+    c.from_residual-in_err-end_wait-in-None.result c.from_residual-in_err-end_wait-in-None.ensures.1 in
+    rw (p.1, p.2) (stops_along _ _ _
+    (c.in_ok-item.ensures.comes (λ o. programs.serve_item c.args.kind c.args.ticket c.args.waiting o later end)
+    ∙ ap (λ o. after (programs.serve_item c.args.kind c.args.ticket c.args.waiting o later end) c.get_item.new.self) c.in-None.is)
+    (c.in_err-end_wait-in-None.ensures (programs.change_waiter c.args.waiting.customer c.args.ticket (λ who. who) (later 0))))
+
+pub returns-in_err-change_waiter-in-None-clause-comes : goal.returns-in_err-change_waiter-in-None-clause-comes
+returns-in_err-change_waiter-in-None-clause-comes c =
+    λ later end.
+    let p = err_from_is_err_and
+    c.from_residual-in_err-change_waiter-in-None.result c.from_residual-in_err-change_waiter-in-None.ensures.1 in
+    rw (p.1, p.2) (stops_along _ _ _
+    (c.in_ok-item.ensures.comes (λ o. programs.serve_item c.args.kind c.args.ticket c.args.waiting o later end)
+    ∙ ap (λ o. after (programs.serve_item c.args.kind c.args.ticket c.args.waiting o later end) c.get_item.new.self) c.in-None.is
+    ∙ c.in_ok-end_wait-in-None.ensures (programs.change_waiter c.args.waiting.customer c.args.ticket (λ who. who) (later 0)))
+    (c.in_err-change_waiter-in-None.ensures (later 0)))
+
+pub returns-in_ok-change_waiter-in-None-clause-comes : goal.returns-in_ok-change_waiter-in-None-clause-comes
+returns-in_ok-change_waiter-in-None-clause-comes c =
+    λ later end. c.in_ok-item.ensures.comes (λ o. programs.serve_item c.args.kind c.args.ticket c.args.waiting o later end)
+    ∙ ap (λ o. after (programs.serve_item c.args.kind c.args.ticket c.args.waiting o later end) c.get_item.new.self) c.in-None.is
+    ∙ c.in_ok-end_wait-in-None.ensures (programs.change_waiter c.args.waiting.customer c.args.ticket (λ who. who) (later 0))
+    ∙ c.in_ok-change_waiter-in-None.ensures (later 0)

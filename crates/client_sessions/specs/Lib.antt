@@ -1,0 +1,13 @@
+pub mod Holding
+pub mod Parts
+pub mod Within
+pub mod Sessions
+pub mod Runs
+pub mod Laws
+pub mod Walks
+pub mod Left
+pub mod Gets
+pub mod GivenBack
+pub mod Drafts
+pub mod Serving
+pub mod Refusals

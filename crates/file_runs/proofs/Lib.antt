@@ -1,0 +1,5 @@
+mod LeadLemmas
+mod PlayLemmas
+mod ScriptRunLemmas
+pub mod LineLemmas
+pub mod FileRunLemmas

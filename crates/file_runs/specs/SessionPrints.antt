@@ -1,0 +1,11 @@
+-- What is printed of sessions.
+use Rattle.std.specs.Prelude.{ℕ, List, ◌++◌, codes}
+use Rattle.session_text.specs.SessionPrints.{printed}
+use Rattle.file_runs.specs.declared.printing.SessionRun.{SessionRun}
+
+-- what the last two lines say
+abbrev pub ending : List ℕ
+ending = codes "audit ok\nbalanced yes\n"
+
+abbrev pub run_text : SessionRun → List ℕ
+run_text run = printed run.lines.items run.tables ++ ending

@@ -1,0 +1,30 @@
+//! What a step script or a session file comes to: it is read, run, audited and printed.
+//!
+//! [`run_script`] feeds a script's events to a world, [`audit_run`] audits the trace, and [`print_trace`] prints it. [`output_of`] reads a
+//! session file, has its sessions run one after another on a world, has their receipts audited and the tables looked through
+//! ([`run_sessions`], [`inspect`]), and prints what became of each session and what the tables hold ([`text_of`]). What a session answered
+//! is told by its receipt, the calls with their replies, so the print is made from actions and receipts alone. A [`RunFault`] says why
+//! there is nothing to print. `generate` and `opening` draw sessions and tables from a seed.
+#![tactic(auto)]
+
+mod audit;
+mod fault;
+mod inspection;
+mod lines;
+mod output;
+mod print;
+mod printing;
+mod run;
+mod runs;
+
+pub use audit::audit_run;
+pub use fault::RunFault;
+pub use generated_sessions::{Options, generate, opening};
+pub use inspection::inspect;
+pub use lines::{line_of, lines_of};
+pub use output::output_of;
+pub use print::print_trace;
+pub use printing::{STRIPES, SessionRun, text_of, with_ending};
+pub use run::{ScriptRun, run_script};
+pub use runs::run_sessions;
+pub use session_text::{Collection, EventLine, Line, STEP_LIMIT, Script, parse_sessions, parse_steps, print_sessions};

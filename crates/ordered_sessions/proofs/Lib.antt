@@ -1,3 +1,0 @@
-pub mod OpeningLemmas
-pub mod OrderLemmas
-pub mod SessionLemmas

@@ -1,5 +1,0 @@
-use Rattle.ordered_sessions.proofs.OrderLemmas.{SoFar}
-use Rattle.ordered_sessions.proofs.order.run_all.Given as goal
-
-abbrev pub invariant-loop-action : goal.invariant-loop-action
-invariant-loop-action g l = SoFar l.actions l.action-index l.fn.world.parts l.world.parts

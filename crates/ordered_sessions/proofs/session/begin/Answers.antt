@@ -1,5 +1,0 @@
-use Rattle.ordered_sessions.proofs.SessionLemmas.{begins}
-use Rattle.ordered_sessions.proofs.session.begin.Goals as goal
-
-pub returns : goal.returns
-returns c = begins c.args.world.now.parts c.ask.new.world.parts c.in_ok-_told._told c.in_ok-_told.ensures

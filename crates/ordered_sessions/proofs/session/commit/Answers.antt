@@ -1,5 +1,0 @@
-use Rattle.ordered_sessions.proofs.SessionLemmas.{commits}
-use Rattle.ordered_sessions.proofs.session.commit.Goals as goal
-
-pub returns : goal.returns
-returns c = commits c.args.world.now.parts c.ask.new.world.parts c.in_ok-_told._told c.in_ok-_told.ensures

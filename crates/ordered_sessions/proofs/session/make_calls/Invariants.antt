@@ -1,7 +1,0 @@
-use Rattle.std.specs.Prelude.{◌≤◌}
-use Rattle.seq_model.specs.declared.limits.TheConstants.{CALL_LIMIT}
-use Rattle.ordered_sessions.proofs.SessionLemmas.{Makes}
-use Rattle.ordered_sessions.proofs.session.make_calls.Given as goal
-
-abbrev pub invariant-loop : goal.invariant-loop
-invariant-loop l = Makes l.session l.fn.world.parts l.world.parts l.replies.items l.counter × (l.counter ≤ CALL_LIMIT)

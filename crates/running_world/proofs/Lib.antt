@@ -1,3 +1,0 @@
-pub mod FedLemmas
-pub mod PromiseLemmas
-pub mod SerialLemmas

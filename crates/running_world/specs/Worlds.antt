@@ -1,8 +1,0 @@
--- What a world shows to its callers.
-use Rattle.std.specs.Prelude.{Bool}
-use Rattle.world_parts.specs.declared.parts.Parts.{Parts}
-
--- its parts; or a growth was refused to an event, and the world answers Memory from then on
-pub record WorldShown (V : Type 0) : Type 0 where
-  pub failed : Bool
-  pub parts : Parts V

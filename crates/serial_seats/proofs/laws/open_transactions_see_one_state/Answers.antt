@@ -1,5 +1,0 @@
-use Rattle.serial_seats.proofs.AbortedLemmas.{sees_one_state}
-use Rattle.serial_seats.proofs.laws.open_transactions_see_one_state.Goals as goal
-
-pub returns : goal.returns
-returns g c t u = sees_one_state t (c.tables_show_their_seats.ensures t.whole.shared.key) u.seat

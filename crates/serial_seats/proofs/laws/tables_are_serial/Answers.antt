@@ -1,5 +1,0 @@
-use Rattle.serial_seats.proofs.StepLemmas.{serial_between}
-use Rattle.serial_seats.proofs.laws.tables_are_serial.Goals as goal
-
-pub returns : goal.returns
-returns g c opening s rule = serial_between c.worlds_are_serial.ensures opening s rule

@@ -1,3 +1,0 @@
-pub mod ArrangeLemmas
-pub mod ServedLemmas
-pub mod SessionLemmas

@@ -1,5 +1,0 @@
-use Rattle.served_sessions.proofs.SessionLemmas.{only_memory}
-use Rattle.served_sessions.proofs.sessions.session_of.Goals as goal
-
-pub unreachable-requires : goal.unreachable-requires
-unreachable-requires c = only_memory c.in-Err.refusal _ c.in-Err.ensures.refused (λ isnt. isnt c.requires) c.in_default.not-Memory

@@ -1,4 +1,0 @@
-mod AuditLemmas
-pub mod ListLemmas
-pub mod ReportLemmas
-pub mod RunLemmas

@@ -1,7 +1,0 @@
-use Rattle.std.proofs.Common.{take}
-use Rattle.workers.specs.Reports.{jobs_of}
-use Rattle.serving.specs.Serving.{AreAllowed}
-use Rattle.serving.proofs.served.all_allowed.Given as goal
-
-abbrev pub invariant-loop-list : goal.invariant-loop-list
-invariant-loop-list l = AreAllowed (jobs_of (take l.list-index l.lists))

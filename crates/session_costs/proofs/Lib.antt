@@ -1,2 +1,0 @@
-pub mod CostLemmas
-pub mod ThereLemmas

@@ -1,4 +1,0 @@
-pub mod Faults
-pub mod Findings
-pub mod Prints
-pub mod Texts

@@ -1,3 +1,0 @@
-pub mod AnsweredLemmas
-pub mod ClientLemmas
-pub mod OpeningLemmas

@@ -1,2 +1,0 @@
-pub mod Clients
-pub mod Openings

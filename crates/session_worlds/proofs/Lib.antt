@@ -1,4 +1,0 @@
-pub mod FollowLemmas
-pub mod ServeLemmas
-pub mod AloneLemmas
-pub mod HistoryLemmas

@@ -1,4 +1,0 @@
-pub mod Alone
-pub mod Asking
-pub mod Serial
-pub mod Histories

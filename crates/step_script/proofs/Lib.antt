@@ -1,4 +1,0 @@
-pub mod PairLemmas
-pub mod EventLemmas
-pub mod EntryLemmas
-pub mod LineLemmas

@@ -1,9 +1,0 @@
-pub mod RequestLemmas
-pub mod KindLemmas
-pub mod AskLemmas
-pub mod CallLemmas
-pub mod CommitLemmas
-pub mod ReadyLemmas
-pub mod OpeningLemmas
-pub mod ShareLemmas
-pub mod CloseLemmas

@@ -1,4 +1,0 @@
-pub mod Requests
-pub mod Ready
-pub mod Closing
-pub mod Borrowed

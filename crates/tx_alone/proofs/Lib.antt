@@ -1,4 +1,0 @@
-pub mod BoundLemmas
-pub mod FewLemmas
-pub mod AloneLemmas
-pub mod BesideLemmas

@@ -1,0 +1,157 @@
+-- What an attempt of a job comes to.
+use Rattle.std.specs.Prelude.{◌≡◌, ◌⊎◌, ℕ, ◌+◌, ◌<◌, ◌≤◌, true, false, List, [], ◌∷◌, ◌++◌, Option, Some, None, Result, Ok, Err}
+use Rattle.seq_model.specs.declared.call.Call.{Call}
+use Rattle.seq_model.specs.declared.call.Reply.{Reply}
+use Rattle.seq_model.specs.declared.record.Record.{Record}
+use Rattle.seq_model.specs.declared.refusal.Refusal.{Refusal}
+use Rattle.seq_model.specs.declared.refusal.Refusal.TheVariants.{Memory as OutOfMemory}
+use Rattle.seq_model.specs.Runs.{is_writer}
+use Rattle.replay_log.specs.Seats.{Ended, World}
+use Rattle.jobs.specs.declared.job.Ask.{Ask}
+use Rattle.jobs.specs.declared.job.Ask.TheVariants as ask
+use Rattle.jobs.specs.Programs.{replies_of}
+use Rattle.tx_table.specs.declared.seat.Seat.{Seat}
+use Rattle.tx_table.specs.Seated.{actor, acts, view}
+use Rattle.tx_phases.specs.Phases.{IsMistaken, Stands}
+use Rattle.driven_turns.specs.Begins.{begins_of}
+use Rattle.tx_engine.specs.Ready.{standing}
+use Rattle.tx_engine.specs.Requests.{CallsTo, HasAborted, HasCommitted, IsBegun, IsCommitRefusal, IsEnded, IsNotBegun, IsOpen}
+use Rattle.tx_engine.specs.Requests.{KeepsReceipts, has_written}
+use Rattle.tx_engine.specs.Jobs.{AreAskedBy, IsWholeJob}
+use Rattle.tx_engine.specs.declared.attempts.Attempt.{Attempt}
+use Rattle.tx_engine.specs.declared.attempts.Attempt.TheVariants.{Committed, GivenUp}
+use Rattle.tx_engine.specs.declared.attempts.End.{End}
+use Rattle.tx_engine.specs.declared.attempts.End.TheVariants as ends
+
+module _ {V : Type 0} (o : World V) where
+  -- Between the seat s and the seat m one transaction has begun, and it may write: its begin led to the first of these seats, and was
+  -- answered with this number. All turns since then are its own.
+  pub record HasBegun (s m : Seat V) : Type 0 where
+    pub once : begins_of m ≡ begins_of s + 1
+    pub first : Seat V
+    pub number : ℕ
+    pub begun : IsBegun false o s first number
+    pub asked : begins_of first ≡ begins_of s + 1
+    pub since : KeepsReceipts first m
+
+  -- The own world of u has at least one aborted transaction more than that of s. The last of them is the seat's own, with these calls, and
+  -- with this cause, or none where its actor asked for the abort.
+  pub record GainsAborted (s u : Seat V) (calls : List (Call V × Reply V)) (cause : Option Refusal) : Type 0 where
+    pub earlier : List (Ended V)
+    pub number : ℕ
+    pub gained : (acts o u).aborted
+        ≡ (acts o s).aborted ++ (earlier ++ record { actor = actor s; rv = number; calls = calls; cause = cause } ∷ [])
+
+  -- It was aborted for this cause. Or its actor asked for the abort: after a refusal that leaves a transaction open, or where an allocation
+  -- failed.
+  abbrev pub GainsAbortedFor : Seat V → Seat V → List (Call V × Reply V) → Refusal → Type 0
+  GainsAbortedFor s u calls cause =
+      GainsAborted s u calls (Some cause) ⊎ ((IsMistaken cause ⊎ (cause ≡ OutOfMemory)) × GainsAborted s u calls None)
+
+module _ {V : Type 0} (asks : List (Reply V) → Ask V → Type 0) (o : World V) where
+  -- ---- on the way
+  -- The seat s has led to the seat m, and gained no receipt. Its transaction is open there, with these calls, each of which the job has
+  -- asked; after the replies to them it asks this.
+  pub record IsAt (s m : Seat V) (calls : List (Call V × Reply V)) (next : Ask V) : Type 0 where
+    pub keeps : KeepsReceipts s m
+    pub stands : standing o m ≡ Stands calls
+    pub each : AreAskedBy asks calls
+    pub asked : asks (replies_of calls) next
+
+  -- the transaction is open, with calls that the job has asked, and these are the replies to them
+  pub record IsSoFar (m : Seat V) (replies : List (Reply V)) : Type 0 where
+    pub calls : List (Call V × Reply V)
+    pub stands : standing o m ≡ Stands calls
+    pub each : AreAskedBy asks calls
+    pub replies_are : replies ≡ replies_of calls
+
+  abbrev pub ask_of : End → Ask V
+  ask_of ends.Done = ask.Done
+  ask_of ends.GivenUp = ask.GiveUp
+
+  -- the job has come to its end
+  abbrev pub Reaches : Seat V → Seat V → End → Type 0
+  Reaches s m e = (calls : List (Call V × Reply V)) × IsAt s m calls (ask_of e)
+
+  -- ---- what is refused
+  -- a call that the job asked was refused so, which left the seat m
+  pub record IsCallRefused (s m : Seat V) (cause : Refusal) : Type 0 where
+    pub calls : List (Call V × Reply V)
+    pub call : Call V
+    pub before : Seat V
+    pub at : IsAt s before calls (ask.Call call)
+    pub refused : CallsTo o before call m (Err cause)
+
+  -- Memory was wanting for the job, or for its replies. The seat s has led to the seat m, and gained no receipt. Its transaction is open
+  -- there, with these calls, each of which the job has asked.
+  pub record IsStarved (s m : Seat V) (cause : Refusal) : Type 0 where
+    pub memory : cause ≡ OutOfMemory
+    pub keeps : KeepsReceipts s m
+    pub calls : List (Call V × Reply V)
+    pub stands : standing o m ≡ Stands calls
+    pub each : AreAskedBy asks calls
+
+  -- a call was refused so, or memory for the job or for its replies
+  abbrev pub IsUnmade : Seat V → Seat V → Refusal → Type 0
+  IsUnmade s m cause = IsCallRefused s m cause ⊎ IsStarved s m cause
+
+  -- So it was, which left a seat; a transaction that was open there was then aborted, as one of its turns told.
+  pub record IsBrokenOff (s u : Seat V) (cause : Refusal) : Type 0 where
+    pub left : Seat V
+    pub begun : HasBegun o s left
+    pub unmade : IsUnmade s left cause
+    pub keeps : KeepsReceipts left u
+    pub aborted : IsOpen o left → HasAborted o left u
+    pub gains : (calls : List (Call V × Reply V)) × GainsAbortedFor o s u calls cause
+
+  -- the commit was refused so, once the job was done
+  pub record IsCommitRefused (s u : Seat V) (cause : Refusal) : Type 0 where
+    pub calls : List (Call V × Reply V)
+    pub before : Seat V
+    pub at : IsAt s before calls ask.Done
+    pub begun : HasBegun o s before
+    pub ended : IsEnded o before u cause
+    pub kind : IsCommitRefusal cause
+    pub gains : GainsAbortedFor o s u calls cause
+
+  -- the begin, the commit, or what is between them
+  abbrev pub IsRefusedOf : Seat V → Seat V → Refusal → Type 0
+  IsRefusedOf s u cause = IsNotBegun o s u cause ⊎ (IsCommitRefused s u cause ⊎ IsBrokenOff s u cause)
+
+  -- ---- what an attempt comes to
+  -- The receipt has all calls of the job, with their replies, and the seat gains it, and no other. Its number is the last one of the seat
+  -- then: above the one before where the job has written, and not below it where it hasn't; then none of its calls has changed anything.
+  pub record HasMade (s u : Seat V) (r : Record V) : Type 0 where
+    pub job : IsWholeJob asks r.calls
+    pub gains : (view u).receipts ≡ (view s).receipts ++ (actor s, r) ∷ []
+    pub shares : (view u).shares ≡ (view s).shares
+    pub joined : (view u).joined ≡ (view s).joined
+    pub above : r.writes ≡ true → s.last < r.number
+    pub last : (s.last ≤ r.number) × (u.last ≡ r.number)
+    pub before : Seat V
+    pub at : IsAt s before r.calls ask.Done
+    pub begun : HasBegun o s before
+    pub writes : r.writes ≡ has_written o before
+    pub reads : r.writes ≡ false → is_writer r.calls ≡ false
+    pub committed : HasCommitted o before u r
+
+  -- the job has given up after the replies to its calls, and was aborted; the seat gains no receipt
+  pub record HasGivenUp (s u : Seat V) : Type 0 where
+    pub keeps : KeepsReceipts s u
+    pub calls : List (Call V × Reply V)
+    pub before : Seat V
+    pub at : IsAt s before calls ask.GiveUp
+    pub begun : HasBegun o s before
+    pub aborted : HasAborted o before u
+    pub gains : GainsAborted o s u calls None
+
+  -- a receipt, a job that gave up, or a refusal
+  abbrev pub EndsAs : Seat V → Seat V → Result (Attempt V) Refusal → Type 0
+  EndsAs s u (Ok (Committed r)) = HasMade s u r
+  EndsAs s u (Ok GivenUp) = HasGivenUp s u
+  EndsAs s u (Err cause) = KeepsReceipts s u × IsRefusedOf s u cause
+
+  -- An attempt came to this, and led the seat from s to u, which asked one transaction to begin, and no more. One that was open before was
+  -- aborted, as one of these turns told.
+  abbrev pub AttemptsTo : Seat V → Seat V → Result (Attempt V) Refusal → Type 0
+  AttemptsTo s u r = EndsAs s u r × (begins_of u ≡ begins_of s + 1) × (IsOpen o s → HasAborted o s u)

@@ -1,0 +1,159 @@
+//! One attempt of a job.
+ghost use Rattle.std.specs.Prelude.{◌≡◌, ◌+◌, ◌<◌, IfErr, IfNone, IfOk, IfSome, [], false, length};
+ghost use Rattle.seq_model.specs.declared.limits.TheConstants.{CALL_LIMIT as AsCallLimit};
+ghost use Rattle.tx_table.specs.Seated.{opening_of};
+ghost use Rattle.tx_phases.specs.Phases.{Rests, Stands};
+ghost use Rattle.driven_turns.specs.Begins.{begins_of};
+ghost use Rattle.tx_engine.specs.Ready.{HasBegunSince, IsReady, standing};
+ghost use Rattle.tx_engine.specs.Requests.{HasAborted, IsBegun, IsNotBegun, IsOpen, KeepsReceipts};
+ghost use Rattle.tx_engine.specs.Attempts.{AttemptsTo, IsSoFar, IsUnmade, Reaches};
+
+use crate::pause::Pause;
+use crate::seats::TxSeat;
+use jobs::{Ask, Job};
+use seq_model::{Record, Refusal, Reply, Value};
+use tx_table::TxTable;
+
+/// What became of an attempt.
+#[derive(Debug, Drop)]
+pub enum Attempt<V> {
+    /// The job's transaction has committed, with this receipt.
+    Committed(Record<V>),
+    /// The job has given up, and its transaction has ended without a commit.
+    GivenUp,
+}
+
+/// How a job ends.
+#[derive(Drop)]
+enum End {
+    Done,
+    GivenUp,
+}
+
+/// The transaction of an attempt begins, which may write; an open one is aborted first.
+fn begin<V: Value>(table: &TxTable<V>, seat: &mut TxSeat<V>) -> Result<u64, Refusal>
+    requires ready { IsReady table.now seat.old }
+    ensures ready { IsReady table.now seat.new }
+    ensures since { HasBegunSince table.now seat.new }
+    ensures keeps { KeepsReceipts seat.old.seat seat.new.seat }
+    ensures begun { IfOk result (IsBegun false (opening_of table.now) seat.old.seat seat.new.seat) }
+    ensures refused { IfErr result (IsNotBegun (opening_of table.now) seat.old.seat seat.new.seat) }
+    ensures aborted { IsOpen (opening_of table.now) seat.old.seat → HasAborted (opening_of table.now) seat.old.seat seat.new.seat }
+    ensures begins { begins_of seat.new.seat ≡ begins_of seat.old.seat + 1 }
+{
+    seat.begin(table)
+}
+
+/// The job's next call is made, and its reply joins those before it; or the job is done, or gives up.
+fn ask_next<V: Value, J: Job<V>>(
+    table: &TxTable<V>,
+    seat: &mut TxSeat<V>,
+    job: &J,
+    replies: &mut Vec<Reply<V>>,
+) -> Result<Option<End>, Refusal>
+    requires ready { IsReady table.now seat.old }
+    requires since { HasBegunSince table.now seat.old }
+    requires so_far { IsSoFar (J.asks job.now) (opening_of table.now) seat.old.seat replies.old.items }
+    ensures ready { IsReady table.now seat.new }
+    ensures since { HasBegunSince table.now seat.new }
+    ensures keeps { KeepsReceipts seat.old.seat seat.new.seat }
+    ensures begins { begins_of seat.new.seat ≡ begins_of seat.old.seat }
+    ensures so_far { IfOk result (λ next. IfNone next
+        (IsSoFar (J.asks job.now) (opening_of table.now) seat.new.seat replies.new.items)) }
+    ensures room { IfOk result (λ next. IfNone next
+        ((length replies.old.items < AsCallLimit) × (length replies.new.items ≡ length replies.old.items + 1))) }
+    ensures reaches { IfOk result (λ next. IfSome next
+        (Reaches (J.asks job.now) (opening_of table.now) seat.old.seat seat.new.seat)) }
+    ensures refused { IfErr result (IsUnmade (J.asks job.now) (opening_of table.now) seat.old.seat seat.new.seat) }
+{
+    match job.ask(replies.as_slice())? {
+        Ask::Done => Ok(Some(End::Done)),
+        Ask::GiveUp => Ok(Some(End::GivenUp)),
+        Ask::Call(call) => {
+            let reply = seat.call(table, call)?;
+            replies.push(reply)?;
+            Ok(None)
+        }
+    }
+}
+
+/// The calls of a job on the transaction that has just begun, up to where it is done, or gives up. What is in the list of replies goes.
+fn ask_all<V: Value, J: Job<V>>(
+    table: &TxTable<V>,
+    seat: &mut TxSeat<V>,
+    job: &J,
+    replies: &mut Vec<Reply<V>>,
+) -> Result<End, Refusal>
+    requires ready { IsReady table.now seat.old }
+    requires since { HasBegunSince table.now seat.old }
+    requires fresh { standing (opening_of table.now) seat.old.seat ≡ Stands [] }
+    ensures ready { IsReady table.now seat.new }
+    ensures since { HasBegunSince table.now seat.new }
+    ensures keeps { KeepsReceipts seat.old.seat seat.new.seat }
+    ensures begins { begins_of seat.new.seat ≡ begins_of seat.old.seat }
+    ensures reaches { IfOk result (Reaches (J.asks job.now) (opening_of table.now) seat.old.seat seat.new.seat) }
+    ensures refused { IfErr result (IsUnmade (J.asks job.now) (opening_of table.now) seat.old.seat seat.new.seat) }
+{
+    replies.clear();
+    'calls: loop {
+        match ask_next(table, seat, job, replies)? {
+            Some(end) => return Ok(end),
+            None => {}
+        }
+    }
+}
+
+/// The attempt, with a list for the job's replies: what is in it goes.
+fn attempt_in<V: Value, J: Job<V>, P: Pause>(
+    table: &TxTable<V>,
+    seat: &mut TxSeat<V>,
+    job: &J,
+    worker: u64,
+    pause: &P,
+    replies: &mut Vec<Reply<V>>,
+) -> Result<Attempt<V>, Refusal>
+    requires ready { IsReady table.now seat.old }
+    ensures ready { IsReady table.now seat.new }
+    ensures rests { standing (opening_of table.now) seat.new.seat ≡ Rests }
+    ensures attempts { AttemptsTo (J.asks job.now) (opening_of table.now) seat.old.seat seat.new.seat result }
+{
+    begin(table, seat)?;
+    match ask_all(table, seat, job, replies) {
+        Ok(End::Done) => {
+            pause.before_commit(worker);
+            let receipt = seat.commit(table)?;
+            Ok(Attempt::Committed(receipt))
+        }
+        Ok(End::GivenUp) => {
+            seat.abort(table);
+            Ok(Attempt::GivenUp)
+        }
+        Err(cause) => {
+            seat.abort(table);
+            Err(cause)
+        }
+    }
+}
+
+/// One attempt of a job by this worker: a transaction begins that may write, an open one being aborted first; the job's calls are made; it
+/// commits once the job is done, `pause` being told before the first step of that, and ends without a commit where the job gives up. The
+/// receipt that is answered is the one that the seat gains. A refusal is that of the request that was refused: `Exhausted` of the begin; of
+/// a call, or of the commit, as these have it; `Memory` also where the job is refused memory, or there is none for its replies, as its
+/// calls so far stand. A transaction that stands then is aborted: none is left, and the seat gains no receipt.
+pub fn attempt_with<V: Value, J: Job<V>, P: Pause>(
+    table: &TxTable<V>,
+    seat: &mut TxSeat<V>,
+    job: &J,
+    worker: u64,
+    pause: &P,
+) -> Result<Attempt<V>, Refusal>
+    requires ready { IsReady table.now seat.old }
+    ensures ready { IsReady table.now seat.new }
+    ensures rests { standing (opening_of table.now) seat.new.seat ≡ Rests }
+    ensures attempts { AttemptsTo (J.asks job.now) (opening_of table.now) seat.old.seat seat.new.seat result }
+{
+    let mut replies = seat.take_replies();
+    let attempted = attempt_in(table, seat, job, worker, pause, &mut replies);
+    seat.keep_replies(replies);
+    attempted
+}

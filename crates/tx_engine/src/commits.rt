@@ -1,0 +1,50 @@
+//! The commit of a transaction.
+ghost use Rattle.std.specs.Prelude.{◌≡◌, MatchResult, None, Some};
+ghost use Rattle.tx_table.specs.Seated.{opening_of};
+ghost use Rattle.driven_turns.specs.Begins.{begins_of};
+ghost use Rattle.tx_engine.specs.Ready.{CanDrive};
+ghost use Rattle.tx_engine.specs.Requests.{CommitsTo, HasAskedFor, IsCommitTold, IsOpen};
+
+use crate::calls::ask_open;
+use boxes::Boxed;
+use driven_turns::drive_commit;
+use replay_log::Base;
+use seq_model::{Record, Refusal, Request, Value};
+use std::alloc::Global;
+use tx_actor::{Told, TxActor};
+use tx_table::{Seat, TxTable};
+
+/// What a commit comes to of which this is told, with this receipt.
+fn commit_told<V: Value>(told: Told<V>, receipt: Option<Record<V>>) -> Result<Record<V>, Refusal>
+    requires { IsCommitTold told receipt }
+    ensures { MatchResult result (λ made. receipt ≡ Some made) (λ cause. (receipt ≡ None) × (told ≡ Told.Refused cause)) }
+{
+    match receipt {
+        Some(receipt) => Ok(receipt),
+        None => match told {
+            Told::Refused(cause) => Err(cause),
+            _ => unreachable!(),
+        },
+    }
+}
+
+/// A transaction commits, as [`crate::TxSeat::commit`] has it of an open one.
+pub(crate) fn commit<V: Value>(
+    alloc: Global,
+    table: &TxTable<V>,
+    seat: &mut Seat<V>,
+    actor: &mut TxActor<V>,
+    bases: &mut Vec<Boxed<Base<V>>>,
+) -> Result<Record<V>, Refusal>
+    requires drives { CanDrive table.now seat.old actor.old }
+    requires open { IsOpen (opening_of table.now) seat.old }
+    ensures drives { CanDrive table.now seat.new actor.new }
+    ensures last { seat.new.last ≡ seat.old.last }
+    ensures commits { CommitsTo (opening_of table.now) seat.old seat.new result }
+    ensures begins { begins_of seat.new ≡ begins_of seat.old }
+    ensures asks { HasAskedFor seat.old Request.Commit result seat.new }
+{
+    let _ = ask_open(alloc, table, seat, actor, bases, Request::Commit)?;
+    let (told, receipt) = drive_commit(alloc, table, seat, actor, bases);
+    commit_told(told, receipt)
+}

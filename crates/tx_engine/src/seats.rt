@@ -1,0 +1,260 @@
+//! A seat of a table, with the actor that runs there.
+ghost use Rattle.std.specs.Prelude.{◌≡◌, ◌≢◌, ◌+◌, ◌<◌, ◌≤◌, [], ◌∷◌, ◌++◌, IfErr, IfOk, MatchBool, None, OnErr, OnOk, false, max, true};
+ghost use Rattle.seq_model.specs.declared.call.Op.TheVariants as op;
+ghost use Rattle.seq_model.specs.declared.refusal.Refusal.TheVariants.{Ahead};
+ghost use Rattle.tx_table.specs.Seated.{opening_of, view};
+ghost use Rattle.tx_phases.specs.Phases.{Rests};
+ghost use Rattle.driven_turns.specs.Begins.{begins_of};
+ghost use Rattle.driven_turns.specs.Driven.{is_declared, standing};
+ghost use Rattle.driven_turns.specs.Requested.{requests_of};
+ghost use Rattle.tx_engine.specs.Ready.{HasBegunSince, HasCalled, HasFinished, HasOpened, IsNew, IsReady};
+ghost use Rattle.tx_engine.specs.Requests.{HasAborted, HasAskedToBegin, HasSameAborted, IsBegun, IsLastAborted, IsNotBegun, IsOpen};
+ghost use Rattle.tx_engine.specs.Requests.{KeepsReceipts, OnlyKnows};
+
+use crate::reply_room::ReplyRoom;
+use boxes::Boxed;
+use replay_log::Base;
+use seq_model::{Call, Op, Record, Refusal, Reply, Request, Value};
+use std::alloc::Global;
+use tx_actor::{Stage, TxActor};
+use tx_table::{Seat, TxTable};
+
+/// A seat of a table, with the actor that runs its transactions there, one at a time.
+#[derive(Drop)]
+pub struct TxSeat<V> {
+    pub(crate) seat: Seat<V>,
+    pub(crate) actor: TxActor<V>,
+    /// Where the bases lie that a request takes on its way. Between requests there are none, and the room is kept.
+    pub(crate) bases: Vec<Boxed<Base<V>>>,
+    // Where the replies to a job lie while it is attempted.
+    pub(crate) replies: ReplyRoom<V>,
+    pub(crate) alloc: Global,
+}
+
+impl<V: Value> TxSeat<V> {
+    /// A seat that opened with its table, or was split from another, gets its actor. It takes no memory.
+    pub(crate) fn new(alloc: Global, table: &TxTable<V>, seat: Seat<V>) -> TxSeat<V>
+        requires opened { HasOpened table.now }
+        requires new { IsNew table.now seat }
+        ensures ready { IsReady table.now result }
+        ensures seat { result.seat ≡ seat }
+    {
+        let _ = table;
+        TxSeat {
+            seat,
+            actor: TxActor::new(alloc),
+            bases: Vec::new(alloc),
+            replies: ReplyRoom::new(alloc),
+            alloc,
+        }
+    }
+
+    /// An empty list for the replies to a job, which has the room that the one before had, once that was handed back (`keep_replies`).
+    pub fn take_replies(&mut self) -> Vec<Reply<V>>
+        ensures empty { result.items ≡ [] }
+        ensures same { (self.new.seat ≡ self.old.seat) × (self.new.actor ≡ self.old.actor) }
+    {
+        self.replies.take(self.alloc)
+    }
+
+    /// Keeps the list of an attempt for the next one. What is in it goes.
+    pub fn keep_replies(&mut self, replies: Vec<Reply<V>>)
+        ensures same { (self.new.seat ≡ self.old.seat) × (self.new.actor ≡ self.old.actor) }
+    {
+        self.replies.keep(replies);
+    }
+
+    /// Whether a transaction is open.
+    pub fn is_open(&self) -> bool
+        ensures { MatchBool result (self.now.actor.stage ≡ Stage.Open) (self.now.actor.stage ≢ Stage.Open) }
+    {
+        matches!(&self.actor.stage, Stage::Open)
+    }
+
+    /// A transaction that is open ends without a commit. Where none is open, nothing is done.
+    pub fn abort(&mut self, table: &TxTable<V>)
+        requires ready { IsReady table.now self.old }
+        ensures ready { IsReady table.now self.new }
+        ensures rests { standing (opening_of table.now) self.new.seat ≡ Rests }
+        ensures keeps { KeepsReceipts self.old.seat self.new.seat }
+        ensures aborted { IsOpen (opening_of table.now) self.old.seat → HasAborted (opening_of table.now) self.old.seat self.new.seat }
+        ensures noted { IsOpen (opening_of table.now) self.old.seat →
+            IsLastAborted (opening_of table.now) self.old.seat self.new.seat None }
+        ensures none { standing (opening_of table.now) self.old.seat ≡ Rests → self.new ≡ self.old }
+        ensures begins { begins_of self.new.seat ≡ begins_of self.old.seat }
+        ensures asks { IsOpen (opening_of table.now) self.old.seat →
+            requests_of self.new.seat ≡ requests_of self.old.seat ++ Request.Abort ∷ [] }
+    {
+        if self.is_open() {
+            crate::requests::abort(
+                self.alloc,
+                table,
+                &mut self.seat,
+                &mut self.actor,
+                &mut self.bases,
+            );
+        }
+    }
+
+    /// A transaction begins; one that was left open is aborted first. It is answered with the number at which it has begun, which is no
+    /// lower than the last number of the seat. `Exhausted` at the limit of the clock, which the seat shows from then on, and no
+    /// transaction is open then.
+    pub fn begin(&mut self, table: &TxTable<V>) -> Result<u64, Refusal>
+        requires ready { IsReady table.now self.old }
+        ensures ready { IsReady table.now self.new }
+        ensures since { HasBegunSince table.now self.new }
+        ensures keeps { KeepsReceipts self.old.seat self.new.seat }
+        ensures begun { IfOk result (IsBegun false (opening_of table.now) self.old.seat self.new.seat) }
+        ensures last { IfOk result (λ rv. self.old.seat.last ≤ rv) }
+        ensures refused { IfErr result (IsNotBegun (opening_of table.now) self.old.seat self.new.seat) }
+        ensures aborted { IsOpen (opening_of table.now) self.old.seat → HasAborted (opening_of table.now) self.old.seat self.new.seat }
+        ensures noted { IsOpen (opening_of table.now) self.old.seat →
+            IsLastAborted (opening_of table.now) self.old.seat self.new.seat None }
+        ensures same { standing (opening_of table.now) self.old.seat ≡ Rests →
+            HasSameAborted (opening_of table.now) self.old.seat self.new.seat }
+        ensures begins { begins_of self.new.seat ≡ begins_of self.old.seat + 1 }
+        ensures asks { HasAskedToBegin false (opening_of table.now) self.old.seat self.new.seat }
+    {
+        self.abort(table);
+        crate::requests::begin(
+            self.alloc,
+            table,
+            &mut self.seat,
+            &mut self.actor,
+            &mut self.bases,
+        )
+    }
+
+    /// A transaction begins that writes nothing, as `begin` has it: a change is `NoSuch` in it. It keeps no read set, so that its reads are
+    /// as many as its calls may be.
+    pub fn begin_read(&mut self, table: &TxTable<V>) -> Result<u64, Refusal>
+        requires ready { IsReady table.now self.old }
+        ensures ready { IsReady table.now self.new }
+        ensures since { HasBegunSince table.now self.new }
+        ensures keeps { KeepsReceipts self.old.seat self.new.seat }
+        ensures begun { IfOk result (IsBegun true (opening_of table.now) self.old.seat self.new.seat) }
+        ensures last { IfOk result (λ rv. self.old.seat.last ≤ rv) }
+        ensures refused { IfErr result (IsNotBegun (opening_of table.now) self.old.seat self.new.seat) }
+        ensures aborted { IsOpen (opening_of table.now) self.old.seat → HasAborted (opening_of table.now) self.old.seat self.new.seat }
+        ensures noted { IsOpen (opening_of table.now) self.old.seat →
+            IsLastAborted (opening_of table.now) self.old.seat self.new.seat None }
+        ensures same { standing (opening_of table.now) self.old.seat ≡ Rests →
+            HasSameAborted (opening_of table.now) self.old.seat self.new.seat }
+        ensures begins { begins_of self.new.seat ≡ begins_of self.old.seat + 1 }
+        ensures asks { HasAskedToBegin true (opening_of table.now) self.old.seat self.new.seat }
+        ensures reader { is_declared (opening_of table.now) self.new.seat ≡ true }
+    {
+        self.abort(table);
+        crate::requests::begin_read(
+            self.alloc,
+            table,
+            &mut self.seat,
+            &mut self.actor,
+            &mut self.bases,
+        )
+    }
+
+    /// A call on a word or on a collection, with its reply. What it changes is seen by others once the transaction commits.
+    ///
+    /// `NoTransaction` where none is open; then `NoSuch` where there is no such word or collection, or it is of another kind, and for a
+    /// change in a declared reader; then `TooLong` past the limit of calls, or where what it reads or writes doesn't fit the sets: the
+    /// transaction is as it was. `Moved` where a word or a location of a collection is locked, was changed since the transaction began, or
+    /// changed between the two loads of a read (TL2, DISC 2006), `Stale` where what it copied of a collection has not the edition with
+    /// which it is read, `GateBusy` where another seat held the collection's gate at each of 64 tries, and `Memory`: the transaction
+    /// is ended.
+    pub fn call(&mut self, table: &TxTable<V>, call: Call<V>) -> Result<Reply<V>, Refusal>
+        requires ready { IsReady table.now self.old }
+        requires since { HasBegunSince table.now self.old }
+        ensures called { HasCalled table.now self.old self.new call result }
+    {
+        if !self.is_open() {
+            return Err(Refusal::NoTransaction);
+        }
+        crate::calls::call(
+            self.alloc,
+            table,
+            &mut self.seat,
+            &mut self.actor,
+            &mut self.bases,
+            call,
+        )
+    }
+
+    /// A word is read, as `call` has it: refused as `NoTransaction`, `NoSuch`, `TooLong`, `Memory` or `Moved`.
+    pub fn read(&mut self, table: &TxTable<V>, word: u32) -> Result<Reply<V>, Refusal>
+        requires ready { IsReady table.now self.old }
+        requires since { HasBegunSince table.now self.old }
+        ensures called { HasCalled table.now self.old self.new (record { target = word; op = op.Read }) result }
+    {
+        let call = Call {
+            target: word,
+            op: Op::Read,
+        };
+        self.call(table, call)
+    }
+
+    /// A word is written, once the transaction commits, as `call` has it: refused as `NoTransaction`, `NoSuch`, `TooLong` or `Memory`.
+    pub fn write(&mut self, table: &TxTable<V>, word: u32, value: u64) -> Result<Reply<V>, Refusal>
+        requires ready { IsReady table.now self.old }
+        requires since { HasBegunSince table.now self.old }
+        ensures called { HasCalled table.now self.old self.new (record { target = word; op = op.Write value }) result }
+    {
+        let call = Call {
+            target: word,
+            op: Op::Write(value),
+        };
+        self.call(table, call)
+    }
+
+    /// The open transaction commits: all its words are written, its changes to collections are made, and what it read is as it read it, at
+    /// one moment. Its receipt has its calls with their replies, and its number is the last number of the seat from then on.
+    ///
+    /// `NoTransaction` where none is open. `Busy` where a location to be written is locked or was changed, `Invalid` where one that was
+    /// read is locked by another or was changed (TL2, DISC 2006), `GateBusy` where another seat held the gate of a collection to be written
+    /// at each of 64 tries, and `Memory`: the transaction is ended, and has written nothing.
+    pub fn commit(&mut self, table: &TxTable<V>) -> Result<Record<V>, Refusal>
+        requires ready { IsReady table.now self.old }
+        requires since { HasBegunSince table.now self.old }
+        ensures finished { HasFinished table.now self.old self.new result }
+    {
+        if !self.is_open() {
+            return Err(Refusal::NoTransaction);
+        }
+        let receipt = crate::commits::commit(
+            self.alloc,
+            table,
+            &mut self.seat,
+            &mut self.actor,
+            &mut self.bases,
+        )?;
+        self.seat.note(receipt.number);
+        Ok(receipt)
+    }
+
+    /// The seat knows of a commit with this number, which others told it of: its next transaction begins at that number, or above it.
+    /// The clock is loaded first, once. `Ahead` where it is below the number, and the number is not learnt. A transaction that is open stays
+    /// open; one that began below a number that was learnt may only be aborted.
+    pub fn learn(&mut self, table: &TxTable<V>, number: u64) -> Result<(), Refusal>
+        requires ready { IsReady table.now self.old }
+        ensures ready { IsReady table.now self.new }
+        ensures knows { OnlyKnows (opening_of table.now) self.old.seat self.new.seat }
+        ensures stays { standing (opening_of table.now) self.new.seat ≡ standing (opening_of table.now) self.old.seat }
+        ensures learns { OnOk result (self.new.seat.last ≡ max self.old.seat.last number) }
+        ensures ahead { IfErr result (λ cause. (cause ≡ Ahead (view self.new.seat).clock) × ((view self.new.seat).clock < number)) }
+        ensures last { OnErr result (self.new.seat.last ≡ self.old.seat.last) }
+    {
+        let clock = table.look(&mut self.seat);
+        if clock < number {
+            return Err(Refusal::Ahead { clock });
+        }
+        self.seat.note(number);
+        Ok(())
+    }
+
+    /// The greatest number that this seat committed or learnt; 0 at first.
+    pub fn last_number(&self) -> u64
+        ensures { result ≡ self.now.seat.last }
+    {
+        self.seat.last_number()
+    }
+}

@@ -1,9 +1,0 @@
-use Rattle.std.proofs.Common.{length}
-use Rattle.vac_world.proofs.PlayingLemmas.{AllowsSo}
-use Rattle.vac_world.proofs.run.are_allowed.Given as goal
-
-abbrev pub decreases-loop-event : goal.decreases-loop-event
-decreases-loop-event l = length l.left
-
-abbrev pub invariant-loop-event : goal.invariant-loop-event
-invariant-loop-event l = AllowsSo l.fn.events l.left

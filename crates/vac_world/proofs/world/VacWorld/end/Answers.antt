@@ -1,8 +1,0 @@
-use Rattle.std.proofs.Common.{refl}
-use Rattle.std.proofs.lemmas.Result.{IfOk-weaker}
-use Rattle.vac_world.proofs.HeardLemmas.{ended_now}
-use Rattle.vac_world.proofs.world.VacWorld.end.Goals as goal
-
-pub returns : goal.returns
-returns c =
-    IfOk-weaker c.push.result _ _ (λ _ h p k. ended_now c.args.self.now _ c.args.actor c.args.cause p refl refl h k) c.push.ensures.ok

@@ -1,6 +1,0 @@
-use Rattle.vac_world.specs.Plays.{Play}
-use Rattle.vac_world.specs.Running.{AsksOn, HasPlace}
-use Rattle.vac_world.proofs.world.VacWorld.go_on.Given as goal
-
-abbrev pub invariant-loop : goal.invariant-loop
-invariant-loop l = ((to : Play) → AsksOn l.i 0 l.fn.self to → AsksOn l.i l.counter l.self to) × HasPlace l.i l.self

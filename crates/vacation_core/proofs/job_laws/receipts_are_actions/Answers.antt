@@ -1,0 +1,5 @@
+use Rattle.vacation_core.proofs.ServedLemmas.{receipts_are_actions}
+use Rattle.vacation_core.proofs.job_laws.receipts_are_actions.Goals as goal
+
+pub returns : goal.returns
+returns c = receipts_are_actions

@@ -1,8 +1,0 @@
-use Rattle.std.proofs.Common.{◌∙◌, None, arith, sym}
-use Rattle.vacation_core.specs.Sessions as programs
-use Rattle.vacation_core.proofs.GetLemmas.{gets_next}
-use Rattle.vacation_core.proofs.reserve.due_of.Goals as goal
-
-pub returns-then-tell_items : goal.returns-then-tell_items
-returns-then-tell_items c = λ customer units. gets_next c.args.asks.now _ c.args.replies.now None None None
-    (programs.reserve_among customer units) (sym c.tell_items.ensures ∙ c.if-tell_items.true) (omega arith)

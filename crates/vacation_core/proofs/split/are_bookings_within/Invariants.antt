@@ -1,7 +1,0 @@
-use Rattle.std.proofs.Common.{◌≡◌, drop}
-use Rattle.std.specs.List.{list_all}
-use Rattle.vacation_core.specs.Sessions.{is_booking_within}
-use Rattle.vacation_core.proofs.split.are_bookings_within.Given as goal
-
-abbrev pub invariant-loop-booking : goal.invariant-loop-booking
-invariant-loop-booking l = list_all is_booking_within (drop l.booking-index l.bookings) ≡ list_all is_booking_within l.bookings

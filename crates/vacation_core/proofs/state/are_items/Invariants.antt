@@ -1,8 +1,0 @@
-use Rattle.std.proofs.Common.{◌≡◌}
-use Rattle.std.specs.Prelude.{is_some}
-use Rattle.std.specs.List.{list_all}
-use Rattle.vacation_core.specs.Parts.{item_of, is_map_of}
-use Rattle.vacation_core.proofs.state.are_items.Given as goal
-
-abbrev pub invariant-loop-entry : goal.invariant-loop-entry
-invariant-loop-entry l = is_map_of item_of l.fn.held ≡ list_all (λ e. is_some (item_of e.1)) l.entry-iterator

@@ -1,7 +1,0 @@
-use Rattle.std.proofs.Common.{◌≡◌}
-use Rattle.seq_model.specs.Entries.{inserts}
-use Rattle.vacation_core.specs.Parts.{among, ticket_of, kept}
-use Rattle.vacation_core.proofs.state.tickets_of.Given as goal
-
-abbrev pub invariant-loop-number : goal.invariant-loop-number
-invariant-loop-number l = inserts l.tickets (kept ticket_of l.number-iterator) ≡ among ticket_of l.fn.held

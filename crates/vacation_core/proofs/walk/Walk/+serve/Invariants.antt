@@ -1,4 +1,0 @@
-use Rattle.vacation_core.proofs.walk.Walk.+serve.Given as goal
-
-abbrev pub decreases-serve : goal.decreases-serve
-decreases-serve l = l.most

@@ -1,8 +1,0 @@
-use Rattle.std.proofs.Common.{◌≡◌, drop}
-use Rattle.tx_engine.specs.Programs.{after}
-use Rattle.vacation_core.specs.Sessions.{SessionProgram, forget_all}
-use Rattle.vacation_core.proofs.walk.Walk.forget_all.Given as goal
-
-abbrev pub invariant-loop-wait : goal.invariant-loop-wait
-invariant-loop-wait l = (next : SessionProgram)
-    → after (forget_all l.waits next) l.fn.self ≡ after (forget_all (drop l.wait-index l.waits) next) l.self

@@ -1,8 +1,0 @@
-use Rattle.std.proofs.Common.{◌≡◌, drop}
-use Rattle.tx_engine.specs.Programs.{after}
-use Rattle.vacation_core.specs.Sessions.{SessionProgram, give_all_back}
-use Rattle.vacation_core.proofs.walk.Walk.give_list_back.Given as goal
-
-abbrev pub invariant-loop-i : goal.invariant-loop-i
-invariant-loop-i l = (next : SessionProgram)
-    → after (give_all_back l.bookings next) l.fn.self ≡ after (give_all_back (drop l.i l.bookings) next) l.self

@@ -1,6 +1,0 @@
-use Rattle.std.proofs.Common.{◌≡◌, length}
-use Rattle.world_parts.specs.Openings.{AreIdle}
-use Rattle.world_parts.proofs.opening.actors.Given as goal
-
-abbrev pub invariant-loop : goal.invariant-loop
-invariant-loop g l = (length l.actors.items ≡ l.counter) × AreIdle l.actors.items
