@@ -9,16 +9,14 @@ ghost use Rattle.command_line.specs.Bench.{bench_app, drawn_of, form_faults, for
 ghost use Rattle.command_line.specs.Bench.{form_named as spec_form_named};
 
 use crate::numbers::{number_in, with_number};
-use crate::options::{
-    CLIENTS, PERCENT_QUERIED, PERCENT_USER, QUERIES, RELATIONS, SEED, TRANSACTIONS, TRIES,
-};
+use crate::options::{CLIENTS, PERCENT_QUERIED, PERCENT_USER, QUERIES, RELATIONS, SEED, TRANSACTIONS, TRIES};
 use crate::texts;
 use crate::words::explained;
 use crate::work::TimesForm;
 use clap::error::ErrorKind;
 use clap::{Arg, ArgAction, ArgMatches, Command, Error};
-use generated_sessions::Options;
 use served_runs::Drawn;
+use session_text::Options;
 use std::alloc::{AllocError, Global};
 use std::fmt::Write;
 

@@ -12,8 +12,8 @@ pub use Rattle.session_text.specs.Scripts as ScriptTexts
 pub use Rattle.session_text.specs.SessionLines as SessionLines
 pub use Rattle.session_text.specs.SessionPrints as SessionPrints
 pub use Rattle.session_text.specs.Sessions as SessionTexts
-pub use Rattle.generated_sessions.specs.Openings as DrawnOpenings
-pub use Rattle.generated_sessions.specs.Sessions as DrawnSessions
+pub use Rattle.session_text.specs.Openings as DrawnOpenings
+pub use Rattle.session_text.specs.Drawing as DrawnSessions
 pub mod Receipts
 pub mod Outputs
 pub mod Runs

@@ -19,7 +19,6 @@ mod runs;
 
 pub use audit::audit_run;
 pub use fault::RunFault;
-pub use generated_sessions::{Options, generate, opening};
 pub use inspection::inspect;
 pub use lines::{line_of, lines_of};
 pub use output::output_of;
@@ -27,4 +26,4 @@ pub use print::print_trace;
 pub use printing::{STRIPES, SessionRun, text_of, with_ending};
 pub use run::{ScriptRun, run_script};
 pub use runs::run_sessions;
-pub use session_text::{Collection, EventLine, Line, STEP_LIMIT, Script, parse_sessions, parse_steps, print_sessions};
+pub use session_text::{Collection, EventLine, Line, Options, STEP_LIMIT, Script, generate, opening, parse_sessions, parse_steps, print_sessions};

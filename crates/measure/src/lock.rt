@@ -1,10 +1,10 @@
 //! The same sessions on tables under one lock.
-ghost use Rattle.generated_sessions.specs.Options.{AreWithin};
+ghost use Rattle.session_text.specs.Options.{AreWithin};
 ghost use Rattle.vac_model.specs.Balanced.{IsBalanced};
 
 use crate::clock::seconds_since;
 use crate::sessions::{lists_of, memory, no_such_sessions};
-use generated_sessions::{Options, opening};
+use session_text::{Options, opening};
 use std::io;
 use std::rt::Runtime;
 use std::sync::{Mutex, Wait};

@@ -1,9 +1,9 @@
 //! Drawn sessions of one client, one after another on a running world, in microseconds a session.
-ghost use Rattle.generated_sessions.specs.Options.{AreWithin};
+ghost use Rattle.session_text.specs.Options.{AreWithin};
 
 use crate::clock::seconds_since;
 use crate::sessions::{Mix, SEED, STRIPES, memory, no_such_sessions, options};
-use generated_sessions::{Options, generate, opening};
+use session_text::{Options, generate, opening};
 use std::io;
 use std::rt::Runtime;
 use std::time::Instant;

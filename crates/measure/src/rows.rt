@@ -1,7 +1,7 @@
 //! Generated sessions by workers on a shared table, beside the same sessions under one lock.
 use crate::sessions::{Mix, SEED, options};
 use crate::{lock, served};
-use generated_sessions::Options;
+use session_text::Options;
 use std::io;
 use std::rt::Runtime;
 use std::sync::Wait;

@@ -1,6 +1,6 @@
 //! Drawn sessions by workers on a shared table.
 ghost use Rattle.std.specs.Prelude.{◌≡◌, ◌≤◌, IfOk, length};
-ghost use Rattle.generated_sessions.specs.Options.{AreWithin};
+ghost use Rattle.session_text.specs.Options.{AreWithin};
 ghost use Rattle.vac_model.specs.Balanced.{IsBalanced};
 ghost use Rattle.tx_table.specs.Seated.{view};
 ghost use Rattle.tx_engine.specs.Ready.{IsReady};
@@ -9,8 +9,8 @@ use crate::clock::seconds_since;
 use crate::sessions::{STRIPES, lists_of, memory, no_such_sessions};
 use crate::tries::Tries;
 use client_sessions::{Entry, Session, state_of};
-use generated_sessions::{Options, opening};
 use seq_model::{ACTOR_LIMIT, Items, Memory, Refusal, Shape, State};
+use session_text::{Options, opening};
 use std::alloc::Global;
 use std::io;
 use std::rt::Runtime;

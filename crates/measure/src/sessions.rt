@@ -1,8 +1,8 @@
 //! The sessions that are run.
-ghost use Rattle.generated_sessions.specs.Options.{AreWithin};
+ghost use Rattle.session_text.specs.Options.{AreWithin};
 
-use generated_sessions::{Options, generate};
 use seq_model::Memory;
+use session_text::{Options, generate};
 use std::alloc::Global;
 use std::io;
 use vac_model::Action;

@@ -1,7 +1,7 @@
 //! Sessions and tables that are drawn from a seed.
 use crate::prints::{name_of, print_named};
-use generated_sessions::{Options, generate, opening};
 use seq_model::Refusal;
+use session_text::{Options, generate, opening};
 use std::alloc::Global;
 use vac_model::{Action, Ask, Change, Tables};
 

@@ -12,8 +12,8 @@ use Rattle.workers.specs.Deals.{AreDealt, every}
 use Rattle.seq_model.proofs.LawLemmas.{runs_have_no_fault}
 use Rattle.seq_model.specs.Audit.{IsAuditFault}
 use Rattle.seq_model.specs.Contents.{Contents}
-use Rattle.generated_sessions.specs.Openings.{opening_of}
-use Rattle.generated_sessions.specs.Sessions.{sessions_of}
+use Rattle.session_text.specs.Openings.{opening_of}
+use Rattle.session_text.specs.Drawing.{sessions_of}
 use Rattle.vac_model.specs.declared.action.Action.{Action}
 use Rattle.vac_model.specs.Actions.{IsAllowed}
 use Rattle.vac_model.specs.Holdings.{Holdings}

@@ -1,9 +1,9 @@
 -- What comes of drawn sessions.
 use Rattle.std.specs.Prelude.{◌≡◌, ◌≤◌, ◌+◌, ◌<◌, ℕ, List, [], ◌∷◌, ◌++◌, codes, get_or, length}
 use Rattle.std.specs.Fmt.{decimal}
-use Rattle.generated_sessions.specs.Openings.{opening_of}
-use Rattle.generated_sessions.specs.Options.{AreWithin}
-use Rattle.generated_sessions.specs.Sessions.{sessions_of}
+use Rattle.session_text.specs.Openings.{opening_of}
+use Rattle.session_text.specs.Options.{AreWithin}
+use Rattle.session_text.specs.Drawing.{sessions_of}
 use Rattle.vac_model.specs.declared.action.Action.{Action}
 use Rattle.file_runs.specs.SessionPrints.{ending}
 use Rattle.workers.specs.declared.served.Served.{Served}

@@ -11,3 +11,5 @@ pub mod ChangeLemmas
 pub mod ActionLemmas
 pub mod OpeningLemmas
 pub mod SessionLemmas
+pub mod DrawLemmas
+pub mod DrawnOpeningLemmas

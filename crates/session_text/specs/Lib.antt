@@ -9,3 +9,7 @@ pub mod Scripts
 pub mod SessionLines
 pub mod Sessions
 pub mod SessionPrints
+pub mod Draws
+pub mod Openings
+pub mod Options
+pub mod Drawing

@@ -4,7 +4,7 @@
 //! of all receipts has to be Ok. Workers may be held before their commits until all stand there, or their rows be answered one by one. Who
 //! runs the transactions stands in the modules beside this one.
 mod ends;
-mod jobs;
+mod listed;
 mod learning;
 mod meeting;
 mod openings;
@@ -13,7 +13,7 @@ mod places;
 mod writes;
 
 pub use ends::{audit_receipts, close, close_told, print_receipt};
-pub use jobs::{Listed, job_of};
+pub use listed::{Listed, job_of};
 pub use learning::{learn, say_last};
 pub use meeting::{Meeting, Order};
 pub use openings::{open, opening_of};

@@ -8,8 +8,8 @@ use Rattle.rand_core.specs.Stream.{Stream}
 use Rattle.vac_model.specs.declared.item.Item.{Item}
 use Rattle.vac_model.specs.Balanced.{IsItemSound}
 use Rattle.vac_model.specs.Holdings.{Holdings, nothing}
-use Rattle.generated_sessions.specs.declared.options.Options.{Options}
-use Rattle.generated_sessions.specs.Draws.{Draw, below, stream_for, times}
+use Rattle.session_text.specs.declared.options.Options.{Options}
+use Rattle.session_text.specs.Draws.{Draw, below, stream_for, times}
 
 -- a price: 50, 60, 70, 80 or 90
 abbrev pub price_drawn : Draw ℕ

@@ -2,7 +2,7 @@
 use Rattle.std.proofs.Common.{◌≡◌, ℕ, zero, suc, ◌+◌, List, [], ◌∷◌, ◌++◌, length, refl, ap, ◌∙◌, sym, subst, arith}
 use Rattle.rand_core.specs.Stream.{Stream}
 use Rattle.rand.specs.Draw.{Gives}
-use Rattle.generated_sessions.specs.Draws.{Draw, times}
+use Rattle.session_text.specs.Draws.{Draw, times}
 
 module _ {A : Type 0} (draw : Draw A) where
   more : (n : ℕ) (s : Stream)

@@ -3,9 +3,9 @@ use Rattle.rand.specs.Draw.{Gives}
 use Rattle.rand_core.specs.Steps.{stream_of, steps_u32}
 use Rattle.rand_pcg.specs.Pcg.{pcg32}
 use Rattle.vac_model.specs.Actions.{IsAllowed}
-use Rattle.generated_sessions.specs.Draws.{stream_for, times}
-use Rattle.generated_sessions.specs.Sessions.{session_drawn}
-use Rattle.generated_sessions.proofs.sessions.generate.Given as goal
+use Rattle.session_text.specs.Draws.{stream_for, times}
+use Rattle.session_text.specs.Drawing.{session_drawn}
+use Rattle.session_text.proofs.sessions.generate.Given as goal
 
 abbrev pub invariant-loop : goal.invariant-loop
 invariant-loop l = record {

@@ -1,9 +1,9 @@
 //! Numbers and kinds that are drawn.
 ghost use Rattle.std.specs.Prelude.{◌<◌, ◌≤◌};
 ghost use Rattle.rand.specs.Draw.{Gives};
-ghost use Rattle.generated_sessions.specs.Draws as draws;
-ghost use Rattle.generated_sessions.specs.Openings as openings;
-ghost use Rattle.generated_sessions.specs.Sessions as sessions;
+ghost use Rattle.session_text.specs.Draws as draws;
+ghost use Rattle.session_text.specs.Openings as openings;
+ghost use Rattle.session_text.specs.Drawing as sessions;
 
 use rand::RngExt;
 use rand_core::Rng;

@@ -18,10 +18,10 @@ use Rattle.vac_model.specs.Balanced.{IsBalanced, used_of}
 use Rattle.vac_model.specs.Holdings.{Holdings, everywhere, item, nothing, put_item}
 use Rattle.vac_model.proofs.BalanceLemmas.{put_keeps}
 use Rattle.vac_model.proofs.TestLemmas.{nothing_balanced}
-use Rattle.generated_sessions.specs.Draws.{stream_for, times}
-use Rattle.generated_sessions.specs.Openings.{AreItems, IsFresh, by_id, item_drawn, numbered, opening_from, opening_of}
-use Rattle.generated_sessions.specs.declared.options.Options.{Options}
-use Rattle.generated_sessions.proofs.DrawLemmas.{as_many, one_more}
+use Rattle.session_text.specs.Draws.{stream_for, times}
+use Rattle.session_text.specs.Openings.{AreItems, IsFresh, by_id, item_drawn, numbered, opening_from, opening_of}
+use Rattle.session_text.specs.declared.options.Options.{Options}
+use Rattle.session_text.proofs.DrawLemmas.{as_many, one_more}
 
 numbered_more : {A : Type 0} (n : ℕ) (xs : List A) (x : A) → numbered n (xs ++ x ∷ []) ≡ numbered n xs ++ (n + length xs, x) ∷ []
 numbered_more n [] x = ap (λ m. (m, x) ∷ []) (let e : n ≡ n + zero = omega arith in e)

@@ -1,6 +1,6 @@
 -- The ranges of the options, and what follows from them.
 use Rattle.std.specs.Prelude.{◌≤◌, ℕ, ◌+◌, ◌*◌, ◌/◌, ◌%◌, nat_le, if◌then◌else◌}
-use Rattle.generated_sessions.specs.declared.options.Options.{Options}
+use Rattle.session_text.specs.declared.options.Options.{Options}
 
 -- each option is within its range
 pub record AreWithin (o : Options) : Type 0 where

@@ -2,9 +2,9 @@ use Rattle.std.proofs.Common.{arith, ◌≡◌, ◌∙◌, ◌∷◌, [], subst,
 use Rattle.std.specs.Prelude.{All}
 use Rattle.std.proofs.lemmas.List.Elements.{All-append, All-cons, All-nil}
 use Rattle.vac_model.specs.Actions.{IsAllowed}
-use Rattle.generated_sessions.specs.Sessions.{session_drawn}
-use Rattle.generated_sessions.proofs.DrawLemmas.{counted, drawn_on}
-use Rattle.generated_sessions.proofs.sessions.generate.Goals as goal
+use Rattle.session_text.specs.Drawing.{session_drawn}
+use Rattle.session_text.proofs.DrawLemmas.{counted, drawn_on}
+use Rattle.session_text.proofs.sessions.generate.Goals as goal
 
 pub loop-preserved : goal.loop-preserved
 loop-preserved c =

@@ -2,9 +2,9 @@ use Rattle.std.proofs.Common.{arith, ◌≡◌, length, ◌∷◌, [], subst, sy
 use Rattle.std.specs.Prelude.{All}
 use Rattle.std.proofs.lemmas.List.Elements.{All-append, All-cons, All-nil}
 use Rattle.vac_model.specs.Actions.{IsAmountWithin}
-use Rattle.generated_sessions.specs.Sessions.{change_drawn}
-use Rattle.generated_sessions.proofs.DrawLemmas.{counted, drawn_on}
-use Rattle.generated_sessions.proofs.sessions.update.Goals as goal
+use Rattle.session_text.specs.Drawing.{change_drawn}
+use Rattle.session_text.proofs.DrawLemmas.{counted, drawn_on}
+use Rattle.session_text.proofs.sessions.update.Goals as goal
 
 pub loop-preserved : goal.loop-preserved
 loop-preserved g c =

@@ -1,9 +1,9 @@
 use Rattle.std.specs.Prelude.{All}
 use Rattle.rand.specs.Draw.{Gives}
 use Rattle.vac_model.specs.Actions.{IsAmountWithin}
-use Rattle.generated_sessions.specs.Draws.{times}
-use Rattle.generated_sessions.specs.Sessions.{change_drawn}
-use Rattle.generated_sessions.proofs.sessions.update.Given as goal
+use Rattle.session_text.specs.Draws.{times}
+use Rattle.session_text.specs.Drawing.{change_drawn}
+use Rattle.session_text.proofs.sessions.update.Given as goal
 
 abbrev pub invariant-loop : goal.invariant-loop
 invariant-loop g l = record {

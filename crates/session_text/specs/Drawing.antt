@@ -9,10 +9,10 @@ use Rattle.vac_model.specs.declared.action.Change.TheVariants.{Add, TakeCar, Tak
 use Rattle.vac_model.specs.declared.action.Action.{Action}
 use Rattle.vac_model.specs.declared.action.Action.TheVariants.{Reserve, Delete, Update}
 use Rattle.vac_model.specs.Holdings.{kind_at}
-use Rattle.generated_sessions.specs.declared.options.Options.{Options}
-use Rattle.generated_sessions.specs.Draws.{Draw, below, stream_for, times, up_to}
-use Rattle.generated_sessions.specs.Openings.{price_drawn}
-use Rattle.generated_sessions.specs.Options.{count_of, greatest_id}
+use Rattle.session_text.specs.declared.options.Options.{Options}
+use Rattle.session_text.specs.Draws.{Draw, below, stream_for, times, up_to}
+use Rattle.session_text.specs.Openings.{price_drawn}
+use Rattle.session_text.specs.Options.{count_of, greatest_id}
 
 -- a car, a flight or a room
 abbrev pub kind_drawn : Draw Kind

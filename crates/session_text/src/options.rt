@@ -1,6 +1,6 @@
 //! What is to be drawn.
 ghost use Rattle.std.specs.Prelude.{◌≡◌, ◌≤◌, ◌↔◌, IsTrue};
-ghost use Rattle.generated_sessions.specs.Options.{AreWithin, count_of, greatest_id};
+ghost use Rattle.session_text.specs.Options.{AreWithin, count_of, greatest_id};
 
 /// How many sessions are drawn, for how many clients, and from what.
 #[derive(Clone, Copy, Debug, PartialEq, Eq)]

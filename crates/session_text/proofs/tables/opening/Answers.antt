@@ -1,5 +1,5 @@
-use Rattle.generated_sessions.proofs.OpeningLemmas.{opening_balanced}
-use Rattle.generated_sessions.proofs.tables.opening.Goals as goal
+use Rattle.session_text.proofs.DrawnOpeningLemmas.{opening_balanced}
+use Rattle.session_text.proofs.tables.opening.Goals as goal
 
 pub returns-clause-balanced : goal.returns-clause-balanced
 returns-clause-balanced c =

@@ -2,8 +2,8 @@
 ghost use Rattle.std.specs.Prelude.{◌≡◌, IfOk};
 ghost use Rattle.rand.specs.Draw.{Gives};
 ghost use Rattle.vac_model.specs.Balanced.{IsBalanced};
-ghost use Rattle.generated_sessions.specs.Openings.{AreItems, IsFresh, item_drawn, opening_of};
-ghost use Rattle.generated_sessions.specs.Options.{AreWithin};
+ghost use Rattle.session_text.specs.Openings.{AreItems, IsFresh, item_drawn, opening_of};
+ghost use Rattle.session_text.specs.Options.{AreWithin};
 
 use crate::draws::{below, price};
 use crate::options::Options;

@@ -2,10 +2,10 @@
 ghost use Rattle.std.specs.Prelude.{◌≡◌, ◌≤◌, ◌<◌, IfOk, All, length};
 ghost use Rattle.rand.specs.Draw.{Gives};
 ghost use Rattle.vac_model.specs.Actions.{IsAllowed, IsAmountWithin, IsListed};
-ghost use Rattle.generated_sessions.specs.Draws.{times};
-ghost use Rattle.generated_sessions.specs.Options.{AreWithin, count_of};
-ghost use Rattle.generated_sessions.specs.Sessions.{ask_drawn, change_drawn, delete_drawn, reserve_drawn, session_drawn, sessions_of};
-ghost use Rattle.generated_sessions.specs.Sessions.{update_drawn};
+ghost use Rattle.session_text.specs.Draws.{times};
+ghost use Rattle.session_text.specs.Options.{AreWithin, count_of};
+ghost use Rattle.session_text.specs.Drawing.{ask_drawn, change_drawn, delete_drawn, reserve_drawn, session_drawn, sessions_of};
+ghost use Rattle.session_text.specs.Drawing.{update_drawn};
 
 use crate::draws::{below, kind, price, up_to};
 use crate::options::Options;

@@ -1,7 +1,7 @@
 use Rattle.std.proofs.Common.{arith, ◌≡◌, length}
-use Rattle.generated_sessions.specs.Sessions.{ask_drawn}
-use Rattle.generated_sessions.proofs.DrawLemmas.{counted, drawn_on}
-use Rattle.generated_sessions.proofs.sessions.reservation.Goals as goal
+use Rattle.session_text.specs.Drawing.{ask_drawn}
+use Rattle.session_text.proofs.DrawLemmas.{counted, drawn_on}
+use Rattle.session_text.proofs.sessions.reservation.Goals as goal
 
 pub loop-preserved : goal.loop-preserved
 loop-preserved g c =

@@ -1,2 +1,0 @@
-pub mod DrawLemmas
-pub mod OpeningLemmas

@@ -1,4 +1,0 @@
-pub mod Draws
-pub mod Openings
-pub mod Options
-pub mod Sessions
