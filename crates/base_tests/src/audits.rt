@@ -1,6 +1,8 @@
 //! Rows of records: audits on one word that is 0 at first, and records in commit order.
 use row_parts::{number_in, stripes_in};
-use seq_model::{AuditFault, Call, Items, Memory, Op, Record, Refusal, Reply, State, audit, insert_record};
+use seq_model::{
+    AuditFault, Call, Items, Memory, Op, Record, Refusal, Reply, State, audit, insert_record,
+};
 use session_text::tokens_of;
 use std::alloc::Global;
 use std::fmt::Write;

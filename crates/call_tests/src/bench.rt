@@ -5,7 +5,9 @@ use crate::memos::answer_remembered;
 use crate::print::{print_changes, print_outcome};
 use conflict::{Changes, LocSet, Outcome, conflicts};
 use replay_log::{Base, Log};
-use row_parts::{changes_of, from_index, print_base, print_held, print_reply, script_of, stripes_in};
+use row_parts::{
+    changes_of, from_index, print_base, print_held, print_reply, script_of, stripes_in,
+};
 use seq_model::{Call, Held, Memory, Op, Refusal, Reply, Request, State};
 use session_text::{EventLine, Script};
 use shadow::Shadow;

@@ -11,7 +11,10 @@ use seq_model::{Items, Memory, Value};
 use std::alloc::Global;
 use std::marker::Model;
 use std::sync::Arc;
-use vac_model::{AMOUNT_LIMIT, Booking, Customer, Kind, PLACE_LIMIT, Wait, are_same, are_units, awaits, bill, has_kind, holds, waits_without};
+use vac_model::{
+    AMOUNT_LIMIT, Booking, Customer, Kind, PLACE_LIMIT, Wait, are_same, are_units, awaits, bill,
+    has_kind, holds, waits_without,
+};
 
 /// With so many bookings of its own a customer's next copy has them among those that are shared.
 const LATER: usize = 16;

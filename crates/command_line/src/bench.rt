@@ -9,7 +9,9 @@ ghost use Rattle.command_line.specs.Bench.{bench_app, drawn_of, form_faults, for
 ghost use Rattle.command_line.specs.Bench.{form_named as spec_form_named};
 
 use crate::numbers::{number_in, with_number};
-use crate::options::{CLIENTS, PERCENT_QUERIED, PERCENT_USER, QUERIES, RELATIONS, SEED, TRANSACTIONS, TRIES};
+use crate::options::{
+    CLIENTS, PERCENT_QUERIED, PERCENT_USER, QUERIES, RELATIONS, SEED, TRANSACTIONS, TRIES,
+};
 use crate::texts;
 use crate::words::explained;
 use crate::work::TimesForm;

@@ -31,5 +31,7 @@ pub use editions::Editions;
 pub use few::FewKeys;
 pub use loc_set::{LocSet, conflicts};
 pub use outcome::{Note, Outcome};
-pub use stripes::{PQ_STRIPE_LIMIT, STRIPE_LIMIT, is_pq_stripe_count, is_stripe_count, is_stripe_count_of};
+pub use stripes::{
+    PQ_STRIPE_LIMIT, STRIPE_LIMIT, is_pq_stripe_count, is_stripe_count, is_stripe_count_of,
+};
 pub use table::Table;

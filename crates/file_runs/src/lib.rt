@@ -26,4 +26,7 @@ pub use print::print_trace;
 pub use printing::{STRIPES, SessionRun, text_of, with_ending};
 pub use run::{ScriptRun, run_script};
 pub use runs::run_sessions;
-pub use session_text::{Collection, EventLine, Line, Options, STEP_LIMIT, Script, generate, opening, parse_sessions, parse_steps, print_sessions};
+pub use session_text::{
+    Collection, EventLine, Line, Options, STEP_LIMIT, Script, generate, opening, parse_sessions,
+    parse_steps, print_sessions,
+};

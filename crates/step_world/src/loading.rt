@@ -16,7 +16,9 @@ use actor_copies::copies_stay;
 use actor_words::Blocks;
 use actor_words::laws::steps_as_worlds;
 use seq_model::Value;
-use tx_actor::laws::{copies_by_stage, loads_as_worlds, loads_keep_running, loads_stay_own, seats_as_actors};
+use tx_actor::laws::{
+    copies_by_stage, loads_as_worlds, loads_keep_running, loads_stay_own, seats_as_actors,
+};
 use tx_actor::{Told, TxActor};
 use world_table::Table;
 

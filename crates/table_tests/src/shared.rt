@@ -4,8 +4,8 @@
 //! of all receipts has to be Ok. Workers may be held before their commits until all stand there, or their rows be answered one by one. Who
 //! runs the transactions stands in the modules beside this one.
 mod ends;
-mod listed;
 mod learning;
+mod listed;
 mod meeting;
 mod openings;
 mod pages;
@@ -13,8 +13,8 @@ mod places;
 mod writes;
 
 pub use ends::{audit_receipts, close, close_told, print_receipt};
-pub use listed::{Listed, job_of};
 pub use learning::{learn, say_last};
+pub use listed::{Listed, job_of};
 pub use meeting::{Meeting, Order};
 pub use openings::{open, opening_of};
 pub use pages::{Page, end_page};

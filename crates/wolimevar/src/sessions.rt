@@ -16,8 +16,8 @@ use crate::scope::Scope;
 use seq_model::{Refusal, Value};
 use std::alloc::Global;
 use std::marker::Brand;
-use std::thread::Threads;
 use std::thread;
+use std::thread::Threads;
 use tx_engine::TxSeat;
 use tx_table::{SHARES, TxTable};
 

@@ -1,9 +1,9 @@
 //! Lists of calls, each with the number of the seat that makes it.
+use super::calls::Placed;
 use row_parts::script_of;
 use seq_model::{Refusal, Request};
 use session_text::EventLine;
 use std::alloc::Global;
-use super::calls::Placed;
 
 /// The calls of a script's lines with `; ` between.
 pub fn calls_of(alloc: Global, row: &str) -> Result<Vec<Placed<u64>>, Refusal> {

@@ -2,12 +2,12 @@
 ghost use Rattle.std.specs.Prelude.{◌≡◌};
 ghost use Rattle.tx_engine.specs.Ready.{HasBegunSince, IsReady};
 
-use crate::shared::{Meeting, Page};
-use seq_model::Value;
 use super::calls::{Caller, Placed, ask};
 use super::ends::{End, Ended, end_as, end_of};
 use super::hearing::Hearer;
 use super::lists::calls_of;
+use crate::shared::{Meeting, Page};
+use seq_model::Value;
 use tx_engine::{Tx, TxSeat, begin, begin_read};
 use tx_table::TxTable;
 

@@ -1,10 +1,10 @@
 //! A transaction at a seat of a shared table, one of whose copies is refused.
 ghost use Rattle.tx_engine.specs.Ready.{IsReady};
 
-use seq_model::{Record, Refusal};
 use super::borrowers::commit_calls;
 use super::rations::{Ration, Rationed, get};
 use super::tables::Made;
+use seq_model::{Record, Refusal};
 use tx_engine::TxSeat;
 use tx_table::TxTable;
 

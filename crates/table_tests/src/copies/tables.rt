@@ -3,15 +3,15 @@ ghost use Rattle.std.specs.Prelude.{◌≡◌, IfOk};
 ghost use Rattle.tx_table.specs.Seated.{view};
 ghost use Rattle.tx_engine.specs.Ready.{IsReady};
 
+use super::races::race;
+use super::rations::{Ration, Rationed};
+use super::seats::refuse;
+use super::waits::hold;
 use crate::shared::{audit_receipts, close};
 use seq_model::{Items, Record, Refusal, Shape, State};
 use std::alloc::Global;
 use std::sync::Wait;
 use std::thread::Threads;
-use super::races::race;
-use super::rations::{Ration, Rationed};
-use super::seats::refuse;
-use super::waits::hold;
 use tx_engine::TxSeat;
 use tx_table::TxTable;
 

@@ -1,9 +1,9 @@
 //! A transaction in a running world, one of whose copies is refused.
+use super::rations::{Ration, Rationed, get};
 use crate::shared::audit_receipts;
 use seq_model::{Event, Items, Memory, Notice, Record, Refusal, Request, Shape, State};
 use std::alloc::Global;
 use step_world::{Trace, World};
-use super::rations::{Ration, Rationed, get};
 
 /// No request of the transaction has so many steps.
 const STEPS: u64 = 1_000;

@@ -1,6 +1,7 @@
 //! Rows at two seats.
 ghost use Rattle.table_tests.specs.Fit.{IsFit};
 
+use super::requests::{ask, leave_open, repeat, try_job};
 use crate::borrowed::calls::{Caller, Style};
 use crate::borrowed::transacted::answer_transaction;
 use crate::shared::{Meeting, Order, Page, job_of, learn, say_last};
@@ -8,7 +9,6 @@ use row_parts::script_of;
 use seq_model::Refusal;
 use session_text::{EventLine, Script, number};
 use std::alloc::Global;
-use super::requests::{ask, leave_open, repeat, try_job};
 use tx_engine::TxSeat;
 use tx_table::TxTable;
 

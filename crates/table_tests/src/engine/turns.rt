@@ -1,11 +1,11 @@
 //! The rows of two seats, all in turn; or those of each in a thread of its own, also where each of them was split into two.
 ghost use Rattle.tx_engine.specs.Ready.{IsReady};
 
+use super::rows::{answer_own, answer_rows};
 use crate::shared::{Meeting, Order, Page, commit_after};
 use seq_model::{Memory, Refusal};
 use std::alloc::Global;
 use std::thread::{Threads, join_mut};
-use super::rows::{answer_own, answer_rows};
 use tx_engine::TxSeat;
 use tx_table::TxTable;
 

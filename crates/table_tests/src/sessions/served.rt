@@ -2,6 +2,7 @@
 ghost use Rattle.std.specs.Prelude.{◌≤◌, length};
 ghost use Rattle.vac_model.specs.Balanced.{IsBalanced};
 
+use super::printed::{is_refused, print_served};
 use crate::shared::{Meeting, Order, audit_receipts};
 use client_sessions::{Entry, state_of};
 use seq_model::{Items, Record, Refusal, State};
@@ -9,7 +10,6 @@ use session_text::parse_sessions;
 use std::alloc::Global;
 use std::sync::Wait;
 use std::thread::Threads;
-use super::printed::{is_refused, print_served};
 use vac_model::{Action, Tables};
 use workers::{Report, Served, deal, serve};
 

@@ -1,13 +1,13 @@
 //! How a table ends.
 ghost use Rattle.tx_engine.specs.Ready.{IsReady};
 
+use super::pages::Page;
+use super::places::say_left;
 use row_parts::{print_reply, script_of};
 use seq_model::{AuditFault, Call, Memory, Record, Refusal, Reply, Request, State, Value, audit};
 use session_text::EventLine;
 use std::alloc::Global;
 use std::fmt::Write;
-use super::pages::Page;
-use super::places::say_left;
 use tx_engine::TxSeat;
 use tx_table::TxTable;
 

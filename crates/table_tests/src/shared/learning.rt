@@ -1,9 +1,9 @@
 //! What a seat knows of the commits of others.
 ghost use Rattle.tx_engine.specs.Ready.{IsReady};
 
+use super::pages::Page;
 use seq_model::Refusal;
 use session_text::number;
-use super::pages::Page;
 use tx_engine::TxSeat;
 use tx_table::TxTable;
 

@@ -1,10 +1,10 @@
 //! Where a table has its words and collections, and what the collections are once it is closed.
 ghost use Rattle.std.specs.Prelude.{◌≡◌, ◌<◌};
 
+use super::pages::Page;
 use row_parts::print_base;
 use seq_model::Refusal;
 use session_text::number;
-use super::pages::Page;
 use tx_table::{Block, Closed, TxTable};
 
 /// Answers each row `the words`, how many there are, and `the block 0`, where this collection lies.

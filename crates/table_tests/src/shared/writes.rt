@@ -1,9 +1,9 @@
 //! A write that a seat commits after a want of memory.
 ghost use Rattle.tx_engine.specs.Ready.{HasBegunSince, IsReady};
 
+use super::pages::Page;
 use seq_model::{Call, Op, Record, Refusal};
 use std::thread::yield_now;
-use super::pages::Page;
 use tx_engine::TxSeat;
 use tx_table::TxTable;
 

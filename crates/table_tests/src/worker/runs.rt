@@ -3,12 +3,12 @@ ghost use Rattle.std.specs.Prelude.{◌≡◌, ◌≤◌, length};
 ghost use Rattle.tx_table.specs.Seated.{view};
 ghost use Rattle.tx_engine.specs.Ready.{IsReady};
 
+use super::lists::{Limits, lists_of, wants_of};
+use super::reports::{memory_missed, print_report, receive_all};
 use crate::shared::{Listed, Meeting, Page, commit_write};
 use seq_model::{Memory, Refusal};
 use std::sync::Wait;
 use std::thread::Threads;
-use super::lists::{Limits, lists_of, wants_of};
-use super::reports::{memory_missed, print_report, receive_all};
 use tx_engine::TxSeat;
 use tx_table::TxTable;
 use workers::{Report, run_workers_owned};
