@@ -9,7 +9,7 @@ ghost use Rattle.session_text.specs.Tokens.{IsNumber};
 ghost use Rattle.session_text.specs.Requests.{Fits, IsRequest, call_tokens};
 
 use crate::decimal::number;
-use crate::number::clamped;
+use crate::pairs::clamped;
 use seq_model::{Call, Op, Request};
 
 /// The request that these tokens spell.

@@ -10,7 +10,7 @@ ghost use Rattle.session_text.specs.ScriptLines.{AreNumbers, IsAbove, IsClock, I
 
 use crate::decimal::number;
 use crate::event::read_event;
-use crate::number::{clamped, pair};
+use crate::pairs::{clamped, pair};
 use crate::script::{Collection, EventLine};
 use seq_model::{Counts, Entries, Held, Items, Memory, QueueItems};
 use std::alloc::Global;

@@ -1,6 +1,6 @@
 use Rattle.std.proofs.Common.{rules}
 use Rattle.session_text.proofs.PairLemmas.{uncut_pair, first_of_pair}
-use Rattle.session_text.proofs.number.pair.Goals as goal
+use Rattle.session_text.proofs.pairs.pair.Goals as goal
 
 -- src/number.rt:25:27
 pub returns-in_err-first-clause-only : goal.returns-in_err-first-clause-only
