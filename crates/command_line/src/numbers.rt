@@ -1,4 +1,4 @@
-//! The options whose values are numbers: how they are told to `clap`, and how they are read.
+//! The options whose values are numbers: how `clap` gets them, and how they are read.
 ghost use Rattle.std.specs.Prelude.{◌≡◌, ◌≤◌, false, IfOk};
 ghost use Rattle.clap.specs.Words.{app_of, found_of, rows_of, rule_of, with_rule};
 ghost use Rattle.clap.specs.declared.builder.command.Command.TheViews.{out-Command as fields_of};

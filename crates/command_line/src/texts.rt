@@ -3,7 +3,7 @@
 /// The name by which usage lines call the program.
 pub(crate) const NAME: &str = "proust_tool";
 
-/// What `--version` prints behind the program's name.
+/// What `--version` prints after the program's name.
 pub(crate) const VERSION: &str = "0.1.0";
 
 pub(crate) const TOOL: &str =

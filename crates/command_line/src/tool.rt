@@ -29,7 +29,7 @@ pub const DONE: u8 = 0;
 /// The status of refused words, files and texts, and of a failed write.
 pub const REFUSED: u8 = 1;
 
-/// The status of a run that was refused memory.
+/// The status of a run that was out of memory.
 pub const MEMORY: u8 = 2;
 
 /// The status of a run whose committed transactions an audit finds to be no run of the sequential model, or which leaves reservation
@@ -93,7 +93,7 @@ fn refuse_output<E: Write>(err: &mut E) -> u8
     fault(err, REFUSED, "cannot write the output")
 }
 
-/// Runs the words over the file that they name, as it was opened: `run_tool` over its text, with each status as that has it, or
+/// Runs the words over the file that they name, as it was opened: `run_tool` over its text, with its status, or
 /// the fault that it can't be read.
 pub fn run_file<
     H: Threads + Wait + Clock + Sync,
@@ -188,7 +188,7 @@ pub fn run_tool<H: Threads + Wait + Clock + Sync, R: Read, W: Write, E: Write, P
     }
 }
 
-/// Writes what is to be printed, and then what the run took, if that is to be told.
+/// Writes what is to be printed, and then what the run took, if that is to be printed.
 fn print<W: Write, E: Write>(out: &mut W, err: &mut E, output: &Output) -> u8
     ensures status { (result ≡ DONE) ⊎ (result ≡ REFUSED) }
     ensures done { result ≡ DONE → Appends (W.contents out.old) (W.contents out.new) output.now.bytes.items }

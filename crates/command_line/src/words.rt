@@ -171,7 +171,7 @@ pub fn file_of(alloc: Global, words: &[String]) -> Result<Option<String>, Memory
     }
 }
 
-/// Refused words name no file; but words that could not be read for want of memory might.
+/// Refused words name no file; but words that could not be read as memory ran out might.
 fn none_for(error: Error) -> Result<Option<String>, Memory>
     ensures none { IfOk result (λ file. (file ≡ None) × (kind_of error ≢ ErrorKind.OutOfMemory)) }
     ensures memory { IsErr result → kind_of error ≡ ErrorKind.OutOfMemory }

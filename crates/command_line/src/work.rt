@@ -36,7 +36,7 @@ pub(crate) enum Work {
     Served(usize),
 }
 
-/// How it is told what a run took.
+/// How what a run took is printed.
 #[derive(Clone, Copy)]
 pub(crate) enum TimesForm {
     /// Not at all.

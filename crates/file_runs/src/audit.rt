@@ -11,7 +11,7 @@ use world_table::audit_records;
 /// Whether the records of a run's trace are a run of the sequential model from its opening, which leaves what the trace shows.
 ///
 /// A trace with a half-done commit is not audited. Of a trace in serial order, as that of each run of a script is, there is no
-/// fault but want of memory.
+/// fault but out of memory.
 pub fn audit_run(alloc: Global, run: &ScriptRun) -> Result<(), AuditFault>
     ensures ok { OnOk result (IsAudited run.now) }
     ensures fault { IfErr result (HasAuditFault run.now) }

@@ -1,9 +1,9 @@
-//! What a step script or a session file comes to: it is read, run, audited and printed.
+//! Step scripts and session files are read, run, audited and printed.
 //!
 //! [`run_script`] feeds a script's events to a world, [`audit_run`] audits the trace, and [`print_trace`] prints it. [`output_of`] reads a
 //! session file, has its sessions run one after another on a world, has their receipts audited and the tables looked through
 //! ([`run_sessions`], [`inspect`]), and prints what became of each session and what the tables hold ([`text_of`]). What a session answered
-//! is told by its receipt, the calls with their replies, so the print is made from actions and receipts alone. A [`RunFault`] says why
+//! is read off its receipt, the calls with their replies, so the print is made from actions and receipts alone. A [`RunFault`] says why
 //! there is nothing to print. `generate` and `opening` draw sessions and tables from a seed.
 #![tactic(auto)]
 

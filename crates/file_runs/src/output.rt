@@ -11,7 +11,7 @@ use session_text::parse_sessions;
 use std::alloc::Global;
 
 /// What the sessions of a file print: a line for each session, then what the tables hold, and that the receipts were audited and the
-/// tables are balanced. How far they have come is told meanwhile.
+/// tables are balanced. Meanwhile `progress` hears how far they have come.
 ///
 /// `BadText` names the first line outside the grammar, counted from 1; `Memory` where a growth was refused.
 pub fn output_of<P: Progress>(alloc: Global, text: &[u8], progress: &P) -> Result<Vec<u8>, RunFault>

@@ -18,7 +18,7 @@ use vac_model::{Action, Tables};
 use vacation_core::run_in_order_with;
 
 /// Runs the sessions of these actions, one after another, on a world that opens on these tables, and inspects what came of them.
-/// After each of them `progress` is told how many it were.
+/// After each of them `progress` hears how many there were.
 ///
 /// Refused as `Memory` where a growth was refused, and for nothing else: the inspection finds nothing.
 pub fn run_sessions<P: Progress>(

@@ -64,7 +64,7 @@ fn drawn_lists(alloc: Global, drawn: &Drawn) -> Result<Vec<Vec<Action>>, Memory>
 }
 
 /// Draws tables and the sessions of each worker, much as Vacation of STAMP draws them (IISWC 2008), has the workers run them, and inspects
-/// what came of it. How far they have come is told meanwhile.
+/// what came of it. Meanwhile `progress` hears how far they have come.
 ///
 /// `Memory` where a growth was refused; nothing else is found.
 pub fn run_drawn<R: Threads + Wait + Clock + Sync, P: Progress + Sync>(

@@ -39,7 +39,7 @@ fn is_next_missed(worker: u64, place: u64, missed: &[Missed]) -> bool
     }
 }
 
-/// The line of a worker's next session, with the receipts and the missed jobs behind it.
+/// The line of a worker's next session, with the receipts and the missed jobs after it.
 fn next_line<'a>(
     session: &Session,
     worker: u64,
@@ -65,7 +65,7 @@ fn next_line<'a>(
     Ok((line_of(session, receipt)?, behind, missed))
 }
 
-/// What became of a worker's sessions, in their order, with the missed jobs of the workers behind it.
+/// What became of a worker's sessions, in their order, with the missed jobs of the workers after it.
 fn lines_of_worker<'a>(
     alloc: Global,
     worker: u64,

@@ -39,7 +39,7 @@ impl fmt::Display for Pace {
     }
 }
 
-/// The receipts so far of so many sessions, and who is told of them. Workers are held nowhere.
+/// The receipts so far of so many sessions, and who hears of them. Workers are held nowhere.
 #[derive(Drop)]
 pub(crate) struct Receipts<'a, P> {
     told: &'a P,

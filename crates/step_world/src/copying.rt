@@ -22,7 +22,7 @@ use tx_actor::{Told, TxActor};
 use world_table::Table;
 
 /// What the call of an actor touches of its collection's base is copied, and the gate is put back. Where there is no memory for it the
-/// table stands, and the call is given up as one that starves, which holds its gate.
+/// table is unchanged, and the call is aborted as one that starves, which holds its gate.
 pub fn copy_base<V: Value>(
     alloc: Global,
     table: &mut Table<V>,

@@ -50,7 +50,7 @@ impl<V: Value> Parts<V> {
         }
     }
 
-    /// The next step of the actor at this place. Where there is no memory for what it would leave, its request is refused memory.
+    /// The next step of the actor at this place. Where there is no memory for what it would leave, its request is refused as `Memory`.
     fn step(&mut self, i: usize) -> Result<Told<V>, Memory>
         requires inside { i < length self.old.actors.items }
         requires world { HasWorld self.old }

@@ -1,4 +1,4 @@
-//! What a base that goes home makes of the table and of its actor.
+//! What a base that is put back makes of the table and of its actor.
 ghost use Rattle.std.specs.Prelude.{◌≡◌, ◌≢◌, ◌<◌, ℕ, List, All, OnOk, length, slice_get};
 ghost use Rattle.replay_log.specs.Contents.{Block};
 ghost use Rattle.actor_words.specs.Blocks.{BlocksView};
@@ -28,8 +28,8 @@ fn prepare_base<V: Value>(table: &mut Table<V>, actor: &TxActor<V>, k: u32) -> R
     actor.prepares_base(k, &mut table.bases[k as usize])
 }
 
-/// Makes room in the bases of these collections for the logs of the actor's calls there, so that they go home without memory. The bases
-/// hold what they did, also where memory is refused.
+/// Makes room in the bases of these collections for the logs of the actor's calls there, so that putting them back takes no memory. The
+/// bases hold what they did, also where an allocation fails.
 fn prepare_bases<V: Value>(
     table: &mut Table<V>,
     actor: &TxActor<V>,
@@ -46,7 +46,7 @@ fn prepare_bases<V: Value>(
     Ok(())
 }
 
-/// The same for the bases that a commit has written, where its first value store is due.
+/// The same for the bases that a commit has written, where its first value store is next.
 pub fn prepare<V: Value>(table: &mut Table<V>, actor: &TxActor<V>) -> Result<(), Memory>
     requires { NamesAmong (length table.old.bases.items) actor.now.stage }
     ensures room { OnOk result (HasRoomDue table.new actor.now.copies.items actor.now.stage) }
@@ -59,7 +59,7 @@ pub fn prepare<V: Value>(table: &mut Table<V>, actor: &TxActor<V>) -> Result<(),
     }
 }
 
-/// The base of a collection goes home with the log of its actor's calls there, and its gate is put back. There has to be room in the base
+/// The base of a collection is put back with the log of its actor's calls there, and its gate is put back. There has to be room in the base
 /// for the log, so it takes no memory and is never refused.
 pub fn go_home<V: Value>(
     alloc: Global,

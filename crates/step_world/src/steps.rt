@@ -21,7 +21,7 @@ use tx_actor::laws::{copies_by_stage, copies_stay_own};
 use tx_actor::{Stage, Told};
 
 impl<V: Value> Parts<V> {
-    /// The request of the actor at this place is refused memory, where it may still be.
+    /// The request of the actor at this place is refused as `Memory`, where it may still be.
     pub fn starve(&mut self, i: usize) -> Told<V>
         requires { i < length self.old.actors.items }
         ensures { Happens self.old (Starve (i + 1)) self.new result }
@@ -31,7 +31,7 @@ impl<V: Value> Parts<V> {
         self.actors[i].starves()
     }
 
-    /// A request of the actor at this place. A want of memory leaves the world as it was.
+    /// A request of the actor at this place. Out of memory, the world is as it was.
     pub fn ask(&mut self, i: usize, request: Request<V>) -> Result<Told<V>, Memory>
         requires inside { i < length self.old.actors.items }
         requires world { HasWorld self.old }
@@ -103,7 +103,7 @@ impl<V: Value> Parts<V> {
     }
 
     /// What a call touches of the base of its collection is copied, and the gate is put back. Where there is no memory for it, its request
-    /// is refused memory.
+    /// is refused as `Memory`.
     pub(crate) fn copy(&mut self, i: usize, k: u32) -> Result<Told<V>, Memory>
         requires inside { i < length self.old.actors.items }
         requires world { HasWorld self.old }
@@ -120,7 +120,7 @@ impl<V: Value> Parts<V> {
         }
     }
 
-    /// The base of a collection that its actor has written goes home.
+    /// The base of a collection that its actor has written is put back.
     pub(crate) fn go_home(&mut self, i: usize, k: u32) -> Told<V>
         requires inside { i < length self.old.actors.items }
         requires world { HasWorld self.old }
@@ -134,7 +134,7 @@ impl<V: Value> Parts<V> {
         go_home(alloc, &mut self.table, &mut self.actors[i], k)
     }
 
-    /// The request of the actor at this place is refused memory, as there is none for what its step was to leave.
+    /// The request of the actor at this place is refused as `Memory`, as there is none for what its step was to leave.
     fn starved(&mut self, i: usize) -> Memory
         requires { i < length self.old.actors.items }
         ensures { IsStarved self.old i self.new }
@@ -144,7 +144,7 @@ impl<V: Value> Parts<V> {
     }
 
     /// The first value store of a commit, at which the transaction is recorded. Where there is no memory for its record, for its calls in
-    /// a base that is to go home, or for what its word actor keeps, it stores nothing, and its request is refused memory.
+    /// a base that is to be put back, or for what its word actor keeps, it stores nothing, and its request is refused as `Memory`.
     pub(crate) fn commit(&mut self, i: usize) -> Result<Told<V>, Memory>
         requires inside { i < length self.old.actors.items }
         requires world { HasWorld self.old }
@@ -173,7 +173,7 @@ impl<V: Value> Parts<V> {
     }
 
     /// The load of the clock that commits a transaction without writes, at which it is recorded. Where there is no memory for its record,
-    /// it loads nothing, and its request is refused memory.
+    /// it loads nothing, and its request is refused as `Memory`.
     pub(crate) fn close(&mut self, i: usize) -> Result<Told<V>, Memory>
         requires inside { i < length self.old.actors.items }
         requires world { HasWorld self.old }

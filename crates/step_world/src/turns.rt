@@ -76,7 +76,7 @@ pub fn close<V: Value>(
     (told, record)
 }
 
-/// The load of the clock that ends the aborted transaction of the actor of this number, with what is told of it. It takes no memory.
+/// The load of the clock that ends the aborted transaction of the actor of this number, with what is answered of it. It takes no memory.
 pub fn leave<V: Value>(
     alloc: Global,
     table: &mut Table<V>,

@@ -21,7 +21,7 @@ use std::alloc::Global;
 use tx_actor::{Told, TxActor};
 use tx_table::{Seat, TxTable};
 
-/// What a call comes to of which this is told.
+/// The result of a call that is answered so.
 fn reply_told<V: Value>(told: Told<V>) -> Result<Reply<V>, Refusal>
     requires { IsCallTold told }
     ensures { told ≡ told_of result }
@@ -50,7 +50,7 @@ fn driven_call<V: Value>(
     reply_told(told)
 }
 
-/// A request of an open transaction. Where it is refused memory, the transaction is aborted, and that is answered.
+/// A request of an open transaction. Where an allocation fails, the transaction is aborted, and that is answered.
 #[inline(always)]
 pub(crate) fn ask_open<V: Value>(
     alloc: Global,

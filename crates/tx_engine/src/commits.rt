@@ -14,7 +14,7 @@ use std::alloc::Global;
 use tx_actor::{Told, TxActor};
 use tx_table::{Seat, TxTable};
 
-/// What a commit comes to of which this is told, with this receipt.
+/// The result of a commit that is answered so, with this receipt.
 fn commit_told<V: Value>(told: Told<V>, receipt: Option<Record<V>>) -> Result<Record<V>, Refusal>
     requires { IsCommitTold told receipt }
     ensures { MatchResult result (λ made. receipt ≡ Some made) (λ cause. (receipt ≡ None) × (told ≡ Told.Refused cause)) }

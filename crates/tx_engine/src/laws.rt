@@ -53,9 +53,9 @@ pub fn tables_are_serial<V: Value>()
 }
 
 /// Between any two atomic steps of a table: the aborted transactions of each actor for which a seat stands are, in the world that the table
-/// shows, those of the actor's own world, and each saw only the state there at the number that it began with; the receipts of a seat are
-/// what these actors have committed there, each once; and what its actor has asked since its last step is answered there at once, by the
-/// state at the number of its transaction.
+/// shows, those of the world with this actor alone, and each saw only the state there at the number that it began with; the receipts of a
+/// seat are what these actors have committed there, each once; and what its actor has asked since its last step is answered there at
+/// once, by the state at the number of its transaction.
 pub fn tables_show_their_seats<V: Value>()
     ensures { (opening : Opening V) (s : State (Slot V) (View V)) (rule : Holds opening s) → ShowsSeats opening rule.rule.events s }
 {
@@ -68,7 +68,7 @@ pub fn ready_seats_hold_nothing<V: Value>()
     ensures { (t : TxTable V) (u : TxSeat V) → IsReady t u → HoldsNothing (opening_of t) u.seat }
 {}
 
-/// A request of a seat that is told that a gate was busy, and found it so by one of its turns, as its calls are refused:
+/// A request of a seat that is answered that a gate was busy, and found it so by one of its turns, as its calls are refused:
 /// it has tried the gate 64 times, one turn after another, each by one compare_exchange, and found it held each time.
 pub fn busy_gates_were_tried_64_times<V: Value>()
     ensures { (t : TxTable V) (s u : TxSeat V) (k : ℕ) → IsReady t s → IsFoundAndTold (opening_of t) s.seat u.seat (GateBusy k) →
@@ -77,7 +77,7 @@ pub fn busy_gates_were_tried_64_times<V: Value>()
     tries::<V>();
 }
 
-/// A request of a seat that is told a cause for which its transaction is given up, or that it was aborted, as a call or a commit is told
+/// A request of a seat that is answered a cause for which its transaction is aborted, or that it was aborted, as a call or a commit is
 /// that is refused for such a cause: no turn of that transaction stores a value, or takes a base home with its changes, and each lock that
 /// it took goes back with its old version.
 pub fn given_up_seats_change_nothing<V: Value>()

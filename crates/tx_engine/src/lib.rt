@@ -1,8 +1,8 @@
 //! Transactions that threads run on the shared table: [`begin`] gives a [`Tx`], which borrows its [`TxSeat`].
 //!
 //! A *seat* of the table has a running actor beside it, to which it is tied (`tx_turns`). A request is asked, and driven (`driven_turns`):
-//! its turns are taken, one atomic step on the table each, until it is answered or refused. What it comes to is what the definitions say of
-//! it in the own world of the seat, which to its actor is one that events have reached. Between two requests no gate is held.
+//! its turns are taken, one atomic step on the table each, until it is answered or refused. Its result is what the definitions say of it
+//! in a world with the seat's actor alone, which to that actor is one that events have reached. Between two requests no gate is held.
 //!
 //! A *job* is run by an *attempt* ([`attempt`]): a transaction begins at a seat, the calls that the job asks are made, each after the
 //! replies to those before it, and the transaction commits once the job is done. Where the job gives up, or a request is refused, no

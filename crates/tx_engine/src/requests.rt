@@ -18,7 +18,7 @@ use tx_actor::{Stage, Told, TxActor};
 use tx_table::{Seat, TxTable};
 use tx_turns::{ask_abort, ask_begin, ask_begin_read};
 
-/// What a begin comes to of which this is told.
+/// The result of a begin that is answered so.
 fn begin_told<V: Value>(told: Told<V>) -> Result<u64, Refusal>
     requires { IsBeginTold told }
     ensures { told ≡ begin_of result }

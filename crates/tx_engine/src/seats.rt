@@ -125,8 +125,8 @@ impl<V: Value> TxSeat<V> {
         )
     }
 
-    /// A transaction begins that writes nothing, as `begin` has it: a change is `NoSuch` in it. It keeps no read set, so that its reads are
-    /// as many as its calls may be.
+    /// A transaction begins that writes nothing, by the rules of `begin`: a change is `NoSuch` in it. It keeps no read set, so that its
+    /// reads are as many as its calls may be.
     pub fn begin_read(&mut self, table: &TxTable<V>) -> Result<u64, Refusal>
         requires ready { IsReady table.now self.old }
         ensures ready { IsReady table.now self.new }
@@ -180,7 +180,7 @@ impl<V: Value> TxSeat<V> {
         )
     }
 
-    /// A word is read, as `call` has it: refused as `NoTransaction`, `NoSuch`, `TooLong`, `Memory` or `Moved`.
+    /// A word is read, by the rules of `call`: refused as `NoTransaction`, `NoSuch`, `TooLong`, `Memory` or `Moved`.
     pub fn read(&mut self, table: &TxTable<V>, word: u32) -> Result<Reply<V>, Refusal>
         requires ready { IsReady table.now self.old }
         requires since { HasBegunSince table.now self.old }
@@ -193,7 +193,8 @@ impl<V: Value> TxSeat<V> {
         self.call(table, call)
     }
 
-    /// A word is written, once the transaction commits, as `call` has it: refused as `NoTransaction`, `NoSuch`, `TooLong` or `Memory`.
+    /// A word is written, once the transaction commits, by the rules of `call`: refused as `NoTransaction`, `NoSuch`, `TooLong` or
+    /// `Memory`.
     pub fn write(&mut self, table: &TxTable<V>, word: u32, value: u64) -> Result<Reply<V>, Refusal>
         requires ready { IsReady table.now self.old }
         requires since { HasBegunSince table.now self.old }

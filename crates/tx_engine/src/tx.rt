@@ -45,8 +45,8 @@ pub fn begin<'a, V: Value>(
     Ok(Tx::over(seat, table))
 }
 
-/// A transaction begins that writes nothing, as `begin` has it: a change is `NoSuch` in it. It keeps no read set, so that its reads are as
-/// many as its calls may be.
+/// A transaction begins that writes nothing, by the rules of `begin`: a change is `NoSuch` in it. It keeps no read set, so that its reads
+/// are as many as its calls may be.
 pub fn begin_read<'a, V: Value>(
     seat: &'a mut TxSeat<V>,
     table: &'a TxTable<V>,

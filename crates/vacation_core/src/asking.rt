@@ -1,4 +1,4 @@
-//! One request of a client, up to what it comes to.
+//! One request of a client, up to its answer.
 ghost use Rattle.std.specs.Prelude.{IfOk};
 ghost use Rattle.vacation_core.specs.LoneClients.{IsAnswered};
 
@@ -9,8 +9,8 @@ use step_world::World;
 /// Each request is answered within so many steps of its client.
 const STEP_LIMIT: u32 = 1_000_000;
 
-/// A request of the client that is this actor, and then its steps, until something is told. Of a client that is alone and asks what its
-/// session asks, it is told within the bound on steps; `Quiet`, the last answer, is for worlds of which nothing is promised.
+/// A request of the client that is this actor, and then its steps, until something is answered. To a client that is alone and asks what its
+/// session asks, that is within the bound on steps; `Quiet`, the last answer, is for worlds of which nothing is promised.
 pub fn ask(
     world: &mut World<Entry>,
     actor: u32,

@@ -21,7 +21,7 @@ pub struct OpenSession {
 #[derive(Drop)]
 pub struct Client {
     pub current: Option<OpenSession>,
-    /// The sessions that it was told have committed, in their order.
+    /// Its sessions that have committed, in their order.
     pub done: Items<Session>,
 }
 

@@ -97,7 +97,7 @@ pub fn run_in_order(
     run_in_order_with(alloc, tables, stripes, actions, &NoProgress)
 }
 
-/// What `run_in_order` does; after each session `progress` is told how many it were.
+/// What `run_in_order` does; after each session `progress` hears how many there were.
 pub fn run_in_order_with<P: Progress>(
     alloc: Global,
     tables: Tables,

@@ -25,7 +25,7 @@ fn session_at(client: &Client, place: usize) -> Option<&Session>
     }
 }
 
-/// What became of the session of this record, where so many sessions of each client were told of before it.
+/// What became of the session of this record, after so many sessions of each client.
 fn tell(
     clients: &[Client],
     told: &mut Vec<usize>,

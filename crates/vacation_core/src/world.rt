@@ -100,7 +100,7 @@ impl VacWorld {
         self.aborted.push((actor, cause))
     }
 
-    /// An event of the world, and what it tells.
+    /// An event of the world, and what it answers.
     fn feed(&mut self, event: Event<Entry>) -> Result<Notice<Entry>, Memory>
         ensures fed { IfOk result (Feeds self.old.world.parts event self.new.world.parts) }
         ensures clients { self.new.clients.items ≡ self.old.clients.items }
@@ -141,7 +141,7 @@ impl VacWorld {
         }
     }
 
-    /// This is told at once of a call of the session at this place: whether it is a reply.
+    /// A call of the session at this place is answered so at once: whether it is a reply.
     fn called(&mut self, i: usize, notice: Notice<Entry>) -> Result<bool, Memory>
         requires { HasPlace i self.old }
         ensures ok { IfOk result (λ more. (k : ℕ) (call : ACall Entry) (to : Play) → Called i k call notice self.old to
@@ -213,7 +213,7 @@ impl VacWorld {
         Ok(())
     }
 
-    /// The transaction of the session at this place was given up, as it asked for.
+    /// The transaction of the session at this place was aborted, as it asked for.
     fn hear_end(&mut self, i: usize) -> Result<(), Memory>
         requires { HasPlace i self.old }
         ensures { OnOk result ((p : Play) (b : ℕ) → Hears i (Answered b answer.Aborted) self.old p
@@ -262,7 +262,7 @@ impl VacWorld {
         self.end(actor, cause)
     }
 
-    /// A refusal that leaves a transaction open, where it is told of a call.
+    /// A refusal of a call that leaves the transaction open.
     fn hear_mistake(&mut self, i: usize, actor: u32, cause: Refusal) -> Result<(), Memory>
         requires { HasPlace i self.old }
         ensures { OnOk result ((p : Play) → Hears i (Refused actor cause) self.old p
@@ -286,7 +286,7 @@ impl VacWorld {
         self.end_refused(i, cause)
     }
 
-    /// What the client at this place does that is told this.
+    /// What the client at this place does once it is answered so.
     fn hear(&mut self, i: usize, notice: Notice<Entry>) -> Result<(), Memory>
         requires { HasPlace i self.old }
         ensures { OnOk result ((p : Play) → Hears i notice self.old p → IsPlay self.new (hears (i + 1) notice p)) }

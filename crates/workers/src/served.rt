@@ -93,7 +93,7 @@ fn close(table: TxTable<Entry>, seat: TxSeat<Entry>) -> Result<State<Entry>, Mem
 }
 
 /// Runs the sessions of these lists of actions as `serve` does, where each action is allowed and a collection can have so many stripes: so
-/// it is refused memory alone.
+/// it is refused as `Memory` alone.
 pub fn serve_allowed<R: Threads + Wait + Sync, P: Pause + Sync>(
     rt: &R,
     alloc: Global,
@@ -129,7 +129,7 @@ pub fn serve_allowed<R: Threads + Wait + Sync, P: Pause + Sync>(
 /// tables and the state are what they leave, balanced. No audit of the receipts finds a fault.
 ///
 /// `TooLong` where a collection can't have so many stripes, or an action of some list isn't allowed, which is found before anything is
-/// opened; and `Memory` where a growth was refused. A session that is refused memory is reported as missed.
+/// opened; and `Memory` where a growth was refused. A session that is out of memory is reported as missed.
 pub fn serve<R: Threads + Wait + Sync, P: Pause + Sync>(
     rt: &R,
     alloc: Global,
