@@ -10,3 +10,4 @@ pub mod Refused
 pub mod Steps
 pub mod Records
 pub mod Aborted
+pub use Rattle.jobs.specs.Programs

@@ -25,6 +25,7 @@ mod tx;
 mod unheld;
 
 pub use attempts::{Attempt, attempt_with};
+pub use jobs::{Ask, Job};
 pub use pause::{NoPause, Pause};
 pub use seats::TxSeat;
 pub use tx::{Receipt, Tx, begin, begin_read, learn};

@@ -17,3 +17,7 @@ pub mod PlayOpenings
 pub mod Told
 pub mod Traces
 pub mod Unmet
+pub use Rattle.client_sessions.specs.Holding
+pub use Rattle.client_sessions.specs.Refusals
+pub use Rattle.client_sessions.specs.Sessions
+pub use Rattle.jobs.specs.Programs

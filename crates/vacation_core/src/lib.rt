@@ -29,6 +29,7 @@ mod world;
 pub mod world_laws;
 
 pub use asking::ask;
+pub use client_sessions::{Entry, Session, state_of, tables_of};
 pub use events::VacEvent;
 pub use opening::open;
 pub use order::{Ordered, run_in_order, run_in_order_with};
