@@ -18,7 +18,7 @@ sections_of() {
     case $1 in
     # The sequential model and its audit, and bases of each kind, in rows; all of them.
     base_tests) ;;
-    # run_tool, run_script: a map, a priority queue, a want of memory in a commit; a session file.
+    # run_tool, run_script: a map, a priority queue, a commit that is out of memory; a session file.
     script_tests)
         echo "transactions on a map: a script prints its notices records and state"
         echo "collections that interleave: the least taken twice beside an insert between"
