@@ -20,7 +20,7 @@ mkdir -p "$to/crates"
 [ -e "$to/crates.txt" ] || echo '# one line a crate: the libraries that it stands on' > "$to/crates.txt"
 for name in $names; do
     rm -rf "$to/crates/$name"
-    (cd crates && tar --exclude=out --exclude=must-fail --exclude=wrong-bodies --exclude=BUILD.bazel -cf - "$name") | (cd "$to/crates" && tar -xf -)
+    tar -C crates --exclude=out --exclude=must-fail --exclude=wrong-bodies --exclude=BUILD.bazel -cf - "$name" | tar -C "$to/crates" -xf -
     grep -v -E "^$name( [^:]*)?:" "$to/crates.txt" > "$to/crates.txt.new" || true
     grep -E "^$name( [^:]*)?:" crates.txt >> "$to/crates.txt.new"
     mv "$to/crates.txt.new" "$to/crates.txt"

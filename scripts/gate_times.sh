@@ -89,8 +89,10 @@ table)
                 all[part[3]] += cpu[key]
             }
             for (name in crates)
-                printf "%.1f| %s | %.1f | %.1f | %.1f | %.1f |\n", sum[name], name, spent[name " proof"] / 60, spent[name " tests"] / 60, spent[name " edits"] / 60, sum[name] / 60
-            printf "-1| all | %.1f | %.1f | %.1f | %.1f |\n", all["proof"] / 60, all["tests"] / 60, all["edits"] / 60, (all["proof"] + all["tests"] + all["edits"]) / 60
+                printf "%.1f| %s | %.1f | %.1f | %.1f | %.1f |\n", sum[name], name, \
+                    spent[name " proof"] / 60, spent[name " tests"] / 60, spent[name " edits"] / 60, sum[name] / 60
+            printf "-1| all | %.1f | %.1f | %.1f | %.1f |\n", \
+                all["proof"] / 60, all["tests"] / 60, all["edits"] / 60, (all["proof"] + all["tests"] + all["edits"]) / 60
             printf "-2|\n-3|%.0f minutes from the first sample to the last.\n", (last - first) / 60
         }
     ' "$2" | sort -t'|' -k1,1nr | cut -d'|' -f2- | sed 's/^ /| /'

@@ -47,7 +47,8 @@ follow() {
     local line crate= proved=0 begun=
     while IFS= read -r line; do
         [[ $line != "rt: chose --jobs"* ]] || begun=${begun:-$SECONDS}
-        if [[ $line =~ ^rt:\ chose\ --jobs\ [0-9]+\ for\ ([a-z0-9_]+) || $line =~ ^crate\ ([a-z0-9_]+): || $line =~ ^fn\ ([a-z0-9_]+)::.*:\ proved ]]; then
+        if [[ $line =~ ^rt:\ chose\ --jobs\ [0-9]+\ for\ ([a-z0-9_]+) || $line =~ ^crate\ ([a-z0-9_]+): ||
+            $line =~ ^fn\ ([a-z0-9_]+)::.*:\ proved ]]; then
             crate=${BASH_REMATCH[1]}
         elif [[ $line == logic=proved* && -n $crate && -n ${place[$crate]:-} ]]; then
             tell "$crate"

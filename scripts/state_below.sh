@@ -3,8 +3,8 @@
 #
 #     scripts/state_below.sh NAME
 #
-# What is built (out/), the edits that are to be refused (must-fail/, wrong-bodies/) and the stored runs (stdin, stdout, args, status, data/)
-# don't change the program, so they are left out.
+# What is built (out/), the edits that are to be refused (must-fail/, wrong-bodies/) and the stored runs (stdin, stdout, args, status,
+# data/) don't change the program, so they are left out.
 set -eu
 
 [ $# -eq 1 ] || { sed -n '2,7s/^# \{0,1\}//p' "$0" >&2; exit 2; }
