@@ -8,7 +8,7 @@ use step_world::Trace;
 
 /// Prints the trace of these lines:
 ///
-/// - `1 Committed 4`: actor 1 is told this, as an answer, a reply or a refusal; `Quiet` tells nothing;
+/// - `1 Committed 4`: actor 1 is answered this: an answer, a reply or a refusal; `Quiet` is none;
 /// - `half 4`, and `record 4 write actor 64 calls 1`.
 ///
 /// What words and collections hold stands above a line `--`, as a script's header, whose clock is the index of a queue's first item.
@@ -20,7 +20,7 @@ pub fn print_laid_out(text: &mut String, laid_out: &str) -> Result<(), Refusal> 
     print_run(text, &run)
 }
 
-/// Prints a trace, with nothing that was told before it.
+/// Prints a trace, with nothing printed before it.
 pub fn print_trace_alone(text: &mut String, trace: Trace<u64>) -> Result<(), Refusal> {
     let alloc = *text.allocator();
     let opening = state_of(alloc, "")?;

@@ -1,10 +1,10 @@
 //! Tests of the program: whole runs over step scripts, session files and drawn sessions, from the text to what is printed; and of the
 //! texts that no run spells.
 //!
-//! They are sections of the file `stdin`, each closed by `----`: a name, and behind it the text. Each is printed by its name, with
+//! They are sections of the file `stdin`, each closed by `----`: a name, and after it the text. Each is printed by its name, with
 //! what came of it, and at the end how many there are; what all must print stands in the file `stdout`. So the crate is proved once,
 //! however many sections there are.
-//! What a section may say is told at [`sections::run_all`].
+//! What a section may say stands at [`sections::run_all`].
 #![tactic(auto)]
 
 mod files;

@@ -7,7 +7,7 @@ pub fn narrow(token: &str) -> Option<u32> {
     u32::try_from(number(token)?).ok()
 }
 
-/// What an actor is told.
+/// What an actor is answered.
 pub fn notice_of(actor: u32, tokens: &[&str]) -> Option<Notice<u64>> {
     match answer_of(tokens) {
         Some(answer) => Some(Notice::Answered(actor, answer)),

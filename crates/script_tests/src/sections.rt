@@ -12,7 +12,7 @@ use std::sync::Wait;
 use std::thread::Threads;
 use std::time::Clock;
 
-/// What a run writes to has room for this many bytes, so that a write is never refused memory.
+/// What a run writes to has room for this many bytes, so that a write never runs out of memory.
 const ROOM: usize = 65_536;
 
 /// How often a line is printed that comes so often, at most.
@@ -22,15 +22,15 @@ const TIMES: u64 = 99;
 ///
 /// - Behind ` | ` stand the words by which the program is run over the text, and `step -` where nothing stands there. With ` > full` it
 ///   writes to what takes nothing; with ` > races`, where workers race for the same items, how many sessions were missed isn't told. What
-///   it printed is told, a line that came more than 99 times with its number; then its fault, its status where that is not 0, and of what
+///   it printed is shown, a line that came more than 99 times with its number; then its fault, its status where that is not 0, and of what
 ///   a run took the first word and the last line, or the names of its values. In the text `\xff` is a byte, and a line behind
 ///   `\times 9 ` stands so many times; a text that ends with `\fails` can't be read further, and one with `\endless` has no end.
-/// - ` = script`: the text is a script, of which each line is told as it was read.
-/// - ` = world`: the text is a script, whose events are fed to a world, as `worlds` reads it. What has come of them is told.
-/// - ` = trace`: the text lays out a trace, line by line, as `laid_out` reads it. What is printed of it is told.
-/// - ` = files`: each line has words; the file that they name is told.
-/// - ` = times`: what is told of the times of a run that missed sessions.
-/// - ` = paces`: what is told of how far runs have come.
+/// - ` = script`: the text is a script, of which each line is printed as it was read.
+/// - ` = world`: the text is a script, whose events are fed to a world, as `worlds` reads it. What came of them is printed.
+/// - ` = trace`: the text lays out a trace, line by line, as `laid_out` reads it. What is printed of it is shown.
+/// - ` = files`: each line has words; the file that they name is printed.
+/// - ` = times`: what is printed of the times of a run that missed sessions.
+/// - ` = paces`: what is printed of how far runs have come.
 pub fn run_all<H: Threads + Wait + Clock + Sync>(
     rt: &H,
     alloc: Global,
@@ -111,7 +111,7 @@ fn print_files(text: &mut String, lines: &str) -> Result<(), AllocError> {
     Ok(())
 }
 
-// The words' fault is told by what runs them.
+// The words' fault is printed by what runs them.
 fn print_file(text: &mut String, asked: &str) -> Result<(), AllocError> {
     let alloc = *text.allocator();
     let words = words_of(alloc, asked)?;

@@ -1,4 +1,4 @@
-//! What is told of the times of a run, and of how far one has come.
+//! What is printed of the times of a run, and of how far one has come.
 use seq_model::Memory;
 use served_runs::{Pace, Times, print_times, print_times_as_values};
 use std::alloc::{AllocError, Global};

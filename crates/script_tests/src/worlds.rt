@@ -6,7 +6,7 @@ use std::alloc::Global;
 use step_world::{World, run_world};
 
 /// Prints what has come of the events of a script, of which `A REQUEST` is a request, `A step K` is K steps, whatever they tell, and
-/// `A starve` is a want of memory: by `run_world`, and of a world that is fed them, by `trace` and then by `into_trace`.
+/// `A starve` runs the actor out of memory: by `run_world`, and of a world that is fed them, by `trace` and then by `into_trace`.
 pub fn print_worlds(text: &mut String, lines: &str) -> Result<(), Refusal> {
     let script = parse_steps(*text.allocator(), lines.as_bytes())?;
     print_by_run(text, &script)?;
@@ -62,7 +62,7 @@ fn events_of(alloc: Global, script: &Script) -> Result<Vec<Event<u64>>, Memory> 
     Ok(events)
 }
 
-// How many steps the other lines come to shows in a run alone.
+// How many steps the other lines take shows in a run alone.
 fn push_events(events: &mut Vec<Event<u64>>, line: &EventLine) -> Result<(), Memory> {
     match line {
         EventLine::Ask(actor, request) => events.push(Event::Ask(*actor, request.try_copy()?))?,

@@ -1,8 +1,8 @@
 //! Tests of sessions of reservations on a running world, on the public calls: those of many clients that interleave, one atomic step at a
 //! time, and those of one client, one after another.
 //!
-//! They are sections of the file `stdin`, each closed by `----`: rows of text. What a section comes to is printed behind its name; what
-//! all must come to stands in the file `stdout`. So the crate is proved once, however many sections there are. What a row may say is
+//! They are sections of the file `stdin`, each closed by `----`: rows of text. The result of a section is printed after its name; what
+//! all must print stands in the file `stdout`. So the crate is proved once, however many sections there are. What a row may say is
 //! told at [`sections::answer_all`].
 #![tactic(auto)]
 
@@ -18,7 +18,7 @@ use std::process::ExitCode;
 /// The status of a run that could not read its sections or print.
 const FAILED: u8 = 1;
 
-/// The status of a run that was refused memory. It has printed nothing else.
+/// The status of a run that was out of memory. It has printed nothing else.
 const MEMORY: u8 = 2;
 
 // All is answered before anything is printed.

@@ -36,7 +36,7 @@ fn print_parts(
     print_held(text, lines.as_slice(), tables)
 }
 
-// Whether a session ended for want of memory where no row starved it.
+// Whether a session ended as memory ran out where no row starved it.
 fn is_wanting(aborted: &[(u32, Refusal)]) -> bool {
     let mut refused = 0;
     for (client, cause) in aborted {

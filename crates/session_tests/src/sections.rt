@@ -1,4 +1,4 @@
-//! The sections, and what each comes to.
+//! The sections, and the result of each.
 use crate::print::{print_ordered, print_trace};
 use crate::rows::{actions_in, events_in, stripes_in, tables_in};
 use seq_model::Refusal;
@@ -6,22 +6,22 @@ use std::alloc::Global;
 use std::fmt::Write;
 use vacation_core::{VacWorld, run_in_order};
 
-/// What the sections come to, each behind its name, and how many they are. A section has a name, then a row `64 stripes`, then the items that there are, as a
-/// session file has them, and then what happens, row by row. What is refused is answered by the refusal.
+/// The results of the sections, each after its name, and how many there are. A section has a name, then a row `64 stripes`, then the items
+/// that there are, as a session file has them, and then what happens, row by row. What is refused is answered by the refusal.
 ///
 /// - `1 starts reserve 7 car 1`: a client begins the session of an action, which a session file has as a line. `nothing` is an update
 ///   without a change, which is not allowed.
 /// - `1 steps 5`: a client takes so many steps. `1 and 2 step 5`: two of them take so many each, in turn.
-/// - `1 starves`: a client is refused memory.
+/// - `1 starves`: a client runs out of memory.
 ///
 /// Of the sessions that committed it is printed whose each is and whether it wrote; then who ended without a commit, and why; which commits
 /// are half done; and, as of a session file, what each session answered and what the tables hold.
 ///
-/// Where the row begins with `in order, `, each row behind it is an action, and the sessions run one after another. Of each receipt it is
+/// Where the row begins with `in order, `, each row after it is an action, and the sessions run one after another. Of each receipt it is
 /// printed whether it wrote, its number and how many calls it has; then what the tables hold.
 ///
-/// A session that ended for want of memory is one that was starved, as the section says, only where its client was refused another start
-/// just before; any other is answered as a want of memory of the whole.
+/// A session that ended as memory ran out is one that was starved, as the section says, only where its client was refused another start
+/// just before; any other is answered as `Memory` of the whole.
 pub fn answer_all(alloc: Global, sections: &str) -> Result<String, Refusal> {
     let mut text = String::new(alloc);
     for section in sections.split("----\n") {
@@ -63,7 +63,7 @@ fn answer_section(text: &mut String, section: &str) -> Result<(), Refusal> {
     tell(text, answered)
 }
 
-// A refusal is what the section comes to, but for a want of memory.
+// A refusal is the result of the section, but for `Memory`.
 fn tell(text: &mut String, answered: Result<(), Refusal>) -> Result<(), Refusal> {
     match answered {
         Err(Refusal::Memory) => return Err(Refusal::Memory),

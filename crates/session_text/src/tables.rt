@@ -36,7 +36,7 @@ pub fn opening(alloc: Global, seed: u64, options: &Options) -> Result<Tables, Me
 }
 
 /// So many items of a kind, by id, from 1.
-#[tactic(auto, using(crate::proofs::OpeningLemmas::no_items, crate::proofs::OpeningLemmas::item_more))]
+#[tactic(auto, using(crate::proofs::DrawnOpeningLemmas::no_items, crate::proofs::DrawnOpeningLemmas::item_more))]
 fn items<R: Rng>(alloc: Global, random: &mut R, count: u32) -> Result<Entries<Item>, Memory>
     ensures { IfOk result (λ items. AreItems count (R.stream random.old) items (R.stream random.new)) }
 {

@@ -2,7 +2,7 @@
 //! workers, and sessions that workers serve; and of values one of whose copies is refused, or one of which waits as it is dropped.
 //!
 //! They are sections of the file `stdin`, each closed by `----`: rows of text, each of which is printed with its answer; what all must
-//! answer stands in the file `stdout`. So the crate is proved once, however many sections there are. What a section may say is told at
+//! answer stands in the file `stdout`. So the crate is proved once, however many sections there are. What a section may say stands at
 //! [`sections::answer_all`].
 #![tactic(auto)]
 
@@ -24,7 +24,7 @@ use std::process::ExitCode;
 /// The status of a run that could not read its sections or print its answers, or that ended otherwise than it may.
 const FAILED: u8 = 1;
 
-/// The status of a run that was refused memory. It has printed nothing else.
+/// The status of a run that was out of memory. It has printed nothing else.
 const MEMORY: u8 = 2;
 
 // All is answered before anything is printed.

@@ -2,9 +2,9 @@
 //!
 //! Behind a row `sessions 2 64 1000 2` stands a session file, whose sessions are dealt in turn to two workers, on a table with 64 stripes
 //! for each collection. Each is attempted at most 1000 times, and two workers meet: each is held before its commit until all stand there,
-//! and all behind it have their receipts. `0`: none is held. What comes of them is the receipts of each worker, what the
-//! tables hold, as it is printed behind a session file, and what the audit of all receipts says. Where a session is refused memory the
-//! audit is to be Ok, too; then that is answered as a want of memory.
+//! and all after it have their receipts. `0`: none is held. What comes of them is the receipts of each worker, what the
+//! tables hold, as it is printed after a session file, and what the audit of all receipts says. Where a session runs out of memory the
+//! audit is to be Ok, too; then that is answered as `Memory`.
 mod printed;
 mod served;
 

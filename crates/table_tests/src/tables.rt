@@ -37,7 +37,7 @@ impl Kind {
     }
 }
 
-/// The table that the words behind the kind open, and what comes of the rows on it.
+/// The table that the words after the kind open, and what comes of the rows on it.
 pub fn answer_table<R: Threads + Wait + Sync>(
     rt: &R,
     text: &mut String,

@@ -1,9 +1,9 @@
-//! Who is told what comes of transactions.
+//! Who hears what becomes of transactions.
 use super::ends::Ended;
 use crate::shared::Page;
 use seq_model::{Refusal, Reply};
 
-/// Who is told what comes of transactions.
+/// Who hears what becomes of transactions.
 pub trait Hearer<V> {
     /// What a call is answered.
     fn hear_answer(&mut self, answered: Result<Reply<V>, Refusal>);

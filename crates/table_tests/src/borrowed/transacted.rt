@@ -113,7 +113,7 @@ fn make_all<V: Value, H: Hearer<V>>(
     }
 }
 
-// A call of another seat lets the next row by, which is that seat's. The row that was let by last, or this one, stands below so many.
+// A call of another seat lets the next row pass, which is that seat's. The row that passed last, or this one, stands below so many.
 fn make_placed<V: Value, H: Hearer<V>>(
     hearer: &mut H,
     tx: &mut Tx<'_, V>,

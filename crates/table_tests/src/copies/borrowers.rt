@@ -6,7 +6,7 @@ use seq_model::{Call, Record, Refusal, Value};
 use tx_engine::{Tx, TxSeat, begin};
 use tx_table::TxTable;
 
-/// Makes these calls in one transaction, and commits. A call that is refused memory has aborted it, so there is nothing to commit then.
+/// Makes these calls in one transaction, and commits. A call that runs out of memory has aborted it, so there is nothing to commit then.
 pub fn commit_calls<V: Value>(
     table: &TxTable<V>,
     seat: &mut TxSeat<V>,

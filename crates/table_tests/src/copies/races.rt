@@ -20,8 +20,8 @@ use workers::{Report, run_workers_owned};
 /// So many attempts no job needs.
 const TRIES: u64 = 1_000_000;
 
-/// The copy at this place is refused, of all that two workers or four make who put a value each; whether one was. One job is missed for
-/// want of memory then, and else none is; the seat commits after it.
+/// The copy at this place is refused, of all that two workers or four make who put a value each; whether one was. One job is missed as
+/// `Memory` then, and else none is; the seat commits after it.
 pub fn race<R: Threads + Wait + Sync>(
     rt: &R,
     alloc: Global,
@@ -90,7 +90,7 @@ fn race_lists<R: Threads + Wait + Sync>(
     (seat, made)
 }
 
-// How many jobs were refused memory; `NotIdle` where one was missed for another cause.
+// How many jobs ran out of memory; `NotIdle` where one was missed for another cause.
 fn keep_report(
     report: Result<Report<Rationed>, Memory>,
     receipts: &mut Vec<Record<Rationed>>,
@@ -109,7 +109,7 @@ fn keep_report(
     Ok(wanting)
 }
 
-// One job is refused memory where a copy was; what is refused besides is a want of memory of the run.
+// One job is out of memory where a copy was refused; any other refusal is that the run is out of memory.
 fn go_on(
     table: &TxTable<Rationed>,
     seat: &mut TxSeat<Rationed>,

@@ -8,7 +8,7 @@ use seq_model::{Record, Refusal};
 use tx_engine::TxSeat;
 use tx_table::TxTable;
 
-/// The transaction is run with the copy at this place refused; whether one was. It is answered as a want of memory then, and else it
+/// The transaction is run with the copy at this place refused; whether one was. It is answered as `Memory` then, and else it
 /// commits; the same seat commits the next one.
 pub fn refuse(
     table: &TxTable<Rationed>,
@@ -57,7 +57,7 @@ fn make_first(
     Ok(was_refused)
 }
 
-// A refused copy is answered as a want of memory, and nothing else is.
+// A refused copy is answered as `Memory`, and nothing else is.
 fn keep(
     receipts: &mut Vec<Record<Rationed>>,
     committed: Result<Record<Rationed>, Refusal>,

@@ -15,7 +15,7 @@ use std::thread::Threads;
 use tx_engine::TxSeat;
 use tx_table::TxTable;
 
-/// No work comes to more receipts.
+/// No work has more receipts.
 const RECEIPTS: usize = 5;
 
 /// What came of a work: whether a copy was refused.

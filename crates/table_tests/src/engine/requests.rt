@@ -73,7 +73,7 @@ fn abort(page: &mut Page, table: &TxTable<u64>, seat: &mut TxSeat<u64>)
     page.say("aborted");
 }
 
-/// An attempt of a job by a worker that may be held before its commit. Its receipt joins the others, and the meeting is told of it.
+/// An attempt of a job by a worker that may be held before its commit. Its receipt joins the others, and the meeting hears of it.
 pub fn try_job(
     page: &mut Page,
     table: &TxTable<u64>,

@@ -35,7 +35,7 @@ fn print_own(text: &mut String, worker: u64, receipts: &[Record<Entry>]) -> Resu
     Ok(())
 }
 
-// As they stand behind a session file without sessions.
+// As they stand after a session file without sessions.
 fn print_tables(text: &mut String, tables: &Tables) -> Result<(), Refusal> {
     let alloc = *text.allocator();
     let bytes = print_sessions(alloc, &[], tables)?;
@@ -54,7 +54,7 @@ fn print_bytes(text: &mut String, bytes: &[u8]) -> Result<(), Refusal> {
     }
 }
 
-/// Whether a session was refused memory.
+/// Whether a session ran out of memory.
 pub fn is_refused(report: &Report<Entry>) -> bool {
     for (_, _, cause) in report.missed.as_slice() {
         if matches!(cause, LastAbort::Refused(Refusal::Memory)) {

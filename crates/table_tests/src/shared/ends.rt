@@ -73,7 +73,7 @@ pub fn print_receipt<V>(text: &mut String, receipt: &Record<V>) -> Result<(), Me
     Ok(())
 }
 
-/// The clock of a table that was closed, where it is to be told, and each row `closed 1 do CALL` with its answer on the state that the
+/// The clock of a table that was closed, where it is to be printed, and each row `closed 1 do CALL` with its answer on the state that the
 /// table held.
 pub fn print_closed(
     text: &mut String,

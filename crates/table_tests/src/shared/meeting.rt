@@ -12,7 +12,7 @@ const TURNS: u64 = 10_000_000;
 pub enum Order {
     /// Before a commit the first is held until all others have a receipt.
     FirstIsLast,
-    /// Before a commit each is held until all behind it have a receipt.
+    /// Before a commit each is held until all after it have a receipt.
     LastIsFirst,
     /// Each row of a worker is held until all rows above it are answered, or the one that is under way lets it by.
     RowByRow,
@@ -68,7 +68,7 @@ impl Meeting {
         }
     }
 
-    /// The row below so many others is answered. Behind one that was let by, the row goes on that let it by.
+    /// The row below so many others is answered. After one that was let pass, the row continues that let it pass.
     pub fn end_row(&self, above: u64) {
         let before = self.answered.fetch_add(1, Ordering::SeqCst);
         if above <= before {
@@ -77,12 +77,12 @@ impl Meeting {
         }
     }
 
-    /// Something is done that stands for a row, and was not let by.
+    /// Something is done that stands for a row, and was not let pass.
     pub fn end_step(&self) {
         self.end_row(0);
     }
 
-    /// A row that is under way lets the one by that stands below so many others, and is held until that is answered. It was not let by
+    /// A row that is under way lets the one pass that stands below so many others, and is held until that is answered. It was not let pass
     /// itself.
     pub fn let_by(&self, above: u64) {
         self.admitted.store(above, Ordering::SeqCst);

@@ -10,7 +10,7 @@ use tx_table::Block;
 /// There is room for so many receipts of one table before it opens.
 const ROOM: usize = 96;
 
-/// What is printed of a table's rows, and the receipts so far. A want of memory, or another fault, is kept to the end, so that the rows go
+/// What is printed of a table's rows, and the receipts so far. `Memory`, or another fault, is kept to the end, so that the rows go
 /// on after it.
 #[derive(Drop)]
 pub struct Page {
@@ -38,7 +38,7 @@ impl Page {
         matches!(self.fault, Some(Refusal::Memory))
     }
 
-    /// The run of this table fails. A want of memory comes behind any other fault.
+    /// The run of this table fails. `Memory` comes after any other fault.
     pub fn fail(&mut self, refusal: Refusal) {
         match (self.fault, refusal) {
             (Some(_), Refusal::Memory) => {}
@@ -46,14 +46,14 @@ impl Page {
         }
     }
 
-    /// What could not be printed is a want of memory.
+    /// What could not be printed is `Memory`.
     pub fn note(&mut self, is_printed: bool) {
         if !is_printed {
             self.fail(Refusal::Memory);
         }
     }
 
-    /// What is told from now on answers this row.
+    /// What is printed from now on answers this row.
     pub fn begin_row(&mut self, row: &str) {
         self.print(row);
         self.print(" = ");
@@ -63,13 +63,13 @@ impl Page {
         self.print("\n");
     }
 
-    /// What is told in a row goes behind what was told before.
+    /// What is printed in a row goes after what was printed before.
     pub fn say(&mut self, told: &str) {
         self.begin_part();
         self.print(told);
     }
 
-    /// A refusal is told, but for a want of memory.
+    /// A refusal is printed, but for `Memory`.
     pub fn refuse(&mut self, refusal: Refusal) {
         if matches!(refusal, Refusal::Memory) {
             return self.fail(refusal);
@@ -86,7 +86,7 @@ impl Page {
         self.note(is_printed);
     }
 
-    /// The place of a collection is told.
+    /// The place of a collection is printed.
     pub fn say_block(&mut self, block: Block) {
         let Block {
             kind,
@@ -123,7 +123,7 @@ impl Page {
         }
     }
 
-    /// What was done is told, or a refusal.
+    /// What was done is printed, or a refusal.
     pub fn hear_done(&mut self, told: &str, done: Result<(), Refusal>) {
         match done {
             Ok(()) => self.say(told),
@@ -131,7 +131,7 @@ impl Page {
         }
     }
 
-    /// A write is told, if there was one to commit.
+    /// A write is printed, if there was one to commit.
     pub fn hear_write(&mut self, written: Result<Option<Record<u64>>, Refusal>) {
         match written {
             Ok(Some(receipt)) => self.keep(receipt),
@@ -149,7 +149,7 @@ impl Page {
         }
     }
 
-    /// A receipt is told, and joins the others.
+    /// A receipt is printed, and joins the others.
     pub fn keep(&mut self, receipt: Record<u64>) {
         self.begin_part();
         let is_printed = print_receipt(&mut self.text, &receipt).is_ok();
@@ -188,7 +188,7 @@ impl Page {
         self.note(is_printed);
     }
 
-    // What is told in a row has `; ` between.
+    // What is printed in a row has `; ` between.
     fn begin_part(&mut self) {
         if !self.text.as_str().ends_with("= ") {
             self.print("; ");
@@ -196,7 +196,7 @@ impl Page {
     }
 }
 
-/// What a table that was closed held, audited, and all that was told of it, which joins the text. Else it is refused as the page has
+/// What a table that was closed held, audited, and all that was printed of it, which joins the text. Else it is refused as the page has
 /// failed, and `NotIdle` where the receipts do not leave what the table held.
 pub fn end_page(
     text: &mut String,

@@ -1,4 +1,4 @@
-//! A write that a seat commits after a want of memory.
+//! A write that a seat commits after it ran out of memory.
 ghost use Rattle.tx_engine.specs.Ready.{HasBegunSince, IsReady};
 
 use super::pages::Page;

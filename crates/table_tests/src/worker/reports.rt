@@ -5,7 +5,7 @@ use seq_model::{Items, Memory, Record, Refusal};
 use std::fmt::Write;
 use workers::{LastAbort, Report};
 
-/// How many jobs were refused memory.
+/// How many jobs ran out of memory.
 pub fn memory_missed(missed: &[(u64, u64, LastAbort)]) -> u64 {
     let mut count = 0u64;
     for (_, _, cause) in missed {

@@ -80,7 +80,7 @@ fn run_seat<R: Threads + Wait + Sync>(
     go_on(page, table, seat, is_refused)
 }
 
-// Whether any job was refused memory. That is a want of memory unless the jobs wanted it.
+// Whether any job ran out of memory. That is `Memory` of the run unless the jobs wanted it.
 fn hear(page: &mut Page, report: Result<Report<u64>, Memory>, limits: Limits, wants: u64) -> bool {
     match report {
         Ok(report) => hear_report(page, report, limits, wants),
