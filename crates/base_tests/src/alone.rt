@@ -10,9 +10,9 @@ use conflict::{Change, Changes, LocSet};
 use replay_log::{Base, LocationEditions, Log, Touch, Touched};
 use row_parts::{changes_of, print_base, script_of, stripes_in};
 use seq_model::{Held, Memory, Op, Refusal};
-use session_text::{Collection, tokens_of};
 use std::alloc::Global;
 use std::fmt::Write;
+use text_formats::{Collection, tokens_of};
 
 /// No edition that is raised here is so high.
 pub const HIGH: u64 = 1 << 62;

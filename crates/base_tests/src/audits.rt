@@ -3,9 +3,9 @@ use row_parts::{number_in, stripes_in};
 use seq_model::{
     AuditFault, Call, Items, Memory, Op, Record, Refusal, Reply, State, audit, insert_record,
 };
-use session_text::tokens_of;
 use std::alloc::Global;
 use std::fmt::Write;
+use text_formats::tokens_of;
 
 fn head_of(head: &str) -> Result<(u64, bool), Refusal> {
     match head.split_once(' ') {

@@ -1,9 +1,9 @@
 //! Rows on states of the sequential model, on what its refusals print, and on copies of events.
 use row_parts::{from_index, print_held, print_reply, script_of, stripes_in};
 use seq_model::{Call, Event, Held, Memory, Op, Refusal, Request, State};
-use session_text::{Collection, EventLine, Script, number, tokens_of};
 use std::alloc::Global;
 use std::fmt::Write;
+use text_formats::{Collection, EventLine, Script, number, tokens_of};
 
 fn copy_into(
     alloc: Global,

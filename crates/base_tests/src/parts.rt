@@ -5,10 +5,10 @@ use crate::alone::{HIGH, locations_in};
 use conflict::{Editions, LocSet, Table, conflicts};
 use row_parts::{number_in, print_held, print_locations, stripes_in};
 use seq_model::{Held, Memory, Refusal};
-use session_text::tokens_of;
 use smallvec::SmallVec;
 use std::alloc::Global;
 use std::fmt::Write;
+use text_formats::tokens_of;
 
 fn set_of_many(alloc: Global, tokens: &[&str]) -> Result<LocSet, Refusal> {
     let mut locations = SmallVec::new(alloc);

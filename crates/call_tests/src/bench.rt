@@ -9,9 +9,9 @@ use row_parts::{
     changes_of, from_index, print_base, print_held, print_reply, script_of, stripes_in,
 };
 use seq_model::{Call, Held, Memory, Op, Refusal, Reply, Request, State};
-use session_text::{EventLine, Script};
 use shadow::Shadow;
 use std::alloc::Global;
+use text_formats::{EventLine, Script};
 
 /// A collection, and the state of the sequential model after the same calls.
 #[derive(Drop)]

@@ -4,9 +4,9 @@ use conflict::Outcome;
 use replay_log::Base;
 use row_parts::{print_reply, script_of};
 use seq_model::{Memory, Op, Refusal, Request};
-use session_text::EventLine;
 use shadow::{Memo, MemoKind};
 use std::alloc::Global;
+use text_formats::EventLine;
 
 const STRIPES: u32 = 2;
 

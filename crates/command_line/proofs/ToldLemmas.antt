@@ -7,7 +7,7 @@ use Rattle.std.proofs.Math.Seq.{take-add}
 use Rattle.std.proofs.KnownBytes.{Appends-trans}
 use Rattle.std.specs.Io.KnownBytes.{Appends}
 use Rattle.seq_model.specs.declared.refusal.Refusal.TheVariants.{Memory as OutOfMemory}
-use Rattle.file_runs.specs.declared.fault.RunFault.TheVariants.{Refused}
+use Rattle.session_text.specs.declared.fault.RunFault.TheVariants.{Refused}
 use Rattle.command_line.specs.declared.work.Cause.TheVariants.{Ended}
 use Rattle.command_line.specs.declared.work.Task.TheVariants.{OnFile}
 use Rattle.command_line.specs.declared.work.Work.{Work}

@@ -7,17 +7,17 @@ use Rattle.seq_model.specs.declared.refusal.Refusal.{Refusal}
 use Rattle.seq_model.specs.declared.refusal.Refusal.TheVariants.{BadText, Memory as OutOfMemory}
 use Rattle.seq_model.specs.Texts.{refusal_text, too_long_text}
 use Rattle.step_world.specs.Traces.{IsSerialTrace}
-use Rattle.session_text.specs.declared.script.Script.{Script}
-use Rattle.session_text.specs.Scripts.{IsBadLine, IsScriptText}
-use Rattle.file_runs.specs.declared.run.ScriptRun.{ScriptRun}
-use Rattle.file_runs.specs.Audits.{IsAudited}
-use Rattle.file_runs.specs.Plays.{IsRunOf}
-use Rattle.file_runs.specs.Scripts.{IsOpeningOf, IsRefusedScript}
-use Rattle.file_runs.specs.TracePrints.{run_text}
-use Rattle.file_runs.specs.declared.fault.RunFault.{RunFault}
-use Rattle.file_runs.specs.declared.fault.RunFault.TheVariants.{Audit, NotBalanced, Refused}
-use Rattle.file_runs.specs.Faults as faults
-use Rattle.file_runs.specs.Outputs as outputs
+use Rattle.text_formats.specs.declared.script.Script.{Script}
+use Rattle.text_formats.specs.Scripts.{IsBadLine, IsScriptText}
+use Rattle.session_text.specs.declared.run.ScriptRun.{ScriptRun}
+use Rattle.session_text.specs.Audits.{IsAudited}
+use Rattle.session_text.specs.Plays.{IsRunOf}
+use Rattle.session_text.specs.Scripts.{IsOpeningOf, IsRefusedScript}
+use Rattle.session_text.specs.TracePrints.{run_text}
+use Rattle.session_text.specs.declared.fault.RunFault.{RunFault}
+use Rattle.session_text.specs.declared.fault.RunFault.TheVariants.{Audit, NotBalanced, Refused}
+use Rattle.session_text.specs.Faults as faults
+use Rattle.session_text.specs.Outputs as outputs
 use Rattle.served_runs.specs.Drawn.{IsDrawable, IsDrawnOutput}
 use Rattle.served_runs.specs.Runs.{IsServedOutput, IsWantOfMemory}
 use Rattle.command_line.specs.declared.tool.TheConstants.{AUDIT_FAULT, MEMORY, REFUSED}

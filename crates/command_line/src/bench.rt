@@ -18,9 +18,9 @@ use crate::work::TimesForm;
 use clap::error::ErrorKind;
 use clap::{Arg, ArgAction, ArgMatches, Command, Error};
 use served_runs::Drawn;
-use session_text::Options;
 use std::alloc::{AllocError, Global};
 use std::fmt::Write;
+use text_formats::Options;
 
 /// The words that `--times` takes, of which the first stands for none.
 const PROSE: &str = "prose";

@@ -9,18 +9,18 @@ ghost use Rattle.command_line.specs.declared.work.Task.TheVariants.{OnFile};
 ghost use Rattle.command_line.specs.Ends.{AsksForTimes, IsAsked, IsCause, IsDoable, IsFault, IsFaultOf, IsKnownOutput, IsOnDrawn};
 ghost use Rattle.command_line.specs.Ends.{IsOutput, IsOutputOf, IsWithin};
 ghost use Rattle.seq_model.specs.declared.refusal.Refusal.TheVariants.{Memory as OutOfMemory};
-ghost use Rattle.file_runs.specs.declared.fault.RunFault.TheVariants.{Refused};
+ghost use Rattle.session_text.specs.declared.fault.RunFault.TheVariants.{Refused};
 
-use file_runs::{RunFault, audit_run, print_trace, run_script};
 use run_progress::Progress;
 use seq_model::{Memory, Refusal};
 use served_runs::{Drawn, Times, print_drawn, print_times, print_times_as_values, run_drawn};
-use session_text::parse_steps;
+use session_text::{RunFault, audit_run, print_trace, run_script};
 use std::alloc::{AllocError, Global};
 use std::io::Read;
 use std::sync::Wait;
 use std::thread::Threads;
 use std::time::Clock;
+use text_formats::parse_steps;
 
 /// A file is at most this many bytes long.
 pub const FILE_LIMIT: usize = 16_777_216;
@@ -132,7 +132,7 @@ fn bytes_of<H: Threads + Wait + Sync, P: Progress + Sync>(
 {
     match work {
         Work::Step => step(alloc, text),
-        Work::Vacation => file_runs::output_of(alloc, text, progress),
+        Work::Vacation => session_text::output_of(alloc, text, progress),
         Work::Served(workers) => served_runs::output_of(rt, alloc, text, workers, progress),
     }
 }

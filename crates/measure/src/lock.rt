@@ -1,15 +1,15 @@
 //! The same sessions on tables under one lock.
-ghost use Rattle.session_text.specs.Options.{AreWithin};
+ghost use Rattle.text_formats.specs.Options.{AreWithin};
 ghost use Rattle.vac_model.specs.Balanced.{IsBalanced};
 
 use crate::clock::seconds_since;
 use crate::sessions::{lists_of, memory, no_such_sessions};
-use session_text::{Options, opening};
 use std::io;
 use std::rt::Runtime;
 use std::sync::{Mutex, Wait};
 use std::thread::{Threads, map_indices};
 use std::time::Instant;
+use text_formats::{Options, opening};
 use vac_model::{Action, Tables};
 
 /// Tables that are balanced whenever their lock is taken.

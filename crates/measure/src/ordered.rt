@@ -1,12 +1,12 @@
 //! Drawn sessions of one client, one after another on a running world, in microseconds a session.
-ghost use Rattle.session_text.specs.Options.{AreWithin};
+ghost use Rattle.text_formats.specs.Options.{AreWithin};
 
 use crate::clock::seconds_since;
 use crate::sessions::{Mix, SEED, STRIPES, memory, no_such_sessions, options};
-use session_text::{Options, generate, opening};
 use std::io;
 use std::rt::Runtime;
 use std::time::Instant;
+use text_formats::{Options, generate, opening};
 use vac_model::Action;
 use vacation_core::run_in_order;
 

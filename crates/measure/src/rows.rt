@@ -1,11 +1,11 @@
 //! Generated sessions by workers on a shared table, beside the same sessions under one lock.
 use crate::sessions::{Mix, SEED, options};
 use crate::{lock, served};
-use session_text::Options;
 use std::io;
 use std::rt::Runtime;
 use std::sync::Wait;
 use std::thread::Threads;
+use text_formats::Options;
 
 /// How many sessions a round has for each item of a kind, as STAMP has it: so customers have few bookings, however few items there are.
 const SESSIONS_AN_ITEM: u32 = 4;

@@ -1,6 +1,6 @@
 //! Drawn sessions by workers on a shared table.
 ghost use Rattle.std.specs.Prelude.{◌≡◌, ◌≤◌, IfOk, length};
-ghost use Rattle.session_text.specs.Options.{AreWithin};
+ghost use Rattle.text_formats.specs.Options.{AreWithin};
 ghost use Rattle.vac_model.specs.Balanced.{IsBalanced};
 ghost use Rattle.tx_table.specs.Seated.{view};
 ghost use Rattle.tx_engine.specs.Ready.{IsReady};
@@ -10,13 +10,13 @@ use crate::sessions::{STRIPES, lists_of, memory, no_such_sessions};
 use crate::tries::Tries;
 use client_sessions::{Entry, Session, state_of};
 use seq_model::{ACTOR_LIMIT, Items, Memory, Refusal, Shape, State};
-use session_text::{Options, opening};
 use std::alloc::Global;
 use std::io;
 use std::rt::Runtime;
 use std::sync::Wait;
 use std::thread::Threads;
 use std::time::Instant;
+use text_formats::{Options, opening};
 use tx_engine::TxSeat;
 use tx_table::TxTable;
 use vac_model::{Action, Tables};

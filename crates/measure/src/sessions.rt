@@ -1,10 +1,10 @@
 //! The sessions that are run.
-ghost use Rattle.session_text.specs.Options.{AreWithin};
+ghost use Rattle.text_formats.specs.Options.{AreWithin};
 
 use seq_model::Memory;
-use session_text::{Options, generate};
 use std::alloc::Global;
 use std::io;
+use text_formats::{Options, generate};
 use vac_model::Action;
 
 /// What a first round is drawn from.

@@ -1,8 +1,8 @@
 //! Sessions and tables that are drawn from a seed.
 use crate::prints::{name_of, print_named};
 use seq_model::Refusal;
-use session_text::{Options, generate, opening};
 use std::alloc::Global;
+use text_formats::{Options, generate, opening};
 use vac_model::{Action, Ask, Change, Tables};
 
 fn number_in(wide: u64) -> Result<u32, Refusal> {

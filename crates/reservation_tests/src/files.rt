@@ -1,8 +1,8 @@
 //! Session files, and the actions that stand in them.
 use crate::prints::{print_lines, say};
 use seq_model::{Items, Refusal};
-use session_text::{Line, number, parse_sessions};
 use std::alloc::Global;
+use text_formats::{Line, number, parse_sessions};
 use vac_model::{Action, ActionRefusal, ActionReply, Tables};
 
 /// The numbers of a row.

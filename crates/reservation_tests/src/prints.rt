@@ -1,7 +1,7 @@
 //! What actions answer and what tables hold, as text.
 use seq_model::Refusal;
-use session_text::{Line, print_sessions};
 use std::fmt::Write;
+use text_formats::{Line, print_sessions};
 use vac_balance::is_balanced_by_tally;
 use vac_model::{ActionReply, Kind, Tables, Ticket};
 

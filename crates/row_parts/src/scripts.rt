@@ -1,7 +1,7 @@
 //! Rows that spell a script.
 use seq_model::{Memory, Refusal};
-use session_text::{Script, parse_steps};
 use std::alloc::Global;
+use text_formats::{Script, parse_steps};
 
 fn add_lines(lines: &mut String, row: &str) -> Result<(), Memory> {
     for line in row.split("; ") {

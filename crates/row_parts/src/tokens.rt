@@ -1,8 +1,8 @@
 //! Numbers and changes that a row spells.
 use conflict::{Change, Changes};
 use seq_model::{Held, Items, Refusal};
-use session_text::{number, tokens_of};
 use std::alloc::Global;
+use text_formats::{number, tokens_of};
 
 /// The number that a token spells.
 pub fn number_in(token: &str) -> Result<u64, Refusal> {

@@ -1,8 +1,8 @@
 //! What a run reads, as a section spells it, and what it writes to.
-use session_text::number;
 use std::alloc::{AllocError, Global};
 use std::io;
 use std::io::{Read, Write};
+use text_formats::number;
 
 /// How a file ends.
 #[derive(Clone, Copy)]

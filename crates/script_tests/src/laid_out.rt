@@ -1,10 +1,10 @@
 //! A trace that is laid out by hand, and what is printed of it.
 use crate::notices::{narrow, notice_of};
-use file_runs::{ScriptRun, print_trace};
 use seq_model::{Call, Held, Items, Memory, Notice, Op, Record, Refusal, Reply, State};
-use session_text::{Script, number, parse_steps, tokens_of};
+use session_text::{ScriptRun, print_trace};
 use std::alloc::Global;
 use step_world::Trace;
+use text_formats::{Script, number, parse_steps, tokens_of};
 
 /// Prints the trace of these lines:
 ///

@@ -1,6 +1,6 @@
 //! Notices, as their tokens spell them.
 use seq_model::{Answer, Notice, Refusal, Reply};
-use session_text::number;
+use text_formats::number;
 
 /// A number of 32 bits.
 pub fn narrow(token: &str) -> Option<u32> {

@@ -1,9 +1,9 @@
 //! A script, as it was read.
 use seq_model::{Held, Op, Refusal, Request};
-use session_text::{Collection, EventLine, Script, parse_steps};
 use std::alloc::AllocError;
 use std::collections::btree_map::Iter;
 use std::fmt::Write;
+use text_formats::{Collection, EventLine, Script, parse_steps};
 
 /// Prints what was read of a script: its words, its clock, its collections, and its lines.
 pub fn print_script(text: &mut String, lines: &str) -> Result<(), Refusal> {

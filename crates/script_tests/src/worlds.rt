@@ -1,9 +1,9 @@
 //! A world that is fed the events of a script.
 use crate::laid_out::{print_trace_alone, state_in};
 use seq_model::{Event, Items, Memory, Refusal, Shape};
-use session_text::{EventLine, Script, parse_steps};
 use std::alloc::Global;
 use step_world::{World, run_world};
+use text_formats::{EventLine, Script, parse_steps};
 
 /// Prints what has come of the events of a script, of which `A REQUEST` is a request, `A step K` is K steps, whatever they tell, and
 /// `A starve` runs the actor out of memory: by `run_world`, and of a world that is fed them, by `trace` and then by `into_trace`.

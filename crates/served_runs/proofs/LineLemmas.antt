@@ -10,7 +10,7 @@ use Rattle.vac_model.specs.declared.action.Action.{Action}
 use Rattle.client_sessions.specs.declared.entry.Entry.{Entry}
 use Rattle.workers.specs.declared.causes.LastAbort.{LastAbort}
 use Rattle.workers.specs.Tasks.{Outcome, missed_in, receipts_in}
-use Rattle.session_text.specs.declared.session_print.Line.{Line}
+use Rattle.text_formats.specs.declared.session_print.Line.{Line}
 use Rattle.workers.specs.Serving.{all_missed}
 use Rattle.served_runs.specs.Lines.{AreLinesOf, IsLineOf, missed_line}
 use Rattle.served_runs.specs.Unread.{AreAllLines, AreAllOwn, AreAllUnread, AreOwn, AreUnread, HasUnread, IsBeyond, IsFirst, IsNext}

@@ -12,8 +12,8 @@ use Rattle.workers.specs.Deals.{AreDealt, every}
 use Rattle.seq_model.proofs.LawLemmas.{runs_have_no_fault}
 use Rattle.seq_model.specs.Audit.{IsAuditFault}
 use Rattle.seq_model.specs.Contents.{Contents}
-use Rattle.session_text.specs.Openings.{opening_of}
-use Rattle.session_text.specs.Drawing.{sessions_of}
+use Rattle.text_formats.specs.Openings.{opening_of}
+use Rattle.text_formats.specs.Drawing.{sessions_of}
 use Rattle.vac_model.specs.declared.action.Action.{Action}
 use Rattle.vac_model.specs.Actions.{IsAllowed}
 use Rattle.vac_model.specs.Holdings.{Holdings}
@@ -22,18 +22,18 @@ use Rattle.client_sessions.specs.Holding.{state_of}
 use Rattle.workers.specs.Tasks.{Outcome}
 use Rattle.workers.specs.declared.served.Served.{Served}
 use Rattle.workers.specs.Serving.{AreAllOutcomes, AreAllowed, AreOwnOutcomes, IsServed}
-use Rattle.session_text.specs.declared.session_print.Line.{Line}
-use Rattle.session_text.specs.Sessions.{IsUnreadable}
-use Rattle.file_runs.specs.declared.fault.RunFault.{RunFault}
-use Rattle.file_runs.specs.declared.fault.RunFault.TheVariants.{Audit, NotBalanced, Refused}
-use Rattle.file_runs.specs.Faults.{IsFault}
-use Rattle.file_runs.specs.Findings.{IsFinding, IsSound}
+use Rattle.text_formats.specs.declared.session_print.Line.{Line}
+use Rattle.text_formats.specs.Sessions.{IsUnreadable}
+use Rattle.session_text.specs.declared.fault.RunFault.{RunFault}
+use Rattle.session_text.specs.declared.fault.RunFault.TheVariants.{Audit, NotBalanced, Refused}
+use Rattle.session_text.specs.Faults.{IsFault}
+use Rattle.session_text.specs.Findings.{IsFinding, IsSound}
 use Rattle.served_runs.specs.declared.drawn.Drawn.{Drawn}
 use Rattle.served_runs.specs.declared.file.TheConstants.{TRIES}
 use Rattle.served_runs.specs.Drawn.{AreDrawn, IsDrawnRun}
 use Rattle.served_runs.specs.Lines.{AreLinesOf, AreToldOf}
-use Rattle.file_runs.specs.declared.printing.SessionRun.{SessionRun}
-use Rattle.file_runs.specs.declared.printing.TheConstants.{STRIPES}
+use Rattle.session_text.specs.declared.printing.SessionRun.{SessionRun}
+use Rattle.session_text.specs.declared.printing.TheConstants.{STRIPES}
 use Rattle.served_runs.specs.Runs.{IsInspected, IsServedRun, IsWantOfMemory, receipts_of}
 use Rattle.served_runs.specs.Unread.{AreAllOwn, AreAllUnread, AreOwn, IsTold, IsToldRun}
 use Rattle.served_runs.proofs.LineLemmas.{lines_at}

@@ -1,11 +1,11 @@
 -- What comes of drawn sessions.
 use Rattle.std.specs.Prelude.{◌≡◌, ◌≤◌, ◌+◌, ◌<◌, ℕ, List, [], ◌∷◌, ◌++◌, codes, get_or, length}
 use Rattle.std.specs.Fmt.{decimal}
-use Rattle.session_text.specs.Openings.{opening_of}
-use Rattle.session_text.specs.Options.{AreWithin}
-use Rattle.session_text.specs.Drawing.{sessions_of}
+use Rattle.text_formats.specs.Openings.{opening_of}
+use Rattle.text_formats.specs.Options.{AreWithin}
+use Rattle.text_formats.specs.Drawing.{sessions_of}
 use Rattle.vac_model.specs.declared.action.Action.{Action}
-use Rattle.file_runs.specs.SessionPrints.{ending}
+use Rattle.session_text.specs.SessionPrints.{ending}
 use Rattle.workers.specs.declared.served.Served.{Served}
 use Rattle.served_runs.specs.declared.drawn.Drawn.{Drawn}
 use Rattle.served_runs.specs.Runs.{IsInspected}

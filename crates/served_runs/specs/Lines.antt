@@ -6,9 +6,9 @@ use Rattle.client_sessions.specs.declared.entry.Entry.{Entry}
 use Rattle.workers.specs.declared.causes.LastAbort.{LastAbort}
 use Rattle.workers.specs.declared.causes.LastAbort.TheVariants as last
 use Rattle.workers.specs.Tasks.{Outcome}
-use Rattle.session_text.specs.declared.session_print.Line.{Line}
-use Rattle.session_text.specs.declared.session_print.Line.TheVariants as line
-use Rattle.file_runs.specs.Receipts.{IsLine}
+use Rattle.text_formats.specs.declared.session_print.Line.{Line}
+use Rattle.text_formats.specs.declared.session_print.Line.TheVariants as line
+use Rattle.session_text.specs.Receipts.{IsLine}
 
 abbrev pub missed_line : LastAbort → Line
 missed_line (last.Refused refusal) = line.Refused refusal

@@ -10,8 +10,8 @@ use Rattle.client_sessions.specs.declared.entry.Entry.{Entry}
 use Rattle.client_sessions.specs.Sessions.{session}
 use Rattle.workers.specs.declared.causes.LastAbort.{LastAbort}
 use Rattle.workers.specs.Tasks.{Outcome, missed_in, receipts_in}
-use Rattle.session_text.specs.declared.session_print.Line.{Line}
-use Rattle.file_runs.specs.declared.printing.SessionRun.{SessionRun}
+use Rattle.text_formats.specs.declared.session_print.Line.{Line}
+use Rattle.session_text.specs.declared.printing.SessionRun.{SessionRun}
 use Rattle.workers.specs.declared.served.Served.{Served}
 use Rattle.workers.specs.Serving.{all_missed}
 use Rattle.served_runs.specs.declared.file.TheConstants.{TRIES}

@@ -1,11 +1,11 @@
 //! The receipts of the workers are audited, and the tables looked through.
 ghost use Rattle.std.specs.Prelude.{◌≡◌, IfErr, IfOk, OnOk, flat_map};
-ghost use Rattle.file_runs.specs.Findings.{IsFinding, IsSound};
+ghost use Rattle.session_text.specs.Findings.{IsFinding, IsSound};
 ghost use Rattle.served_runs.specs.Runs as specs;
 
 use client_sessions::Entry;
-use file_runs::{RunFault, inspect};
 use seq_model::{Items, Memory, Record, State};
+use session_text::{RunFault, inspect};
 use std::alloc::Global;
 use vac_model::Tables;
 use workers::{Report, Served};

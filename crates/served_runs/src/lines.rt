@@ -9,11 +9,11 @@ ghost use Rattle.served_runs.specs.Lines as specs;
 ghost use Rattle.served_runs.specs.Unread.{AreAllUnread, AreUnread, HasAllUnread, HasNext, HasUnread, IsFirst, IsNext, IsTold};
 
 use client_sessions::{Entry, Session};
-use file_runs::line_of;
 use seq_model::{ACTOR_LIMIT, Memory, Record};
-use session_text::Line;
+use session_text::line_of;
 use std::alloc::Global;
 use std::collections::VecDeque;
+use text_formats::Line;
 use workers::{LastAbort, Report, gather};
 
 /// A worker, the place of a job in its list, and why that one has no receipt.

@@ -1,8 +1,8 @@
 //! What came of sessions, as text.
 use client_sessions::{Entry, tables_of};
 use seq_model::{Items, Record, Refusal};
-use session_text::{Line, print_sessions};
 use std::fmt::Write;
+use text_formats::{Line, print_sessions};
 use vac_model::{ActionReply, Tables};
 use vacation_core::{Ordered, VacTrace};
 

@@ -3,8 +3,8 @@ ghost use Rattle.std.specs.Prelude.{IfOk};
 ghost use Rattle.vac_model.specs.Balanced.{IsBalanced};
 
 use seq_model::{Items, Refusal};
-use session_text::{number, parse_sessions};
 use std::alloc::Global;
+use text_formats::{number, parse_sessions};
 use vac_model::{Action, Tables};
 use vacation_core::VacEvent;
 

@@ -1,15 +1,5 @@
-pub mod NumberLemmas
-pub mod CutLemmas
-pub mod ReadingLemmas
-pub mod PairLemmas
-pub mod EventLemmas
-pub mod EntryLemmas
+mod LeadLemmas
+mod PlayLemmas
+mod ScriptRunLemmas
 pub mod LineLemmas
-pub mod PrintLemmas
-pub mod AskLemmas
-pub mod ChangeLemmas
-pub mod ActionLemmas
-pub mod OpeningLemmas
-pub mod SessionLemmas
-pub mod DrawLemmas
-pub mod DrawnOpeningLemmas
+pub mod FileRunLemmas

@@ -1,15 +1,19 @@
-pub mod Tokens
-pub mod Cuts
-pub mod Readings
-pub mod ScriptTokens
-pub mod Requests
-pub mod Events
-pub mod ScriptLines
-pub mod Scripts
-pub mod SessionLines
-pub mod Sessions
+pub mod Faults
+pub mod Findings
 pub mod SessionPrints
-pub mod Draws
-pub mod Openings
-pub mod Options
-pub mod Drawing
+pub mod Texts
+pub mod Scripts
+pub mod TracePrints
+pub mod Worlds
+pub mod Plays
+pub mod Audits
+pub use Rattle.text_formats.specs.ScriptLines as ScriptLines
+pub use Rattle.text_formats.specs.Scripts as ScriptTexts
+pub use Rattle.text_formats.specs.SessionLines as SessionLines
+pub use Rattle.text_formats.specs.SessionPrints as SessionPrints
+pub use Rattle.text_formats.specs.Sessions as SessionTexts
+pub use Rattle.text_formats.specs.Openings as DrawnOpenings
+pub use Rattle.text_formats.specs.Drawing as DrawnSessions
+pub mod Receipts
+pub mod Outputs
+pub mod Runs

@@ -1,54 +1,37 @@
--- The grammar of whole scripts: lines, each ended by a line feed, of tokens with one space between.
-use Rattle.std.specs.Prelude.{◌≡◌, ℕ, List, [], ◌∷◌, ◌++◌, Option, Some, None, ⊤}
-use Rattle.std.specs.Str.{IsUtf8}
+-- What a script opens, and why its opening is refused.
+use Rattle.std.specs.Prelude.{◌≡◌, ◌⊎◌, ℕ, List, map, All, ⊤}
 use Rattle.seq_model.specs.declared.refusal.Refusal.{Refusal}
-use Rattle.seq_model.specs.declared.refusal.Refusal.TheVariants.{BadText, Memory as OutOfMemory}
-use Rattle.session_text.specs.declared.script.Script.{Script}
-use Rattle.session_text.specs.declared.script_line.ScriptLine.{ScriptLine}
-use Rattle.session_text.specs.declared.script_line.ScriptLine.TheVariants as line
-use Rattle.session_text.specs.declared.script_parser.Part.{Part}
-use Rattle.session_text.specs.declared.script_parser.Part.TheVariants as part
-use Rattle.session_text.specs.ScriptLines.{IsLine}
-use Rattle.session_text.specs.Cuts.{pieces, tokens}
-use Rattle.session_text.specs.Readings.{IsBad, Reads}
+use Rattle.seq_model.specs.declared.refusal.Refusal.TheVariants.{TooLong, Memory as OutOfMemory}
+use Rattle.seq_model.specs.Calls.{IsWithinLimits}
+use Rattle.seq_model.specs.Refusals.{IsTooLong}
+use Rattle.seq_model.specs.Contents.{Contents}
+use Rattle.text_formats.specs.declared.script.Script.{Script}
+use Rattle.replay_log.specs.Worlds.{World}
+use Rattle.world_table.specs.Openings.{IsWithin, world_of}
 
--- The parts of a script come in their order: where a line may stand, the first part that the next line may belong
--- to. Words and clock come once.
-abbrev pub part_behind : Part → ScriptLine → Option Part
-part_behind part.Words (line.Words values) = Some part.Clock
-part_behind part.Words (line.Clock clock) = Some part.Collections
-part_behind part.Clock (line.Clock clock) = Some part.Collections
-part_behind part.Words (line.Holds collection) = Some part.Collections
-part_behind part.Clock (line.Holds collection) = Some part.Collections
-part_behind part.Collections (line.Holds collection) = Some part.Collections
-part_behind at (line.Event event) = Some part.Events
-part_behind at other = None
+-- the words and the collections of the script's header
+abbrev pub opening_of : Script → Contents ℕ
+opening_of script = record { words = script.words; held = map (λ c. c.held) script.collections }
 
--- what a line adds to a script
-abbrev pub with_line : Script → ScriptLine → Script
-with_line script (line.Words values) = record script { words = values }
-with_line script (line.Clock clock) = record script { clock = clock }
-with_line script (line.Holds collection) = record script { collections = script.collections ++ collection ∷ [] }
-with_line script (line.Event event) = record script { lines = script.lines ++ event ∷ [] }
+abbrev pub stripes_of : Script → List ℕ
+stripes_of script = map (λ c. c.stripes) script.collections
 
-abbrev pub nothing : Script
-nothing = record { words = []; clock = 0; collections = []; lines = [] }
+pub record IsOpeningOf (script : Script) (opening : Contents ℕ) : Type 0 where
+  pub words : opening.words ≡ script.words
+  pub held : opening.held ≡ map (λ c. c.held) script.collections
 
--- these bytes are this line, which may stand here
-pub record IsNext (at : Part) (bytes : List ℕ) (read : ScriptLine) (behind : Part) : Type 0 where
-  pub utf8 : IsUtf8 bytes
-  pub spelled : IsLine (tokens bytes) read
-  pub in_order : part_behind at read ≡ Some behind
+-- the world that the header opens on this state
+abbrev pub world_in : Script → Contents ℕ → World ℕ
+world_in script opening = world_of (stripes_of script) script.clock opening
 
-abbrev pub IsScriptText : List ℕ → Script → Type 0
-IsScriptText text script = Reads IsNext with_line part.Words nothing (pieces text) script
+-- its collections are refused: one is beyond its limits, or a growth was refused
+abbrev pub HasRefusedCollections : Script → Refusal → Type 0
+HasRefusedCollections script TooLong = ¬ All IsWithinLimits (opening_of script).held
+HasRefusedCollections script OutOfMemory = ⊤
+HasRefusedCollections script refusal = ⊥
 
--- the line with this number, counted from 1, is the first that is wrong
-abbrev pub IsBadLine : List ℕ → ℕ → Type 0
-IsBadLine text n = IsBad IsNext part.Words (pieces text) n
-
--- why a text is not read: a line is outside the grammar, or a growth was refused
-abbrev pub IsUnreadable : List ℕ → Refusal → Type 0
-IsUnreadable text (BadText line) = IsBadLine text line
-IsUnreadable text OutOfMemory = ⊤
-IsUnreadable text refusal = ⊥
+-- they are, or its world refuses the opening: TooLong where it is beyond the limits of a world, else for want of memory
+abbrev pub IsRefusedScript : Script → Refusal → Type 0
+IsRefusedScript script refusal =
+    HasRefusedCollections script refusal
+    ⊎ (All IsWithinLimits (opening_of script).held × IsTooLong refusal (IsWithin (stripes_of script) script.clock (opening_of script)))

@@ -1,38 +1,34 @@
-//! The texts of step scripts and session files: how they are read, drawn from a seed, and printed.
+//! Step scripts and session files are read, run, audited and printed.
 //!
-//! Each line ends with a line feed, its tokens stand with one space between, and a number is decimal ([`first_line`], [`tokens_of`],
-//! [`number`]). A *step script* lays out a world and says, event by event, what happens in it; [`parse_steps`] reads one. A *session file*
-//! says which items there are and, line by line, what clients ask for: each line is a session. [`parse_sessions`] reads one, and
-//! [`print_sessions`] prints what became of each session and what the tables hold then. The grammars are the definitions `IsScriptText`
-//! and `IsSessionText`, the print is `printed`; docs/formats.md has them in words.
+//! [`run_script`] feeds a script's events to a world, [`audit_run`] audits the trace, and [`print_trace`] prints it. [`output_of`] reads a
+//! session file, has its sessions run one after another on a world, has their receipts audited and the tables looked through
+//! ([`run_sessions`], [`inspect`]), and prints what became of each session and what the tables hold ([`text_of`]). What a session answered
+//! is read off its receipt, the calls with their replies, so the print is made from actions and receipts alone. A [`RunFault`] says why
+//! there is nothing to print.
 //!
-//! [`generate`] draws sessions that clients might ask for, and [`opening`] tables to begin with. Each worker has a generator of its own, of
-//! the same seed, and the tables have one, too: so what is drawn for a worker hangs on the seed, the worker's number and the [`Options`]
-//! alone. What is drawn, draw by draw, is a definition (`specs/Drawing.antt`, `specs/Openings.antt`), in words in docs/formats.md.
+//! Texts are read, drawn from a seed and printed by `text_formats`, whose names are handed on.
 #![tactic(auto)]
 
-mod cut;
-mod decimal;
-mod draws;
-mod event;
-mod options;
-mod pairs;
-mod request;
-mod script;
-mod script_line;
-mod script_parser;
-mod session_line;
-mod session_parser;
-mod session_print;
-mod sessions;
-mod tables;
+mod audit;
+mod fault;
+mod inspection;
+mod lines;
+mod output;
+mod print;
+mod printing;
+mod run;
+mod runs;
 
-pub use cut::{first_line, tokens_of};
-pub use decimal::number;
-pub use options::Options;
-pub use script::{Collection, EventLine, STEP_LIMIT, Script};
-pub use script_parser::parse_steps;
-pub use session_parser::parse_sessions;
-pub use session_print::{Line, print_sessions};
-pub use sessions::generate;
-pub use tables::opening;
+pub use audit::audit_run;
+pub use fault::RunFault;
+pub use inspection::inspect;
+pub use lines::{line_of, lines_of};
+pub use output::output_of;
+pub use print::print_trace;
+pub use printing::{STRIPES, SessionRun, text_of, with_ending};
+pub use run::{ScriptRun, run_script};
+pub use runs::run_sessions;
+pub use text_formats::{
+    Collection, EventLine, Line, Options, STEP_LIMIT, Script, generate, opening, parse_sessions,
+    parse_steps, print_sessions,
+};

@@ -10,9 +10,9 @@ mod served;
 
 use seq_model::Refusal;
 use served::{Options, serve_sessions};
-use session_text::number;
 use std::sync::Wait;
 use std::thread::Threads;
+use text_formats::number;
 
 /// The sessions of this session file, served as these words say.
 pub fn answer_sessions<R: Threads + Wait + Sync>(

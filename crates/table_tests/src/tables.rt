@@ -10,9 +10,9 @@ use crate::worker::retries::retry_rows;
 use crate::worker::runs::run_lists;
 use row_parts::script_of;
 use seq_model::{Refusal, State};
-use session_text::{Script, number};
 use std::sync::Wait;
 use std::thread::Threads;
+use text_formats::{Script, number};
 use tx_engine::TxSeat;
 use tx_table::TxTable;
 

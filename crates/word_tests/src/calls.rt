@@ -1,6 +1,6 @@
 //! What a row asks for.
-use session_text::number;
 use std::alloc::{AllocError, AllocFailed};
+use text_formats::number;
 
 /// Why a row has no answer.
 #[derive(Clone, Copy)]

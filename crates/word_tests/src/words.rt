@@ -1,9 +1,9 @@
 //! Moves of actors on a table of words.
 use crate::calls::{Call, RowError, call_of, location};
-use session_text::number;
 use std::alloc::Global;
 use std::fmt::Write;
 use step_core::{WordAnswer, WordRecord, WordRefusal, WordRequest, Words};
+use text_formats::number;
 
 // What a move is answered.
 type Answer = Result<Option<WordAnswer>, WordRefusal>;

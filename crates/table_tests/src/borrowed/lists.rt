@@ -2,8 +2,8 @@
 use super::calls::Placed;
 use row_parts::script_of;
 use seq_model::{Refusal, Request};
-use session_text::EventLine;
 use std::alloc::Global;
+use text_formats::EventLine;
 
 /// The calls of a script's lines with `; ` between.
 pub fn calls_of(alloc: Global, row: &str) -> Result<Vec<Placed<u64>>, Refusal> {

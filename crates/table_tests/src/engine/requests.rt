@@ -3,7 +3,7 @@ ghost use Rattle.table_tests.specs.Fit.{IsFit};
 
 use crate::shared::{Listed, Meeting, Page};
 use seq_model::{Call, Refusal, Request};
-use session_text::EventLine;
+use text_formats::EventLine;
 use tx_engine::{Attempt, Pause, TxSeat, attempt_with};
 use tx_table::TxTable;
 

@@ -7,8 +7,8 @@ use crate::borrowed::transacted::answer_transaction;
 use crate::shared::{Meeting, Order, Page, job_of, learn, say_last};
 use row_parts::script_of;
 use seq_model::Refusal;
-use session_text::{EventLine, Script, number};
 use std::alloc::Global;
+use text_formats::{EventLine, Script, number};
 use tx_engine::TxSeat;
 use tx_table::TxTable;
 

@@ -2,8 +2,8 @@
 use crate::shared::print_receipt;
 use client_sessions::Entry;
 use seq_model::{Items, Memory, Record, Refusal};
-use session_text::print_sessions;
 use std::fmt::Write;
+use text_formats::print_sessions;
 use vac_model::Tables;
 use workers::{LastAbort, Report};
 

@@ -6,10 +6,10 @@ use super::printed::{is_refused, print_served};
 use crate::shared::{Meeting, Order, audit_receipts};
 use client_sessions::{Entry, state_of};
 use seq_model::{Items, Record, Refusal, State};
-use session_text::parse_sessions;
 use std::alloc::Global;
 use std::sync::Wait;
 use std::thread::Threads;
+use text_formats::parse_sessions;
 use vac_model::{Action, Tables};
 use workers::{Report, Served, deal, serve};
 

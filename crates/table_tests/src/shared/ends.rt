@@ -5,9 +5,9 @@ use super::pages::Page;
 use super::places::say_left;
 use row_parts::{print_reply, script_of};
 use seq_model::{AuditFault, Call, Memory, Record, Refusal, Reply, Request, State, Value, audit};
-use session_text::EventLine;
 use std::alloc::Global;
 use std::fmt::Write;
+use text_formats::EventLine;
 use tx_engine::TxSeat;
 use tx_table::TxTable;
 

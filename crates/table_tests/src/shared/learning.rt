@@ -3,7 +3,7 @@ ghost use Rattle.tx_engine.specs.Ready.{IsReady};
 
 use super::pages::Page;
 use seq_model::Refusal;
-use session_text::number;
+use text_formats::number;
 use tx_engine::TxSeat;
 use tx_table::TxTable;
 

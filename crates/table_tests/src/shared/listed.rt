@@ -2,8 +2,8 @@
 use jobs::{Ask, Job};
 use row_parts::script_of;
 use seq_model::{Memory, Refusal, Reply, Request};
-use session_text::{EventLine, Script};
 use std::alloc::Global;
+use text_formats::{EventLine, Script};
 
 /// A job that a row spells.
 #[derive(Drop)]

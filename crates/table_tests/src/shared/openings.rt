@@ -4,8 +4,8 @@ ghost use Rattle.tx_table.specs.Seated.{view};
 ghost use Rattle.tx_engine.specs.Ready.{IsReady};
 
 use seq_model::{Held, Items, Memory, Refusal, Shape, State};
-use session_text::Script;
 use std::alloc::Global;
+use text_formats::Script;
 use tx_engine::TxSeat;
 use tx_table::TxTable;
 

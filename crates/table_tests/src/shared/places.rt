@@ -4,7 +4,7 @@ ghost use Rattle.std.specs.Prelude.{◌≡◌, ◌<◌};
 use super::pages::Page;
 use row_parts::print_base;
 use seq_model::Refusal;
-use session_text::number;
+use text_formats::number;
 use tx_table::{Block, Closed, TxTable};
 
 /// Answers each row `the words`, how many there are, and `the block 0`, where this collection lies.

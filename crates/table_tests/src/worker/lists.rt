@@ -1,8 +1,8 @@
 //! The lists of jobs that rows spell.
 use crate::shared::{Listed, Order, job_of};
 use seq_model::{Memory, Refusal};
-use session_text::number;
 use std::alloc::Global;
+use text_formats::number;
 
 /// How often a job is attempted at most, how many workers meet, and in which order they go on. Of a crowd none meets, and no numbers are
 /// told: they depend on how its workers stand in each other's way.

@@ -2,7 +2,7 @@ use Rattle.std.proofs.Common.{◌∙◌, subst, List}
 use Rattle.std.specs.Prelude.{IfErr, OnOk}
 use Rattle.seq_model.specs.declared.record.Record.{Record}
 use Rattle.client_sessions.specs.declared.entry.Entry.{Entry}
-use Rattle.file_runs.specs.Findings.{IsFinding, IsSound}
+use Rattle.session_text.specs.Findings.{IsFinding, IsSound}
 use Rattle.served_runs.proofs.inspection.look_through.Goals as goal
 
 pub returns-clause-sound : goal.returns-clause-sound

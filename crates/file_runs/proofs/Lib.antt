@@ -1,5 +1,0 @@
-mod LeadLemmas
-mod PlayLemmas
-mod ScriptRunLemmas
-pub mod LineLemmas
-pub mod FileRunLemmas

@@ -1,5 +1,0 @@
-use Rattle.std.proofs.Common.{◌≡◌, take, map}
-use Rattle.file_runs.proofs.run.opening_of.Given as goal
-
-abbrev pub invariant-loop-collection : goal.invariant-loop-collection
-invariant-loop-collection l = l.held.items ≡ map (λ c. c.held) (take l.collection-index l.collection-items)

@@ -1,8 +1,0 @@
-use Rattle.std.proofs.Common.{◌≡◌, ◌++◌, take}
-use Rattle.std.specs.List.{flat_map}
-use Rattle.std.specs.String.{string_bytes}
-use Rattle.session_text.specs.SessionPrints.{number_text}
-use Rattle.session_text.proofs.session_print.print_numbers.Given as goal
-
-abbrev pub invariant-loop-number : goal.invariant-loop-number
-invariant-loop-number l = string_bytes l.text ≡ string_bytes l.fn.text ++ flat_map number_text (take l.number-index l.numbers)

@@ -1,8 +1,0 @@
-use Rattle.std.proofs.Common.{◌≡◌, ◌++◌, take}
-use Rattle.std.specs.List.{flat_map}
-use Rattle.std.specs.String.{string_bytes}
-use Rattle.session_text.specs.SessionPrints.{wait_text}
-use Rattle.session_text.proofs.session_print.print_waits.Given as goal
-
-abbrev pub invariant-loop-wait : goal.invariant-loop-wait
-invariant-loop-wait l = string_bytes l.text ≡ string_bytes l.fn.text ++ flat_map wait_text (take l.wait-index l.waits)

@@ -1,7 +1,0 @@
-use Rattle.rand.specs.Draw.{Gives}
-use Rattle.session_text.specs.Draws.{times}
-use Rattle.session_text.specs.Drawing.{ask_drawn}
-use Rattle.session_text.proofs.sessions.reservation.Given as goal
-
-abbrev pub invariant-loop : goal.invariant-loop
-invariant-loop g l = Gives (times l.counter (ask_drawn l.greatest)) (g.R.Rng.stream l.initial.random) l.asks (g.R.Rng.stream l.random)

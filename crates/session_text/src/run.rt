@@ -1,0 +1,254 @@
+//! Runs a script.
+ghost use Rattle.std.specs.Prelude.{◌≡◌, ℕ, map, All, IsOk, IfOk, IfErr, OnOk};
+ghost use Rattle.seq_model.specs.Calls.{IsWithinLimits};
+ghost use Rattle.seq_model.specs.Contents.{Contents};
+ghost use Rattle.replay_log.specs.Worlds.{World as PureWorld};
+ghost use Rattle.step_world.specs.Parts.{IsWorld};
+ghost use Rattle.step_world.specs.Reached.{IsReached};
+ghost use Rattle.step_world.specs.Serial.{IsFrom};
+ghost use Rattle.step_world.specs.Traces.{IsSerialTrace, IsTraceOf};
+ghost use Rattle.session_text.specs.Scripts as opens;
+ghost use Rattle.session_text.specs.Scripts.{HasRefusedCollections, IsOpeningOf, IsRefusedScript, world_in};
+ghost use Rattle.session_text.specs.Plays.{ArePlays, AreSteps, AreTurns, HasPlayed, IsOne, IsPlay, IsRunOf, Keeps, whose, is_request};
+ghost use Rattle.session_text.specs.Plays.{noted, waits};
+ghost use Rattle.text_formats.specs.declared.script.TheConstants.{STEP_LIMIT};
+
+use seq_model::{Event, Items, Memory, Notice, Refusal, Request, SEATS, Shape, State};
+use std::alloc::Global;
+use step_world::{Trace, World};
+use text_formats::{EventLine, STEP_LIMIT, Script};
+
+/// What came of a script.
+#[derive(Drop)]
+pub struct ScriptRun {
+    /// The notices other than `Quiet`, in their order.
+    pub notices: Items<Notice<u64>>,
+    pub opening: State<u64>,
+    pub trace: Trace<u64>,
+}
+
+/// Opens the script's world, and feeds it the script's events.
+///
+/// `TooLong` where a collection of the header is beyond a limit, else as `World::open`, and `Memory` where a growth was
+/// refused.
+pub fn run_script(alloc: Global, script: &Script) -> Result<ScriptRun, Refusal>
+    ensures opening { IfOk result (λ run. IsOpeningOf script.now run.opening) }
+    ensures serial { IfOk result (λ run. IsSerialTrace run.opening run.trace) }
+    ensures run { IfOk result (IsRunOf script.now) }
+    ensures refused { IfErr result (IsRefusedScript script.now) }
+{
+    let opening = opening_of(alloc, script)?;
+    run_from(alloc, script, opening)
+}
+
+fn run_from(alloc: Global, script: &Script, opening: State<u64>) -> Result<ScriptRun, Refusal>
+    requires opening { IsOpeningOf script.now opening }
+    requires within { All IsWithinLimits (opens.opening_of script.now).held }
+    ensures opening { IfOk result (λ run. IsOpeningOf script.now run.opening) }
+    ensures serial { IfOk result (λ run. IsSerialTrace run.opening run.trace) }
+    ensures run { IfOk result (IsRunOf script.now) }
+    ensures refused { IfErr result (IsRefusedScript script.now) }
+{
+    let waiting = vec![in alloc; false; SEATS]?;
+    let world = open(alloc, script, &opening)?;
+    let mut runner = Runner {
+        world,
+        notices: Items::new(alloc),
+        waiting,
+    };
+    runner.run_lines(script.lines.as_slice())?;
+    let run = runner.into_run(opening)?;
+    Ok(run)
+}
+
+fn opening_of(alloc: Global, script: &Script) -> Result<State<u64>, Refusal>
+    ensures opening { IfOk result (IsOpeningOf script.now) }
+    ensures within { IsOk result → All IsWithinLimits (opens.opening_of script.now).held }
+    ensures refused { IfErr result (HasRefusedCollections script.now) }
+{
+    let words = Vec::from_slice(alloc, script.words.as_slice())?;
+    let mut held = Vec::new(alloc);
+    for collection in script.collections.as_slice() {
+        held.push(collection.held.try_copy(alloc)?)?;
+    }
+    State::new(words, held)
+}
+
+fn shape_of(alloc: Global, script: &Script) -> Result<Shape, Memory>
+    ensures stripes { IfOk result (λ shape. shape.stripes ≡ map (λ c. c.stripes) script.now.collections) }
+    ensures clock { IfOk result (λ shape. shape.clock ≡ script.now.clock) }
+{
+    let mut stripes = Vec::new(alloc);
+    for collection in script.collections.as_slice() {
+        stripes.push(collection.stripes)?;
+    }
+    Ok(Shape {
+        stripes: Items::from_vec(stripes),
+        clock: script.clock,
+    })
+}
+
+// The world of the script's header, which opens on this state.
+fn open(alloc: Global, script: &Script, opening: &State<u64>) -> Result<World<u64>, Refusal>
+    requires opening { IsOpeningOf script.now opening.now }
+    requires within { All IsWithinLimits (opens.opening_of script.now).held }
+    ensures world { IfOk result (λ world. IsWorld world.parts (world_in script.now opening.now)) }
+    ensures reached { IsOk result → IsReached opening.now (world_in script.now opening.now) }
+    ensures refused { IfErr result (IsRefusedScript script.now) }
+{
+    let shape = shape_of(alloc, script)?;
+    let state = opening.try_copy(alloc)?;
+    World::open(alloc, &shape, state)
+}
+
+#[derive(Drop)]
+struct Runner {
+    world: World<u64>,
+    notices: Items<Notice<u64>>,
+    /// By actor: whether a request of it is unanswered.
+    waiting: Vec<bool>,
+}
+
+impl Runner {
+    fn run_lines(&mut self, lines: &[EventLine]) -> Result<(), Memory>
+        ensures { OnOk result (HasPlayed (Keeps (ArePlays self.old.waiting.items lines.now) self.old.waiting.items self.new.waiting.items)
+            self.old.world.parts self.old.notices self.new.world.parts self.new.notices) }
+    {
+        for line in lines {
+            self.run_line(line)?;
+        }
+        Ok(())
+    }
+
+    fn into_run(self, opening: State<u64>) -> Result<ScriptRun, Memory>
+        ensures opening { IfOk result (λ run. run.opening ≡ opening) }
+        ensures notices { IfOk result (λ run. run.notices ≡ self.notices) }
+        ensures trace { IfOk result (λ run. (o : Contents ℕ) (w : PureWorld ℕ) → IsReached o w → IsWorld self.world.parts w
+            → IsTraceOf w run.trace) }
+        ensures serial { IfOk result (λ run. (o : Contents ℕ) → IsFrom o self.world.parts → IsSerialTrace o run.trace) }
+    {
+        let Runner {
+            world,
+            notices,
+            waiting: _,
+        } = self;
+        let trace = world.into_trace()?;
+        Ok(ScriptRun {
+            notices,
+            opening,
+            trace,
+        })
+    }
+
+    fn run_line(&mut self, line: &EventLine) -> Result<(), Memory>
+        ensures { OnOk result (HasPlayed (Keeps (IsPlay self.old.waiting.items line.now) self.old.waiting.items self.new.waiting.items)
+            self.old.world.parts self.old.notices self.new.world.parts self.new.notices) }
+    {
+        match line {
+            EventLine::Ask(actor, request) => {
+                self.ask(*actor, request)?;
+                Ok(())
+            }
+            EventLine::Do(actor, request) => {
+                if self.ask(*actor, request)? {
+                    self.steps(*actor, STEP_LIMIT)?;
+                }
+                Ok(())
+            }
+            EventLine::Steps(actor, count) => self.steps(*actor, *count),
+            EventLine::Starve(actor) => {
+                self.happen(Event::Starve(*actor))?;
+                Ok(())
+            }
+            EventLine::Alternate(first, second) => self.alternate(*first, *second),
+        }
+    }
+
+    // Whether the event told nothing.
+    fn happen(&mut self, event: Event<u64>) -> Result<bool, Memory>
+        ensures { IfOk result (λ quiet. HasPlayed (Keeps (IsOne event quiet) self.old.waiting.items self.new.waiting.items)
+            self.old.world.parts self.old.notices self.new.world.parts self.new.notices) }
+    {
+        let actor = whose(&event);
+        let asks = is_request(&event);
+        let notice = self.world.feed(event)?;
+        if let Notice::Quiet = notice {
+            self.note(actor, asks, true);
+            return Ok(true);
+        }
+        self.notices.push(notice)?;
+        self.note(actor, asks, false);
+        Ok(false)
+    }
+
+    fn ask(&mut self, actor: u32, request: &Request<u64>) -> Result<bool, Memory>
+        ensures { IfOk result (λ quiet. HasPlayed
+            (Keeps (IsOne (Event.Ask actor request.now) quiet) self.old.waiting.items self.new.waiting.items)
+            self.old.world.parts self.old.notices self.new.world.parts self.new.notices) }
+    {
+        self.happen(Event::Ask(actor, request.try_copy()?))
+    }
+
+    fn steps(&mut self, actor: u32, count: u64) -> Result<(), Memory>
+        ensures { OnOk result (HasPlayed (Keeps (AreSteps actor count) self.old.waiting.items self.new.waiting.items)
+            self.old.world.parts self.old.notices self.new.world.parts self.new.notices) }
+    {
+        for _taken in 0..count {
+            if !self.happen(Event::Step(actor))? {
+                return Ok(());
+            }
+        }
+        Ok(())
+    }
+
+    fn alternate(&mut self, first: u32, second: u32) -> Result<(), Memory>
+        ensures { OnOk result (HasPlayed
+            (Keeps (AreTurns STEP_LIMIT first second self.old.waiting.items) self.old.waiting.items self.new.waiting.items)
+            self.old.world.parts self.old.notices self.new.world.parts self.new.notices) }
+    {
+        let mut actor = first;
+        let mut other = second;
+        for _taken in 0..STEP_LIMIT {
+            if self.is_waiting(actor) {
+                self.happen(Event::Step(actor))?;
+                (actor, other) = (other, actor);
+            } else if self.is_waiting(other) {
+                self.happen(Event::Step(other))?;
+            } else {
+                return Ok(());
+            }
+        }
+        Ok(())
+    }
+
+    fn is_waiting(&self, actor: u32) -> bool
+        ensures { result ≡ waits self.now.waiting.items actor }
+    {
+        self.waiting.get(actor as usize).copied().unwrap_or(false)
+    }
+
+    // An event of this actor, a request or not, told nothing or something.
+    fn note(&mut self, actor: u32, asks: bool, quiet: bool)
+        ensures world { self.new.world ≡ self.old.world }
+        ensures notices { self.new.notices ≡ self.old.notices }
+        ensures waiting { self.new.waiting.items ≡ noted self.old.waiting.items actor asks quiet }
+    {
+        if asks == quiet && (actor as usize) < self.waiting.len() {
+            self.waiting[actor as usize] = quiet;
+        }
+    }
+}
+
+fn whose(event: &Event<u64>) -> u32
+    ensures { result ≡ whose event.now }
+{
+    match event {
+        Event::Ask(actor, _) | Event::Step(actor) | Event::Starve(actor) => *actor,
+    }
+}
+
+fn is_request(event: &Event<u64>) -> bool
+    ensures { result ≡ is_request event.now }
+{
+    matches!(event, Event::Ask(_, _))
+}

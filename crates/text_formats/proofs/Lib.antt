@@ -1,0 +1,15 @@
+pub mod NumberLemmas
+pub mod CutLemmas
+pub mod ReadingLemmas
+pub mod PairLemmas
+pub mod EventLemmas
+pub mod EntryLemmas
+pub mod LineLemmas
+pub mod PrintLemmas
+pub mod AskLemmas
+pub mod ChangeLemmas
+pub mod ActionLemmas
+pub mod OpeningLemmas
+pub mod SessionLemmas
+pub mod DrawLemmas
+pub mod DrawnOpeningLemmas

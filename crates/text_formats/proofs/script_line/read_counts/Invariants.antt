@@ -1,0 +1,14 @@
+use Rattle.std.proofs.Common.{ℕ, ◌<◌, drop}
+use Rattle.std.specs.Ordering.{nat_cmp}
+use Rattle.std.specs.FinMap as map
+use Rattle.text_formats.specs.ScriptLines.{AreEntries, IsMultiset}
+use Rattle.text_formats.specs.Tokens.{texts}
+use Rattle.text_formats.proofs.script_line.read_counts.Given as goal
+
+abbrev pub invariant-loop-token : goal.invariant-loop-token
+invariant-loop-token l = record {
+  front : (m : map.FinMap nat_cmp ℕ) → AreEntries (λ p. 0 < p.1) l.last l.counts (texts (drop l.token-index l.tokens)) m
+      → IsMultiset (texts l.tokens) m;
+  back : (m : map.FinMap nat_cmp ℕ) → IsMultiset (texts l.tokens) m → AreEntries (λ p. 0 < p.1) l.last l.counts
+      (texts (drop l.token-index l.tokens)) m;
+}

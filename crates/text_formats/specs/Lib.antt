@@ -1,0 +1,15 @@
+pub mod Tokens
+pub mod Cuts
+pub mod Readings
+pub mod ScriptTokens
+pub mod Requests
+pub mod Events
+pub mod ScriptLines
+pub mod Scripts
+pub mod SessionLines
+pub mod Sessions
+pub mod SessionPrints
+pub mod Draws
+pub mod Openings
+pub mod Options
+pub mod Drawing
