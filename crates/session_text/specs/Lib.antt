@@ -7,10 +7,10 @@ pub mod TracePrints
 pub mod Worlds
 pub mod Plays
 pub mod Audits
-pub use Rattle.text_formats.specs.ScriptLines as ScriptLines
+pub use Rattle.text_formats.specs.ScriptLines
 pub use Rattle.text_formats.specs.Scripts as ScriptTexts
-pub use Rattle.text_formats.specs.SessionLines as SessionLines
-pub use Rattle.text_formats.specs.SessionPrints as SessionPrints
+pub use Rattle.text_formats.specs.SessionLines
+pub use Rattle.text_formats.specs.SessionPrints as PrintedSessions
 pub use Rattle.text_formats.specs.Sessions as SessionTexts
 pub use Rattle.text_formats.specs.Openings as DrawnOpenings
 pub use Rattle.text_formats.specs.Drawing as DrawnSessions
