@@ -4,98 +4,77 @@
 use std::alloc::Global;
 use std::thread::{Threads, yield_now};
 use wolimevar::{
-    Body, Client, Counts, Entries, Failure, Layout, Map, PriorityQueue, Queue, QueueItems, Refusal,
+    Bag, Body, Client, Counts, Entries, Layout, Map, PriorityQueue, Queue, QueueItems, Refusal,
     Scope, Session, Transaction, Word,
 };
 
-/// How often a transaction is attempted, and how often a job is tried, at most.
-const ATTEMPTS: u64 = 1_000_000;
-
+/// How often a job is tried at most.
 const TRIES: u64 = 3;
 
-/// The numbers of jobs that are ready, the least one the most urgent; how often each job that isn't finished may still be tried; the jobs
-/// that were done, and those whose every try failed; and how many producers are still at work.
+/// The numbers of the jobs that are ready, the least one the most urgent; how often each of them may still be tried; how often each job has
+/// ended; those whose every try failed; and how many haven't ended.
 #[derive(Clone, Copy)]
 struct Jobs {
     ready: PriorityQueue,
     tries: Map<u64>,
-    done: Queue,
+    ended: Bag,
     dead: Queue,
-    producers: Word,
+    left: Word,
 }
 
-/// Why a worker has no job: there is none so far, or there will be none any more.
+/// A job is ready, to be tried so often; or it has ended, done or not.
 #[derive(Drop)]
-enum Idle {
-    NoneYet,
-    Closed,
-    Refused(Refusal),
+enum Change {
+    Submit(Jobs, u64, u64),
+    End(Jobs, u64, bool),
 }
 
-impl From<Refusal> for Idle {
-    fn from(refusal: Refusal) -> Idle {
-        Idle::Refused(refusal)
-    }
-}
-
-/// A job is submitted, the producer's last one or not.
-#[derive(Drop)]
-struct Submit(Jobs, u64, bool);
-
-impl Body<u64> for Submit {
+impl Body<u64> for Change {
     type Out = ();
 
     type Error = Refusal;
 
     fn run<S: Scope<u64>>(&self, tx: &mut Transaction<'_, u64, S>) -> Result<(), Refusal> {
-        let Submit(jobs, number, is_last) = *self;
-        jobs.tries.put(tx, number, TRIES)?;
-        jobs.ready.insert(tx, number)??;
-        let producers = jobs.producers.read(tx)?;
-        let left = producers.saturating_sub(u64::from(is_last));
-        jobs.producers.write(tx, left)
+        match *self {
+            Change::Submit(jobs, number, tries) => {
+                jobs.tries.put(tx, number, tries)?;
+                Ok(jobs.ready.insert(tx, number)??)
+            }
+            Change::End(jobs, number, done) => {
+                if !done {
+                    jobs.dead.enqueue(tx, number)??;
+                }
+                jobs.ended.add(tx, number)??;
+                let left = jobs.left.read(tx)?;
+                jobs.left.write(tx, left.saturating_sub(1))
+            }
+        }
     }
 }
 
-/// The most urgent job is taken by a worker, which learns how often it may be tried.
+/// What a worker finds: a job, and how often it may be tried; or none for now, and how many haven't ended.
+#[derive(Drop)]
+enum Found {
+    Job(u64, u64),
+    Nothing(u64),
+}
+
+/// The most urgent job is taken.
 #[derive(Drop)]
 struct Take(Jobs);
 
 impl Body<u64> for Take {
-    type Out = (u64, u64);
-
-    type Error = Idle;
-
-    fn run<S: Scope<u64>>(&self, tx: &mut Transaction<'_, u64, S>) -> Result<(u64, u64), Idle> {
-        if let Some(number) = self.0.ready.take_least(tx)? {
-            return Ok((number, self.0.tries.get(tx, number)?.unwrap_or(0)));
-        }
-        let closed = self.0.producers.read(tx)? == 0 && self.0.tries.len(tx)? == 0;
-        Err(if closed { Idle::Closed } else { Idle::NoneYet })
-    }
-}
-
-/// A try of a job has ended, well or not.
-#[derive(Drop)]
-struct End(Jobs, u64, bool);
-
-impl Body<u64> for End {
-    type Out = ();
+    type Out = Found;
 
     type Error = Refusal;
 
-    fn run<S: Scope<u64>>(&self, tx: &mut Transaction<'_, u64, S>) -> Result<(), Refusal> {
-        let End(jobs, number, well) = *self;
-        let tries = jobs.tries.remove(tx, number)?.unwrap_or(0);
-        if well {
-            jobs.done.enqueue(tx, number)??;
-        } else if tries <= 1 {
-            jobs.dead.enqueue(tx, number)??;
-        } else {
-            jobs.tries.put(tx, number, tries - 1)?;
-            jobs.ready.insert(tx, number)??;
-        }
-        Ok(())
+    fn run<S: Scope<u64>>(&self, tx: &mut Transaction<'_, u64, S>) -> Result<Found, Refusal> {
+        let jobs = self.0;
+        let Some(number) = jobs.ready.take_least(tx)? else {
+            return Ok(Found::Nothing(jobs.left.read(tx)?));
+        };
+        let tries = jobs.tries.remove(tx, number)?;
+        Ok(Found::Job(number, tries.unwrap_or(0)))
     }
 }
 
@@ -113,20 +92,25 @@ impl Session<u64> for Role {
         let mut made = 0u64;
         match self {
             Role::Producer(jobs, first) => for i in 0..100u64 {
-                client.atomically(ATTEMPTS, &Submit(jobs, first.wrapping_add(i), i == 99))?;
+                let submit = Change::Submit(jobs, first.wrapping_add(i), TRIES);
+                client.atomically(u64::MAX, &submit)?;
             },
             // A worker that finds no job so often goes, too.
             Role::Worker(jobs) => for _ in 0..10_000_000u64 {
-                match client.atomically(ATTEMPTS, &Take(jobs)) {
-                    Ok(((number, tries), _)) => {
+                match client.atomically(u64::MAX, &Take(jobs))? {
+                    (Found::Job(number, tries), _) => {
                         // Jobs fail at their first tries: none of them, one, two, or all three.
-                        let well = TRIES.saturating_sub(tries) >= number % 4;
-                        client.atomically(ATTEMPTS, &End(jobs, number, well))?;
+                        let done = TRIES.saturating_sub(tries) >= number % 4;
+                        let change = if done || tries <= 1 {
+                            Change::End(jobs, number, done)
+                        } else {
+                            Change::Submit(jobs, number, tries.saturating_sub(1))
+                        };
+                        client.atomically(u64::MAX, &change)?;
                         made = made.saturating_add(1);
                     }
-                    Err(Failure::Refused(refusal)) => return Err(refusal),
-                    Err(Failure::Aborted(Idle::NoneYet)) => yield_now(),
-                    Err(Failure::Aborted(_)) => return Ok(made),
+                    (Found::Nothing(0), _) => return Ok(made),
+                    (Found::Nothing(_), _) => yield_now(),
                 }
             },
         }
@@ -137,11 +121,11 @@ impl Session<u64> for Role {
 fn serve<R: Threads + Sync>(rt: &R, alloc: Global) -> Result<String, Refusal> {
     let mut layout = Layout::new(alloc);
     let jobs = Jobs {
-        ready: layout.priority_queue(4, Counts::new(alloc))?,
+        ready: layout.priority_queue(1, Counts::new(alloc))?,
         tries: layout.map(4, Entries::new(alloc))?,
-        done: layout.queue(1, QueueItems::new(alloc))?,
+        ended: layout.bag(4, Counts::new(alloc))?,
         dead: layout.queue(1, QueueItems::new(alloc))?,
-        producers: layout.word(2)?,
+        left: layout.word(200)?,
     };
     let mut store = layout.open()?;
     let (give, work) = (|first| Role::Producer(jobs, first), || Role::Worker(jobs));
@@ -151,15 +135,8 @@ fn serve<R: Threads + Sync>(rt: &R, alloc: Global) -> Result<String, Refusal> {
         tries = tries.saturating_add(made?);
     }
     let contents = store.close()?;
-    let mut ends = Counts::new(alloc);
-    for queue in [jobs.done, jobs.dead] {
-        let items = contents.queue(queue).ok_or(Refusal::NoSuch)?;
-        for place in 0..items.len() {
-            let number = items.get(place).ok_or(Refusal::NoSuch)?;
-            ends.set_copies(number, ends.copies(number).saturating_add(1))?;
-        }
-    }
-    let once = ends.iter().filter(|entry| *entry.1 == 1).count();
+    let ended = contents.bag(jobs.ended).ok_or(Refusal::NoSuch)?;
+    let once = ended.iter().filter(|entry| *entry.1 == 1).count();
     let dead = contents.queue(jobs.dead).map_or(0, |items| items.len());
     Ok(format!(in alloc; "{tries} tries, {once} jobs ended just once, {dead} of them dead")?)
 }
