@@ -3,30 +3,20 @@
 
 use std::alloc::Global;
 use std::thread::Threads;
-use wolimevar::{
-    Body, Client, Entries, Layout, Map, Queue, QueueItems, Refusal, Scope, Session, Transaction,
-    Word,
-};
-
-/// How often a transaction is attempted at most.
-const TRIES: u64 = 1_000_000;
-
-type Tx<'t, S> = Transaction<'t, u64, S>;
+use wolimevar::{Body, Client, Entries, Layout, Map, Refusal, Scope, Session, Transaction, Word};
 
 /// The tops, legs and screws of a table.
 const PARTS: [u64; 3] = [1, 4, 8];
 
-/// How many of each part are free, when each reservation expires, which were shipped, how many were made, and the time in ticks.
+/// How many of each part are free and were shipped, for how many ticks each reservation still holds, and how many were made.
 #[derive(Clone, Copy)]
 struct Shop {
     free: [Word; 3],
+    shipped: [Word; 3],
     reserved: Map<u64>,
-    shipped: Queue,
     made: Word,
-    time: Word,
 }
 
-/// Why nothing was changed.
 #[derive(Drop)]
 enum Denied {
     SoldOut,
@@ -43,8 +33,8 @@ impl From<Refusal> for Denied {
 #[derive(Drop)]
 enum Change {
     Reserve(Shop),
-    Ship(Shop, u64),
-    Release(Shop, u64),
+    /// A reservation ends, and its parts are shipped or free again.
+    End(Shop, u64, [Word; 3]),
     Tick(Shop),
 }
 
@@ -53,7 +43,7 @@ impl Body<u64> for Change {
 
     type Error = Denied;
 
-    fn run<S: Scope<u64>>(&self, tx: &mut Tx<'_, S>) -> Result<(), Denied> {
+    fn run<S: Scope<u64>>(&self, tx: &mut Transaction<'_, u64, S>) -> Result<(), Denied> {
         match self {
             Change::Reserve(shop) => {
                 for i in 0..3usize {
@@ -63,53 +53,44 @@ impl Body<u64> for Change {
                 }
                 let number = shop.made.read(tx)?;
                 shop.made.write(tx, number.saturating_add(1))?;
-                let expires = shop.time.read(tx)?.saturating_add(2);
-                shop.reserved.put(tx, number, expires)?;
+                shop.reserved.put(tx, number, 2)?;
             }
-            Change::Ship(shop, number) => {
+            Change::End(shop, number, to) => {
                 shop.reserved.remove(tx, *number)?.ok_or(Denied::Gone)?;
-                shop.shipped.enqueue(tx, *number)?.map_err(Refusal::from)?;
+                add_all(*to, tx)?;
             }
-            Change::Release(shop, number) => release(shop, *number, tx)?,
-            Change::Tick(shop) => {
-                let time = shop.time.read(tx)?.saturating_add(1);
-                shop.time.write(tx, time)?;
-                for number in 0..shop.made.read(tx)? {
-                    let expires = shop.reserved.get(tx, number)?;
-                    if expires.is_some_and(|expires| expires <= time) {
-                        release(shop, number, tx)?;
-                    }
+            Change::Tick(shop) => for number in 0..shop.made.read(tx)? {
+                match shop.reserved.remove(tx, number)? {
+                    Some(2) => drop(shop.reserved.put(tx, number, 1)?),
+                    Some(_) => add_all(shop.free, tx)?,
+                    None => {}
                 }
-            }
+            },
         }
         Ok(())
     }
 }
 
-/// A reservation ends, and its parts are free again.
-fn release<S: Scope<u64>>(shop: &Shop, number: u64, tx: &mut Tx<'_, S>) -> Result<(), Denied> {
-    shop.reserved.remove(tx, number)?.ok_or(Denied::Gone)?;
+fn add_all<S: Scope<u64>>(to: [Word; 3], tx: &mut Transaction<'_, u64, S>) -> Result<(), Refusal> {
     for i in 0..3usize {
-        let free = shop.free[i].read(tx)?;
-        shop.free[i].write(tx, free.saturating_add(PARTS[i]))?;
+        let count = to[i].read(tx)?;
+        to[i].write(tx, count.saturating_add(PARTS[i]))?;
     }
     Ok(())
 }
 
-/// How many tables are reserved and shipped, and how many parts there are in all.
-#[derive(Drop)]
-struct Report(Shop);
-
-impl Body<u64> for Report {
+/// A report: how many tables are reserved and shipped, and how many parts there are in all.
+impl Body<u64> for Shop {
     type Out = (u64, u64, u64);
 
     type Error = Refusal;
 
-    fn run<S: Scope<u64>>(&self, tx: &mut Tx<'_, S>) -> Result<Self::Out, Refusal> {
-        let (reserved, shipped) = (self.0.reserved.len(tx)?, self.0.shipped.len(tx)?);
-        let mut parts = reserved.saturating_add(shipped).saturating_mul(13);
+    fn run<S: Scope<u64>>(&self, tx: &mut Transaction<'_, u64, S>) -> Result<Self::Out, Refusal> {
+        let (reserved, shipped) = (self.reserved.len(tx)?, self.shipped[0].read(tx)?);
+        let mut parts = reserved.saturating_mul(13);
         for i in 0..3usize {
-            parts = parts.saturating_add(self.0.free[i].read(tx)?);
+            parts = parts.saturating_add(self.free[i].read(tx)?);
+            parts = parts.saturating_add(self.shipped[i].read(tx)?);
         }
         Ok((reserved, shipped, parts))
     }
@@ -118,7 +99,7 @@ impl Body<u64> for Report {
 #[derive(Drop)]
 enum Desk {
     Clerk(Change),
-    Audit(Report),
+    Audit(Shop),
 }
 
 impl Session<u64> for Desk {
@@ -129,8 +110,8 @@ impl Session<u64> for Desk {
         let mut done = 0u64;
         for _ in 0..10u64 {
             let well = match &self {
-                Desk::Clerk(change) => client.atomically(TRIES, change).is_ok(),
-                Desk::Audit(report) => matches!(client.look(TRIES, report), Ok(((.., 620), _))),
+                Desk::Clerk(change) => client.atomically(u64::MAX, change).is_ok(),
+                Desk::Audit(shop) => matches!(client.look(u64::MAX, shop), Ok(((.., 620), _))),
             };
             done = done.saturating_add(u64::from(well));
         }
@@ -142,22 +123,22 @@ fn serve<R: Threads + Sync>(rt: &R, alloc: Global) -> Result<String, Refusal> {
     let mut layout = Layout::new(alloc);
     let shop = Shop {
         free: [layout.word(60)?, layout.word(160)?, layout.word(400)?],
+        shipped: [layout.word(0)?, layout.word(0)?, layout.word(0)?],
         reserved: layout.map(4, Entries::new(alloc))?,
-        shipped: layout.queue(1, QueueItems::new(alloc))?,
         made: layout.word(0)?,
-        time: layout.word(0)?,
     };
     let mut store = layout.open()?;
-    let (clerk, audit) = (|change| Desk::Clerk(change), || Desk::Audit(Report(shop)));
-    let order = || Desk::Clerk(Change::Reserve(shop));
+    let (order, audit) = (|| Desk::Clerk(Change::Reserve(shop)), || Desk::Audit(shop));
+    let end = |number, to| Desk::Clerk(Change::End(shop, number, to));
     let orders = vec![in alloc; order(), order(), order(), order(), audit()]?;
     let ordered = store.run(rt, orders)?;
-    let sold_out = store.atomically(TRIES, &Change::Reserve(shop)).is_err();
-    let (ship, release) = (Change::Ship(shop, 0), Change::Release(shop, 1));
-    let ended = store.run(rt, vec![in alloc; clerk(ship), clerk(release), audit()]?)?;
-    let (left, _) = store.look(TRIES, &Report(shop))?;
-    let ticked = store.run(rt, vec![in alloc; clerk(Change::Tick(shop)), audit()]?)?;
-    let (none, _) = store.look(TRIES, &Report(shop))?;
+    let sold_out = store.atomically(u64::MAX, &Change::Reserve(shop)).is_err();
+    let ends = vec![in alloc; end(0, shop.shipped), end(1, shop.free), audit()]?;
+    let ended = store.run(rt, ends)?;
+    let (left, _) = store.look(u64::MAX, &shop)?;
+    let ticks = vec![in alloc; Desk::Clerk(Change::Tick(shop)), audit()]?;
+    let ticked = store.run(rt, ticks)?;
+    let (none, _) = store.look(u64::MAX, &shop)?;
     Ok(format!(in alloc; "{ordered:?} {sold_out}, {ended:?} {left:?}, {ticked:?} {none:?}")?)
 }
 
