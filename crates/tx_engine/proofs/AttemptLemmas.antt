@@ -21,7 +21,7 @@ use Rattle.seq_model.specs.declared.refusal.Refusal.TheVariants.{Memory as OutOf
 use Rattle.seq_model.specs.Runs.{is_writer}
 use Rattle.replay_log.proofs.AskLemmas.{no_such, too_long}
 use Rattle.replay_log.specs.Seats as worlds
-use Rattle.replay_log.specs.Seats.{World}
+use Rattle.replay_log.specs.Seats.{Ended, World}
 use Rattle.replay_log.specs.WorldAnswers.{is_there}
 use Rattle.replay_log.specs.Worlds.{happens}
 use Rattle.jobs.specs.declared.job.Ask.{Ask}
@@ -36,12 +36,12 @@ pub use Rattle.tx_engine.proofs.RequestLemmas.{keeps_self}
 use Rattle.tx_engine.proofs.RequestLemmas.{then_keeps, told_later, told_on}
 use Rattle.tx_engine.specs.Ready.{standing}
 use Rattle.driven_turns.specs.Begins.{begins_of}
-use Rattle.tx_engine.specs.Requests.{CallsTo, CommitsTo, HasAborted, HasCommitted, IsAnswered, IsBegun, IsLastAborted, IsOpen}
-use Rattle.tx_engine.specs.Requests.{KeepsReceipts, told_of}
-use Rattle.tx_engine.proofs.GainLemmas.{gains, gains_broken, gains_for}
+use Rattle.tx_engine.specs.Requests.{CallsTo, CommitsTo, HasAborted, HasCommitted, HasSameAborted, IsAnswered, IsBegun, IsLastAborted}
+use Rattle.tx_engine.specs.Requests.{IsOpen, KeepsReceipts, told_of}
+use Rattle.tx_engine.proofs.GainLemmas.{aborts_still, gains, gains_broken, gains_for}
 use Rattle.tx_engine.proofs.JobLemmas.{asked_more, none_asked, replies_more}
-use Rattle.tx_engine.specs.Attempts.{EndsAs, HasBegun, HasGivenUp, HasMade, IsAt, IsCallRefused, IsSoFar, IsStarved, IsUnmade, Reaches}
-use Rattle.tx_engine.specs.Attempts.{ask_of}
+use Rattle.tx_engine.specs.Attempts.{Aborts, EndsAs, HasBegun, HasGivenUp, HasMade, IsAt, IsCallRefused, IsSoFar, IsStarved, IsUnmade}
+use Rattle.tx_engine.specs.Attempts.{Reaches, ask_of}
 use Rattle.tx_engine.specs.Jobs.{AreAskedBy}
 use Rattle.tx_engine.specs.declared.attempts.End.{End}
 use Rattle.tx_engine.specs.declared.attempts.End.TheVariants as ends
@@ -92,10 +92,17 @@ module _ {V : Type 0} where
             (ltb-false (length calls) CALL_LIMIT e)) C)
 
   -- ---- the one transaction that has begun
-  pub has_begun : (o : World V) (s b m : Seat V) (number : ℕ) → IsBegun false o s b number → begins_of b ≡ begins_of s + 1
-      → KeepsReceipts b m → begins_of m ≡ begins_of b → HasBegun o s m
-  has_begun o s b m number begun asked since begins =
-      record { once = begins ∙ asked; first = b; number = number; begun = begun; asked = asked; since = since }
+  abbrev pub has_begun : (o : World V) (s b m : Seat V) (number : ℕ) → IsBegun false o s b number → begins_of b ≡ begins_of s + 1
+      → Aborts o s b [] → KeepsReceipts b m → begins_of m ≡ begins_of b → HasBegun o s m
+  has_begun o s b m number begun asked aborts since begins = record {
+    once = begins ∙ asked;
+    first = b;
+    number = number;
+    begun = begun;
+    asked = asked;
+    since = since;
+    aborts = aborts;
+  }
 
   -- ---- one request more
   module _ (asks : List (Reply V) → Ask V → Type 0) (o : World V) where
@@ -105,9 +112,10 @@ module _ {V : Type 0} where
     asked_so_far s replies next k h = subst (λ (rs : List (Reply V)). asks rs next) k.replies_are h
 
     at_now : (s : Seat V) (replies : List (Reply V)) (next : Ask V) (k : IsSoFar asks o s replies) → asks replies next
-        → IsAt asks o s s k.calls next
+        → IsAt asks o (acts o s).aborted s s k.calls next
     at_now s replies next k h = record {
       keeps = keeps_self s;
+      aborts = refl;
       stands = k.stands;
       each = k.each;
       asked = asked_so_far s replies next k h;
@@ -117,11 +125,11 @@ module _ {V : Type 0} where
     fresh_so_far s stands = record { calls = []; stands = stands; each = none_asked asks; replies_are = refl }
 
     pub reaches_now : (s : Seat V) (replies : List (Reply V)) (e : End) → IsSoFar asks o s replies → asks replies (ask_of asks o e)
-        → Reaches asks o s s e
+        → Reaches asks o (acts o s).aborted s s e
     reaches_now s replies e k h = (k.calls, at_now s replies (ask_of asks o e) k h)
 
     pub call_refused : (s u : Seat V) (replies : List (Reply V)) (call : Call V) (cause : Refusal) → IsSoFar asks o s replies
-        → asks replies (ask.Call call) → CallsTo o s call u (Err cause) → IsCallRefused asks o s u cause
+        → asks replies (ask.Call call) → CallsTo o s call u (Err cause) → IsCallRefused asks o (acts o s).aborted s u cause
     call_refused s u replies call cause k h C = record {
       calls = k.calls;
       call = call;
@@ -131,9 +139,10 @@ module _ {V : Type 0} where
     }
 
     -- memory is wanting, after these replies to the calls so far
-    pub starved : (s m : Seat V) (replies : List (Reply V)) → KeepsReceipts s m → IsSoFar asks o m replies
-        → IsStarved asks o s m OutOfMemory
-    starved s m replies kept k = record { memory = refl; keeps = kept; calls = k.calls; stands = k.stands; each = k.each }
+    pub starved : (s m : Seat V) (replies : List (Reply V)) → KeepsReceipts s m → HasSameAborted o s m → IsSoFar asks o m replies
+        → IsStarved asks o (acts o s).aborted s m OutOfMemory
+    starved s m replies kept same k =
+        record { memory = refl; keeps = kept; aborts = same; calls = k.calls; stands = k.stands; each = k.each }
 
     pub call_made : (s u : Seat V) (replies : List (Reply V)) (call : Call V) (reply : Reply V) → IsSoFar asks o s replies
         → asks replies (ask.Call call) → CallsTo o s call u (Ok reply) → IsSoFar asks o u (replies ++ reply ∷ [])
@@ -144,6 +153,11 @@ module _ {V : Type 0} where
       replies_are = ap (λ (rs : List (Reply V)). rs ++ reply ∷ []) k.replies_are ∙ sym (replies_more asks k.calls call reply);
     }
 
+    -- its transaction is open then
+    pub call_adds_none : (s u : Seat V) (replies : List (Reply V)) (call : Call V) (reply : Reply V) → IsSoFar asks o s replies
+        → CallsTo o s call u (Ok reply) → HasSameAborted o s u
+    call_adds_none s u replies call reply k C = C.same (k.calls ++ (call, reply) ∷ [], C.leaves k.calls k.stands)
+
     pub call_within : (s u : Seat V) (replies : List (Reply V)) (call : Call V) (reply : Reply V) → IsSoFar asks o s replies
         → CallsTo o s call u (Ok reply) → length replies < CALL_LIMIT
     call_within s u replies call reply k C =
@@ -152,25 +166,32 @@ module _ {V : Type 0} where
         omega (arith, lt, e)
 
     -- ---- from where the attempt began
-    at_before : (s m u : Seat V) (calls : List (Call V × Reply V)) (next : Ask V) → KeepsReceipts s m → IsAt asks o m u calls next
-        → IsAt asks o s u calls next
-    at_before s m u calls next kept k =
-        record { keeps = then_keeps s m u kept k.keeps; stands = k.stands; each = k.each; asked = k.asked }
+    module _ (es fs : List (Ended V)) (s m u : Seat V) (kept : KeepsReceipts s m) (same : fs ≡ es) where
+      at_before : (calls : List (Call V × Reply V)) (next : Ask V) → IsAt asks o fs m u calls next → IsAt asks o es s u calls next
+      at_before calls next k = record {
+        keeps = then_keeps s m u kept k.keeps;
+        aborts = k.aborts ∙ same;
+        stands = k.stands;
+        each = k.each;
+        asked = k.asked;
+      }
 
-    pub reaches_before : (s m u : Seat V) (e : End) → KeepsReceipts s m → Reaches asks o m u e → Reaches asks o s u e
-    reaches_before s m u e kept k = (k.0, at_before s m u k.0 (ask_of asks o e) kept k.1)
+      pub reaches_before : (e : End) → Reaches asks o fs m u e → Reaches asks o es s u e
+      reaches_before e k = (k.0, at_before k.0 (ask_of asks o e) k.1)
 
-    pub unmade_before : (s m u : Seat V) (cause : Refusal) → KeepsReceipts s m → IsUnmade asks o m u cause → IsUnmade asks o s u cause
-    unmade_before s m u cause kept (inl k) = inl record {
+    pub unmade_before : (es fs : List (Ended V)) (s m u : Seat V) → KeepsReceipts s m → fs ≡ es → (cause : Refusal)
+        → IsUnmade asks o fs m u cause → IsUnmade asks o es s u cause
+    unmade_before es fs s m u kept same cause (inl k) = inl record {
       calls = k.calls;
       call = k.call;
       before = k.before;
-      at = at_before s m k.before k.calls (ask.Call k.call) kept k.at;
+      at = at_before es fs s m k.before kept same k.calls (ask.Call k.call) k.at;
       refused = k.refused;
     }
-    unmade_before s m u cause kept (inr k) = inr record {
+    unmade_before es fs s m u kept same cause (inr k) = inr record {
       memory = k.memory;
       keeps = then_keeps s m u kept k.keeps;
+      aborts = k.aborts ∙ same;
       calls = k.calls;
       stands = k.stands;
       each = k.each;
@@ -178,14 +199,16 @@ module _ {V : Type 0} where
 
     -- ---- its end
     -- the job has come to this end
-    pub at_end : (b m : Seat V) (e end : End) → e ≡ end → Reaches asks o b m e → Reaches asks o b m end
-    at_end b m e end is k = subst (λ (f : End). Reaches asks o b m f) is k
+    pub at_end : (es : List (Ended V)) (b m : Seat V) (e end : End) → e ≡ end → Reaches asks o es b m e → Reaches asks o es b m end
+    at_end es b m e end is k = subst (λ (f : End). Reaches asks o es b m f) is k
 
-    pub has_made : (s b m u : Seat V) (r : Record V) → KeepsReceipts s b → Reaches asks o b m ends.Done → CommitsTo o m u (Ok r)
+    pub has_made : (s b m u : Seat V) (r : Record V) → KeepsReceipts s b → (begun : HasBegun o s m)
+        → Reaches asks o (acts o begun.first).aborted b m ends.Done → CommitsTo o m u (Ok r)
         → (r.writes ≡ false → is_writer r.calls ≡ false) → (r.writes ≡ true → m.last < r.number)
-        → (m.last ≤ r.number) × (u.last ≡ r.number) → HasBegun o s m → HasMade asks o s u r
-    has_made s b m u r kept done made reads above last begun =
-        let k : IsAt asks o s m done.0 ask.Done = at_before s b m done.0 ask.Done kept done.1 in
+        → (m.last ≤ r.number) × (u.last ≡ r.number) → HasMade asks o s u r
+    has_made s b m u r kept begun done made reads above last =
+        let es : List (Ended V) = (acts o begun.first).aborted in
+        let k : IsAt asks o es s m done.0 ask.Done = at_before es es s b m kept refl done.0 ask.Done done.1 in
         let e : done.0 ≡ r.calls = same_calls done.0 r.calls (sym k.stands ∙ made.calls) in
         let C = made.committed in
         let same : m.last ≡ s.last = k.keeps.seat.2 in
@@ -201,48 +224,54 @@ module _ {V : Type 0} where
           above = λ yes. (let lt = above yes in omega (arith, lt, same));
           last = (omega (arith, low, same), last.1);
           before = m;
-          at = subst (λ (cs : List (Call V × Reply V)). IsAt asks o s m cs ask.Done) e k;
           begun = begun;
+          at = subst (λ (cs : List (Call V × Reply V)). IsAt asks o es s m cs ask.Done) e k;
           writes = made.writes;
           reads = reads;
           committed = C;
+          aborts = aborts_still o s m u [] (aborts_still o s begun.first m [] begun.aborts k.aborts) made.same;
         }
 
-    pub commit_refused : (s b m u : Seat V) (cause : Refusal) → KeepsReceipts s b → Reaches asks o b m ends.Done
-        → CommitsTo o m u (Err cause) → HasBegun o s m → EndsAs asks o s u (Err cause)
-    commit_refused s b m u cause kept done C begun =
-        let k : IsAt asks o s m done.0 ask.Done = at_before s b m done.0 ask.Done kept done.1 in (
+    pub commit_refused : (s b m u : Seat V) (cause : Refusal) → KeepsReceipts s b → (begun : HasBegun o s m)
+        → Reaches asks o (acts o begun.first).aborted b m ends.Done → CommitsTo o m u (Err cause) → EndsAs asks o s u (Err cause)
+    commit_refused s b m u cause kept begun done C =
+        let es : List (Ended V) = (acts o begun.first).aborted in
+        let k : IsAt asks o es s m done.0 ask.Done = at_before es es s b m kept refl done.0 ask.Done done.1 in (
           then_keeps s m u k.keeps C.keeps,
           inr (inl record {
             calls = done.0;
             before = m;
-            at = k;
             begun = begun;
+            at = k;
             ended = C.ended (done.0, k.stands);
             kind = C.kinds;
-            gains = gains_for o s m u done.0 cause k.keeps k.stands (C.aborted (done.0, k.stands));
+            gains = gains_for o s begun.first m u done.0 cause begun.aborts k.aborts k.keeps.seat.1 k.stands
+                (C.aborted (done.0, k.stands));
           }),
         )
 
-    pub given_up : (s b m u : Seat V) → KeepsReceipts s b → Reaches asks o b m ends.GivenUp → KeepsReceipts m u
-        → (IsOpen o m → HasAborted o m u) → (IsOpen o m → IsLastAborted o m u None) → HasBegun o s m → HasGivenUp asks o s u
-    given_up s b m u kept done ended aborted noted begun =
-        let k : IsAt asks o s m done.0 ask.GiveUp = at_before s b m done.0 ask.GiveUp kept done.1 in
+    pub given_up : (s b m u : Seat V) → KeepsReceipts s b → (begun : HasBegun o s m)
+        → Reaches asks o (acts o begun.first).aborted b m ends.GivenUp → KeepsReceipts m u
+        → (IsOpen o m → HasAborted o m u) → (IsOpen o m → IsLastAborted o m u None) → HasGivenUp asks o s u
+    given_up s b m u kept begun done ended aborted noted =
+        let es : List (Ended V) = (acts o begun.first).aborted in
+        let k : IsAt asks o es s m done.0 ask.GiveUp = at_before es es s b m kept refl done.0 ask.GiveUp done.1 in
         record {
           keeps = then_keeps s m u k.keeps ended;
           calls = done.0;
           before = m;
-          at = k;
           begun = begun;
+          at = k;
           aborted = aborted (done.0, k.stands);
-          gains = gains o s m u done.0 None k.keeps k.stands (noted (done.0, k.stands));
+          gains = gains o s begun.first m u done.0 None begun.aborts k.aborts k.keeps.seat.1 k.stands (noted (done.0, k.stands));
         }
 
-    pub broken_off : (s b m u : Seat V) (cause : Refusal) → KeepsReceipts s b → KeepsReceipts b m → IsUnmade asks o b m cause
-        → KeepsReceipts m u → (IsOpen o m → HasAborted o m u) → (IsOpen o m → IsLastAborted o m u None)
-        → (standing o m ≡ Rests → u ≡ m) → HasBegun o s m → EndsAs asks o s u (Err cause)
-    broken_off s b m u cause kept keeps unmade ended aborted noted none begun =
-        let whole = unmade_before s b m cause kept unmade in (
+    pub broken_off : (s b m u : Seat V) (cause : Refusal) → KeepsReceipts s b → KeepsReceipts b m → (begun : HasBegun o s m)
+        → IsUnmade asks o (acts o begun.first).aborted b m cause → KeepsReceipts m u → (IsOpen o m → HasAborted o m u)
+        → (IsOpen o m → IsLastAborted o m u None) → (standing o m ≡ Rests → u ≡ m) → EndsAs asks o s u (Err cause)
+    broken_off s b m u cause kept keeps begun unmade ended aborted noted none =
+        let es : List (Ended V) = (acts o begun.first).aborted in
+        let whole : IsUnmade asks o es s m cause = unmade_before es es s b m kept refl cause unmade in (
           then_keeps s b u kept (then_keeps b m u keeps ended),
           inr (inr record {
             left = m;
@@ -250,7 +279,7 @@ module _ {V : Type 0} where
             unmade = whole;
             keeps = ended;
             aborted = aborted;
-            gains = gains_broken asks o s m u cause whole noted none;
+            gains = gains_broken o asks s begun.first m u cause begun.aborts noted none whole;
           }),
         )
 

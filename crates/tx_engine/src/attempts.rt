@@ -1,12 +1,12 @@
 //! One attempt of a job.
 ghost use Rattle.std.specs.Prelude.{◌≡◌, ◌+◌, ◌<◌, IfErr, IfNone, IfOk, IfSome, [], false, length};
 ghost use Rattle.seq_model.specs.declared.limits.TheConstants.{CALL_LIMIT as AsCallLimit};
-ghost use Rattle.tx_table.specs.Seated.{opening_of};
+ghost use Rattle.tx_table.specs.Seated.{acts, opening_of};
 ghost use Rattle.tx_phases.specs.Phases.{Rests, Stands};
 ghost use Rattle.driven_turns.specs.Begins.{begins_of};
 ghost use Rattle.tx_engine.specs.Ready.{HasBegunSince, IsReady, standing};
-ghost use Rattle.tx_engine.specs.Requests.{HasAborted, IsBegun, IsNotBegun, IsOpen, KeepsReceipts};
-ghost use Rattle.tx_engine.specs.Attempts.{AttemptsTo, IsSoFar, IsUnmade, Reaches};
+ghost use Rattle.tx_engine.specs.Requests.{HasAborted, HasSameAborted, IsBegun, IsNotBegun, IsOpen, KeepsReceipts};
+ghost use Rattle.tx_engine.specs.Attempts.{Aborts, AttemptsTo, IsSoFar, IsUnmade, Reaches};
 
 use crate::pause::Pause;
 use crate::seats::TxSeat;
@@ -39,6 +39,7 @@ fn begin<V: Value>(table: &TxTable<V>, seat: &mut TxSeat<V>) -> Result<u64, Refu
     ensures begun { IfOk result (IsBegun false (opening_of table.now) seat.old.seat seat.new.seat) }
     ensures refused { IfErr result (IsNotBegun (opening_of table.now) seat.old.seat seat.new.seat) }
     ensures aborted { IsOpen (opening_of table.now) seat.old.seat → HasAborted (opening_of table.now) seat.old.seat seat.new.seat }
+    ensures aborts { Aborts (opening_of table.now) seat.old.seat seat.new.seat [] }
     ensures begins { begins_of seat.new.seat ≡ begins_of seat.old.seat + 1 }
 {
     seat.begin(table)
@@ -62,9 +63,11 @@ fn ask_next<V: Value, J: Job<V>>(
         (IsSoFar (J.asks job.now) (opening_of table.now) seat.new.seat replies.new.items)) }
     ensures room { IfOk result (λ next. IfNone next
         ((length replies.old.items < AsCallLimit) × (length replies.new.items ≡ length replies.old.items + 1))) }
+    ensures same { IfOk result (λ next. IfNone next (HasSameAborted (opening_of table.now) seat.old.seat seat.new.seat)) }
     ensures reaches { IfOk result (λ next. IfSome next
-        (Reaches (J.asks job.now) (opening_of table.now) seat.old.seat seat.new.seat)) }
-    ensures refused { IfErr result (IsUnmade (J.asks job.now) (opening_of table.now) seat.old.seat seat.new.seat) }
+        (Reaches (J.asks job.now) (opening_of table.now) (acts (opening_of table.now) seat.old.seat).aborted seat.old.seat seat.new.seat)) }
+    ensures refused { IfErr result
+        (IsUnmade (J.asks job.now) (opening_of table.now) (acts (opening_of table.now) seat.old.seat).aborted seat.old.seat seat.new.seat) }
 {
     match job.ask(replies.as_slice())? {
         Ask::Done => Ok(Some(End::Done)),
@@ -91,8 +94,10 @@ fn ask_all<V: Value, J: Job<V>>(
     ensures since { HasBegunSince table.now seat.new }
     ensures keeps { KeepsReceipts seat.old.seat seat.new.seat }
     ensures begins { begins_of seat.new.seat ≡ begins_of seat.old.seat }
-    ensures reaches { IfOk result (Reaches (J.asks job.now) (opening_of table.now) seat.old.seat seat.new.seat) }
-    ensures refused { IfErr result (IsUnmade (J.asks job.now) (opening_of table.now) seat.old.seat seat.new.seat) }
+    ensures reaches { IfOk result
+        (Reaches (J.asks job.now) (opening_of table.now) (acts (opening_of table.now) seat.old.seat).aborted seat.old.seat seat.new.seat) }
+    ensures refused { IfErr result
+        (IsUnmade (J.asks job.now) (opening_of table.now) (acts (opening_of table.now) seat.old.seat).aborted seat.old.seat seat.new.seat) }
 {
     replies.clear();
     'calls: loop {

@@ -24,6 +24,13 @@ counts c a m b s k i o t = record {
   others = t;
 }
 
+-- how many attempts were refused, and how many there were in all
+abbrev pub refusals : Tally → ℕ
+refusals t = t.moved + t.busy + t.stale + t.gate_busy + t.invalid + t.out_of_memory + t.others
+
+abbrev pub attempts : Tally → ℕ
+attempts t = t.committed + t.aborted + refusals t
+
 -- an attempt that was refused so
 abbrev pub with_refusal : Tally → Refusal → Tally
 with_refusal t (refusal.Moved l w) =

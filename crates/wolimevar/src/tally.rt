@@ -1,6 +1,6 @@
 //! Counts of attempts, by how they ended.
-ghost use Rattle.std.specs.Prelude.{◌≡◌};
-ghost use Rattle.wolimevar.specs.Tallies.{one_more, with_end, with_refusal};
+ghost use Rattle.std.specs.Prelude.{◌≡◌, ◌-◌, ◌^◌, min};
+ghost use Rattle.wolimevar.specs.Tallies.{attempts, counts, one_more, refusals, with_end, with_refusal};
 
 use crate::failures::Failure;
 use seq_model::Refusal;
@@ -30,7 +30,9 @@ fn one_more(count: u64) -> u64
 
 impl Tally {
     /// No attempts.
-    pub fn new() -> Tally {
+    pub fn new() -> Tally
+        ensures { result ≡ counts 0 0 0 0 0 0 0 0 0 }
+    {
         Tally {
             committed: 0,
             aborted: 0,
@@ -44,15 +46,19 @@ impl Tally {
         }
     }
 
-    /// How many attempts there were in all.
-    pub fn attempts(&self) -> u64 {
+    /// How many attempts there were in all, or the greatest `u64` if there were more.
+    pub fn attempts(&self) -> u64
+        ensures { result ≡ min (attempts self.now) (2 ^ 64 - 1) }
+    {
         self.committed
             .saturating_add(self.aborted)
             .saturating_add(self.refusals())
     }
 
-    /// How many of them were refused.
-    pub fn refusals(&self) -> u64 {
+    /// How many of them were refused, or the greatest `u64` if there were more.
+    pub fn refusals(&self) -> u64
+        ensures { result ≡ min (refusals self.now) (2 ^ 64 - 1) }
+    {
         self.moved
             .saturating_add(self.busy)
             .saturating_add(self.stale)

@@ -5,10 +5,11 @@ use Rattle.seq_model.specs.declared.call.Reply.{Reply}
 use Rattle.seq_model.specs.declared.record.Record.{Record}
 use Rattle.jobs.specs.declared.job.Ask.{Ask}
 use Rattle.tx_table.specs.declared.table.TxTable.{TxTable}
-use Rattle.tx_table.specs.Seated.{actor, view}
+use Rattle.tx_table.specs.Seated.{actor, opening_of, view}
 use Rattle.tx_table.specs.declared.view.Turn.{Turn}
 use Rattle.tx_engine.specs.declared.seats.TxSeat.{TxSeat}
-use Rattle.tx_engine.specs.Ready.{IsReady}
+use Rattle.tx_phases.specs.Phases.{Rests}
+use Rattle.tx_engine.specs.Ready.{IsReady, standing}
 use Rattle.workers.specs.declared.causes.LastAbort.{LastAbort}
 use Rattle.workers.specs.declared.causes.LastAbort.TheVariants.{NotStarted}
 use Rattle.workers.specs.declared.tasks.Task.{Task}
@@ -51,9 +52,10 @@ module _ {V : Type 0} where
     pub same : actor u.seat ≡ actor s.seat
     pub joined : (view u.seat).joined ≡ (view s.seat).joined ++ others
 
-  -- What at most so many attempts of a job came to. They led the seat from s to u, which is ready for others.
+  -- What at most so many attempts of a job came to. They led the seat from s to u, which is ready for others, without a transaction.
   pub record IsTried (asks : List (Reply V) → Ask V → Type 0) (t : TxTable V) (tries : ℕ) (s u : TxSeat V) (o : Outcome V) : Type 0 where
     pub ready : IsReady t u
+    pub rests : standing (opening_of t) u.seat ≡ Rests
     pub receipt : IfOk o (HasReceipt asks t tries s.seat u.seat)
     pub none : IfErr o (HasNoReceipt asks t tries s.seat u.seat)
 

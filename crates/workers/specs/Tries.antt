@@ -4,12 +4,13 @@ use Rattle.seq_model.specs.declared.call.Reply.{Reply}
 use Rattle.seq_model.specs.declared.record.Record.{Record}
 use Rattle.seq_model.specs.declared.refusal.Refusal.{Refusal}
 use Rattle.seq_model.specs.declared.refusal.Refusal.TheVariants.{Moved, Busy, Stale, GateBusy, Invalid}
+use Rattle.replay_log.specs.Seats.{Ended}
 use Rattle.jobs.specs.declared.job.Ask.{Ask}
 use Rattle.tx_table.specs.declared.seat.Seat.{Seat}
 use Rattle.tx_table.specs.declared.table.TxTable.{TxTable}
-use Rattle.tx_table.specs.Seated.{actor, acts, opening_of, view}
+use Rattle.tx_table.specs.Seated.{actor, opening_of, view}
 use Rattle.tx_engine.specs.Requests.{KeepsReceipts}
-use Rattle.tx_engine.specs.Attempts.{AttemptsTo}
+use Rattle.tx_engine.specs.Attempts.{Aborts, AttemptsTo}
 use Rattle.tx_engine.specs.Jobs.{IsWholeJob}
 use Rattle.tx_engine.specs.declared.attempts.Attempt.{Attempt}
 use Rattle.tx_engine.specs.declared.attempts.Attempt.TheVariants.{Committed, GivenUp}
@@ -33,13 +34,13 @@ module _ {V : Type 0} (asks : List (Reply V) → Ask V → Type 0) (t : TxTable 
   AreInVain s (cause ∷ causes) u =
       (m : Seat V) × AreInVain s causes m × AttemptsTo asks (opening_of t) m u (Err cause) × IsTransient cause
 
-  -- So many attempts were in vain, and led from s to m, each of which left at least one aborted transaction more in the own world; there
-  -- the next one came to this, and led to u.
+  -- So many attempts were in vain, and led from s to m; there the next one came to this, and led to u. Where there were some, the aborted
+  -- transactions of the own world of m are those of that of s, then the one that was open at s, if one was, and then one for each attempt.
   pub record ComesAfter (n : ℕ) (s m u : Seat V) (r : Result (Attempt V) Refusal) : Type 0 where
     pub causes : List Refusal
     pub many : length causes ≡ n
     pub vain : AreInVain s causes m
-    pub gains : length (acts (opening_of t) s).aborted + n ≤ length (acts (opening_of t) m).aborted
+    pub gains : 0 < n → (es : List (Ended V)) × (length es ≡ n) × Aborts (opening_of t) s m es
     pub comes : AttemptsTo asks (opening_of t) m u r
 
   -- One of so many attempts had this receipt, which the seat gains, and no other. Its number is the last one of the seat then, and not

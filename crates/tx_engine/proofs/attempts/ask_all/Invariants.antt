@@ -3,7 +3,7 @@ use Rattle.seq_model.specs.declared.limits.TheConstants.{CALL_LIMIT}
 use Rattle.tx_table.specs.Seated.{opening_of}
 use Rattle.driven_turns.specs.Begins.{begins_of}
 use Rattle.tx_engine.specs.Ready.{HasBegunSince, IsReady}
-use Rattle.tx_engine.specs.Requests.{KeepsReceipts}
+use Rattle.tx_engine.specs.Requests.{HasSameAborted, KeepsReceipts}
 use Rattle.tx_engine.specs.Attempts.{IsSoFar}
 use Rattle.tx_engine.proofs.attempts.ask_all.Given as goal
 
@@ -12,6 +12,7 @@ invariant-calls g l = record {
   ready : IsReady l.table l.seat;
   since : HasBegunSince l.table l.seat;
   keeps : KeepsReceipts l.fn.seat.seat l.seat.seat;
+  same : HasSameAborted (opening_of l.table) l.fn.seat.seat l.seat.seat;
   begins : begins_of l.seat.seat ≡ begins_of l.fn.seat.seat;
   so_far : IsSoFar (g.J.Job.asks l.job) (opening_of l.table) l.seat.seat l.replies.items;
 }

@@ -1,7 +1,7 @@
-use Rattle.std.proofs.Common.{◌∷◌, ◌++◌, [], length, inl, inr, ap, ◌∙◌, sym, subst, length-append}
+use Rattle.std.proofs.Common.{◌∷◌, ◌++◌, [], length, inl, inr, refl, ap, ◌∙◌, sym, subst, length-append}
 use Rattle.std.proofs.lemmas.Result.{err_from_is_err_and}
 use Rattle.tx_table.specs.Seated.{opening_of}
-use Rattle.tx_engine.proofs.AttemptLemmas.{call_made, call_refused, call_within, keeps_self, reaches_now, starved}
+use Rattle.tx_engine.proofs.AttemptLemmas.{call_adds_none, call_made, call_refused, call_within, keeps_self, reaches_now, starved}
 use Rattle.tx_engine.proofs.JobLemmas.{asked_here}
 use Rattle.tx_engine.specs.Attempts.{IsSoFar}
 use Rattle.tx_engine.specs.declared.attempts.End.TheVariants as ends
@@ -12,7 +12,7 @@ returns-in_err-ask-clause-refused g c =
     let s = c.args.seat.now.seat in
     let p = err_from_is_err_and c.from_residual.result c.from_residual.ensures.1 in
     rw (p.1, p.2) (inr (starved (g.J.Job.asks c.args.job.now) (opening_of c.args.table.now) s s c.args.replies.now.items (keeps_self s)
-    c.requires.so_far))
+    refl c.requires.so_far))
 
 pub returns-in_err-reply-in-Call-clause-refused : goal.returns-in_err-reply-in-Call-clause-refused
 returns-in_err-reply-in-Call-clause-refused g c =
@@ -58,6 +58,7 @@ returns-in_err-push-in-Call-clause-refused g c =
     let called = c.in_ok-reply-in-Call.ensures.called.calls (so_far.calls, so_far.stands) in
     let p = err_from_is_err_and c.from_residual-in_err-push-in-Call.result c.from_residual-in_err-push-in-Call.ensures.1 in
     rw (p.1, p.2) (inr (starved asks o s m (replies ++ reply ∷ []) called.keeps
+    (call_adds_none asks o s m replies c.in-Call.call reply so_far called)
     (call_made asks o s m replies c.in-Call.call reply so_far asked called)))
 
 pub returns-in_ok-push-in-Call-clause-room : goal.returns-in_ok-push-in-Call-clause-room
@@ -68,3 +69,10 @@ returns-in_ok-push-in-Call-clause-room g c =
           c.in_ok-reply-in-Call.reply so_far (c.in_ok-reply-in-Call.ensures.called.calls (so_far.calls, so_far.stands)),
       ap length c.in_ok-push-in-Call.ensures.items ∙ length-append c.args.replies.now.items (c.in_ok-reply-in-Call.reply ∷ []),
     )
+
+pub returns-in_ok-push-in-Call-clause-same : goal.returns-in_ok-push-in-Call-clause-same
+returns-in_ok-push-in-Call-clause-same g c =
+    let so_far = c.requires.so_far in
+    call_adds_none (g.J.Job.asks c.args.job.now) (opening_of c.args.table.now) c.args.seat.now.seat c.call.new.self.seat
+    c.args.replies.now.items c.in-Call.call c.in_ok-reply-in-Call.reply so_far
+    (c.in_ok-reply-in-Call.ensures.called.calls (so_far.calls, so_far.stands))

@@ -28,7 +28,7 @@ tries-preserved g c =
     let vain = c.tries.invariant.vain in
     record {
       ready = c.attempt_with.ensures.ready;
-      vain = one_more asks t c.tries.i s m u cause vain transient comes;
+      vain = one_more asks t c.tries.i s m u cause vain transient c.attempt_with.ensures.rests comes;
       rests = inr c.attempt_with.ensures.rests;
       none = inr (refused_last asks t c.tries.i (c.tries.i + 1) s m u cause (omega arith) vain (λ _. refl) comes);
     }

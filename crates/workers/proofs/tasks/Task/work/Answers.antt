@@ -16,6 +16,7 @@ jobs-preserved g c =
     let u = c.retry_in-outcome.new.seat in
     let tried : IsTried (asks job) t tries m u o = record {
       ready = c.retry_in-outcome.ensures.ready;
+      rests = c.retry_in-outcome.ensures.rests;
       receipt = c.retry_in-outcome.ensures.receipt;
       none = c.retry_in-outcome.ensures.none;
     } in
