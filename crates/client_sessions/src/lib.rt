@@ -9,6 +9,7 @@
 mod delete;
 mod entry;
 pub mod laws;
+mod progress;
 mod reserve;
 mod session;
 mod shared;
@@ -18,6 +19,7 @@ mod update;
 mod walk;
 
 pub use entry::Entry;
+pub use progress::{NoProgress, Progress};
 pub use session::Session;
 pub use shared::SharedCustomer;
 pub use split::SplitCustomer;

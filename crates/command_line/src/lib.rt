@@ -14,7 +14,7 @@ mod tool;
 mod words;
 mod work;
 
-pub use run_progress::{NoProgress, Progress};
+pub use client_sessions::{NoProgress, Progress};
 pub use served_runs::Pace;
 pub use tool::{AUDIT_FAULT, DONE, MEMORY, REFUSED, fault, refuse_memory, run_file, run_tool};
 pub use words::file_of;

@@ -13,7 +13,7 @@ use crate::words::{matches_of, task_in};
 use crate::work::{Cause, Output, output_of};
 use clap::Error;
 use clap::error::ErrorKind;
-use run_progress::Progress;
+use client_sessions::Progress;
 use seq_model::Refusal;
 use session_text::RunFault;
 use std::alloc::Global;

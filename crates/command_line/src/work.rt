@@ -11,7 +11,7 @@ ghost use Rattle.command_line.specs.Ends.{IsOutput, IsOutputOf, IsWithin};
 ghost use Rattle.seq_model.specs.declared.refusal.Refusal.TheVariants.{Memory as OutOfMemory};
 ghost use Rattle.session_text.specs.declared.fault.RunFault.TheVariants.{Refused};
 
-use run_progress::Progress;
+use client_sessions::Progress;
 use seq_model::{Memory, Refusal};
 use served_runs::{Drawn, Times, print_drawn, print_times, print_times_as_values, run_drawn};
 use session_text::{RunFault, audit_run, print_trace, run_script};

@@ -8,8 +8,8 @@ use Rattle.workers.specs.Deals.{AreDealtLike}
 use Rattle.seq_model.specs.declared.record.Record.{Record}
 use Rattle.vac_model.specs.declared.action.Action.{Action}
 use Rattle.client_sessions.specs.declared.entry.Entry.{Entry}
-use Rattle.workers.specs.declared.causes.LastAbort.{LastAbort}
-use Rattle.workers.specs.Tasks.{Outcome, missed_in, receipts_in}
+use Rattle.job_workers.specs.declared.causes.LastAbort.{LastAbort}
+use Rattle.job_workers.specs.Tasks.{Outcome, missed_in, receipts_in}
 use Rattle.text_formats.specs.declared.session_print.Line.{Line}
 use Rattle.workers.specs.Serving.{all_missed}
 use Rattle.served_runs.specs.Lines.{AreLinesOf, IsLineOf, missed_line}

@@ -14,8 +14,7 @@ ghost use Rattle.served_runs.specs.Drawn.{AreDrawn, IsDrawable, IsDrawnRun, draw
 use crate::inspection::inspected;
 use crate::progress::Receipts;
 use crate::tally::{Tally, Times, causes_of};
-use client_sessions::{Entry, state_of};
-use run_progress::Progress;
+use client_sessions::{Entry, Progress, state_of};
 use seq_model::{Memory, Refusal, State};
 use session_text::{RunFault, STRIPES, with_ending};
 use std::alloc::Global;

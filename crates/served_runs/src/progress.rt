@@ -1,6 +1,6 @@
 //! How far workers have come.
 use crate::tally::milliseconds;
-use run_progress::Progress;
+use client_sessions::Progress;
 use std::fmt;
 use std::sync::atomic::{AtomicU64, Ordering};
 use std::time::Duration;

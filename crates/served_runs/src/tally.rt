@@ -3,7 +3,7 @@ ghost use Rattle.std.specs.Prelude.{◌<◌};
 
 use crate::lines::Missed;
 use crate::progress::Receipts;
-use run_progress::Progress;
+use client_sessions::Progress;
 use seq_model::{Memory, Refusal};
 use std::alloc::Global;
 use std::fmt::Write;

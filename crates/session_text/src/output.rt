@@ -6,7 +6,7 @@ ghost use Rattle.session_text.specs.Outputs.{IsOutput};
 use crate::fault::RunFault;
 use crate::printing::text_of;
 use crate::runs::run_sessions;
-use run_progress::Progress;
+use client_sessions::Progress;
 use std::alloc::Global;
 use text_formats::parse_sessions;
 

@@ -1,7 +1,3 @@
-pub mod TryLemmas
-pub mod TaskLemmas
-pub mod ReportLemmas
-pub mod HalfLemmas
 mod DealLemmas
 mod AuditLemmas
 pub mod ListLemmas

@@ -7,7 +7,7 @@ use Rattle.std.specs.declared.alloc.Global.{Global}
 use Rattle.std.specs.declared.vec.Vec.{Vec}
 use Rattle.vac_model.specs.declared.action.Action.{Action}
 use Rattle.vac_model.specs.Actions.{IsAllowed}
-use Rattle.workers.specs.Reports.{jobs_of}
+use Rattle.job_workers.specs.Reports.{jobs_of}
 use Rattle.workers.specs.Serving.{AreAllowed}
 
 abbrev Actions : Type 0

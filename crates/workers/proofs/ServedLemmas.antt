@@ -13,13 +13,13 @@ use Rattle.vac_model.specs.Actions.{IsAllowed}
 use Rattle.client_sessions.specs.declared.entry.Entry.{Entry}
 use Rattle.vacation_core.specs.Served.{IsWhole}
 use Rattle.tx_engine.specs.Jobs.{IsWholeJob}
-use Rattle.workers.specs.declared.causes.LastAbort.{LastAbort}
-use Rattle.workers.specs.declared.causes.LastAbort.TheVariants.{NotStarted}
-use Rattle.workers.specs.declared.report.Report.{Report}
-use Rattle.workers.specs.Reports.{IsReportOf, Reports, numbered}
-use Rattle.workers.specs.Tasks as worked
-use Rattle.workers.specs.Tasks.{AreNotStarted, AreTried, Outcome, Took, missed_in, receipts_in}
-use Rattle.workers.specs.Tries.{HasReceipt}
+use Rattle.job_workers.specs.declared.causes.LastAbort.{LastAbort}
+use Rattle.job_workers.specs.declared.causes.LastAbort.TheVariants.{NotStarted}
+use Rattle.job_workers.specs.declared.report.Report.{Report}
+use Rattle.job_workers.specs.Reports.{IsReportOf, Reports, numbered}
+use Rattle.job_workers.specs.Tasks as worked
+use Rattle.job_workers.specs.Tasks.{AreNotStarted, AreTried, Outcome, Took, missed_in, receipts_in}
+use Rattle.job_workers.specs.Tries.{HasReceipt}
 use Rattle.tx_table.specs.Seated.{actor, view}
 use Rattle.tx_table.specs.declared.table.TxTable.{TxTable}
 use Rattle.tx_table.specs.declared.view.Turn.{Turn}

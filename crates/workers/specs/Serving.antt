@@ -28,10 +28,10 @@ use Rattle.tx_table.specs.Shown.{ShowsWorld, first}
 use Rattle.tx_engine.specs.Closing.{IsLeftBy, state_of as held_by}
 use Rattle.tx_engine.specs.declared.seats.TxSeat.{TxSeat}
 use Rattle.tx_engine.specs.Ready.{IsReady}
-use Rattle.workers.specs.declared.causes.LastAbort.{LastAbort}
-use Rattle.workers.specs.declared.report.Report.{Report}
-use Rattle.workers.specs.Reports.{HasRun, IsReportOf}
-use Rattle.workers.specs.Tasks.{Outcome, missed_in, receipts_in}
+use Rattle.job_workers.specs.declared.causes.LastAbort.{LastAbort}
+use Rattle.job_workers.specs.declared.report.Report.{Report}
+use Rattle.job_workers.specs.Reports.{HasRun, IsReportOf}
+use Rattle.job_workers.specs.Tasks.{Outcome, missed_in, receipts_in}
 use Rattle.workers.specs.declared.served.Served.{Served}
 
 -- each action of each list is allowed

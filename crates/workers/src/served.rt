@@ -5,13 +5,12 @@ ghost use Rattle.seq_model.specs.Refusals.{IsTooLong};
 ghost use Rattle.vac_model.specs.Balanced.{IsBalanced};
 ghost use Rattle.tx_table.specs.Seated.{view};
 ghost use Rattle.tx_engine.specs.Ready.{IsReady};
-ghost use Rattle.workers.specs.Reports.{jobs_of};
+ghost use Rattle.job_workers.specs.Reports.{jobs_of};
 ghost use Rattle.workers.specs.Serving.{AreAllowed, IsClosedWith, IsServed, OpensOnTables};
 
-use crate::report::Report;
-use crate::run::run_workers_owned;
 use client_sessions::{Entry, Session, state_of};
 use conflict::is_stripe_count;
+use job_workers::{Report, run_workers_owned};
 use seq_model::{ACTOR_LIMIT, Items, Memory, Refusal, Shape, State};
 use std::alloc::Global;
 use std::sync::Wait;

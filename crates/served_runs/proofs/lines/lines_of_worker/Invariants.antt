@@ -1,5 +1,5 @@
 use Rattle.std.proofs.Common.{◌≡◌, ◌+◌, length, List}
-use Rattle.workers.specs.Tasks.{Outcome}
+use Rattle.job_workers.specs.Tasks.{Outcome}
 use Rattle.client_sessions.specs.declared.entry.Entry.{Entry}
 use Rattle.served_runs.specs.Unread.{AreUnread}
 use Rattle.served_runs.proofs.LineLemmas.{IsAt, Missed}

@@ -1,5 +1,5 @@
 use Rattle.std.proofs.Common.{◌≡◌, take}
-use Rattle.workers.specs.Reports.{jobs_of}
+use Rattle.job_workers.specs.Reports.{jobs_of}
 use Rattle.workers.proofs.served.all_sessions.Given as goal
 
 abbrev pub invariant-loop-list : goal.invariant-loop-list

@@ -1,7 +1,7 @@
 use Rattle.std.proofs.Common.{◌≡◌, arith}
 use Rattle.tx_table.specs.Seated.{view}
 use Rattle.tx_table.specs.declared.view.TheConstants.{SHARES}
-use Rattle.workers.specs.Reports.{jobs_of}
+use Rattle.job_workers.specs.Reports.{jobs_of}
 use Rattle.workers.proofs.ListLemmas.{as_many}
 use Rattle.workers.proofs.RunLemmas.{are_balanced, holds_some, served_so}
 use Rattle.workers.proofs.served.serve_allowed.Goals as goal

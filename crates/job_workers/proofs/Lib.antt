@@ -1,0 +1,4 @@
+pub mod TryLemmas
+pub mod TaskLemmas
+pub mod ReportLemmas
+pub mod HalfLemmas

@@ -1,0 +1,18 @@
+use Rattle.std.proofs.Common.{◌≡◌, ◌⊎◌}
+use Rattle.tx_table.specs.Seated.{opening_of}
+use Rattle.tx_phases.specs.Phases.{Rests}
+use Rattle.tx_engine.specs.Ready.{IsReady, standing}
+use Rattle.job_workers.specs.Tries.{HasNoReceipt}
+use Rattle.job_workers.proofs.TryLemmas.{InVain}
+use Rattle.job_workers.proofs.tries.retry_in.Given as goal
+
+-- all attempts so far were in vain, and the last of them ended so
+abbrev pub invariant-tries : goal.invariant-tries
+invariant-tries g l =
+    let asks = g.J.Job.asks l.job in
+    record {
+      ready : IsReady l.table l.seat;
+      vain : InVain asks l.table l.i l.initial.seat.seat l.seat.seat;
+      rests : (l.i ≡ 0) ⊎ (standing (opening_of l.table) l.seat.seat ≡ Rests);
+      none : (l.i ≡ 0) ⊎ HasNoReceipt asks l.table l.i l.initial.seat.seat l.seat.seat l.last;
+    }

@@ -1,0 +1,5 @@
+pub mod Tries
+pub mod Tasks
+pub mod Trees
+pub mod Reports
+pub mod Texts

@@ -1,0 +1,21 @@
+//! Workers, each of which runs the jobs of a list at one table.
+//!
+//! [`retry`] makes attempts of a job up to a receipt. [`run_workers`] has a worker for each list: the lists are halved, and each second
+//! half is given to a thread with a seat of its own, which is joined afterwards, so that the seat that was lent gains all receipts.
+#![tactic(auto)]
+
+mod causes;
+mod halves;
+mod lists;
+mod report;
+mod run;
+mod tasks;
+mod tree;
+mod tries;
+mod way;
+
+pub use causes::LastAbort;
+pub use report::Report;
+pub use run::{run_workers, run_workers_owned};
+pub use tries::retry;
+pub use tx_engine::{NoPause, Pause};

@@ -1,0 +1,89 @@
+//! A worker's list of jobs.
+ghost use Rattle.std.specs.Prelude.{◌≡◌, ◌<◌, ◌≤◌, ◌+◌, ◌++◌, ◌∷◌, [], length};
+ghost use Rattle.tx_table.specs.Seated.{actor, view};
+ghost use Rattle.tx_engine.specs.Ready.{IsReady};
+ghost use Rattle.job_workers.specs.Tasks.{Gains, GetsJoined, HasRoom, IsDone, IsFreshTask, IsLeft, IsSameTask, missed_in, receipts_in};
+
+use crate::causes::LastAbort;
+use crate::tries::retry_in;
+use crate::way::{Courtesy, Way};
+use jobs::Job;
+use seq_model::{Record, Value};
+use tx_engine::{Pause, TxSeat};
+use tx_table::TxTable;
+
+/// A worker's number and its jobs, with room for what comes of them.
+#[derive(Drop)]
+pub struct Task<V, J> {
+    pub worker: u64,
+    pub jobs: Vec<J>,
+    pub receipts: Vec<Record<V>>,
+    /// The worker, the job's place in its list, and why it has no receipt.
+    pub missed: Vec<(u64, u64, LastAbort)>,
+}
+
+impl<V: Value, J: Job<V>> Task<V, J> {
+    /// What has come of the job at this place, which is the next one.
+    fn note(&mut self, place: usize, outcome: Result<Record<V>, LastAbort>)
+        requires next { place < length self.old.jobs.items }
+        requires room { HasRoom place self.old }
+        ensures room { HasRoom (place + 1) self.new }
+        ensures same { IsSameTask self.old self.new }
+        ensures receipts { self.new.receipts.items ≡ self.old.receipts.items ++ receipts_in (outcome ∷ []) }
+        ensures missed { self.new.missed.items ≡ self.old.missed.items ++ missed_in self.old.worker place (outcome ∷ []) }
+    {
+        match outcome {
+            Ok(receipt) => self.receipts.push_reserved(receipt),
+            Err(cause) => self
+                .missed
+                .push_reserved((self.worker, place as u64, cause)),
+        }
+    }
+
+    /// Each job in turn, by this seat.
+    pub fn work<P: Pause>(
+        &mut self,
+        table: &TxTable<V>,
+        seat: &mut TxSeat<V>,
+        tries: u64,
+        pause: &P,
+        way: &Way,
+    )
+        requires some { 1 ≤ tries }
+        requires ready { IsReady table.now seat.old }
+        requires fresh { IsFreshTask self.old }
+        ensures ready { IsReady table.now seat.new }
+        ensures same { IsSameTask self.old self.new }
+        ensures done { IsDone J.asks table.now tries (actor seat.old.seat) (view seat.old.seat).turns (view seat.new.seat).turns self.new }
+        ensures joined { GetsJoined seat.old seat.new [] }
+        ensures gains { Gains seat.old seat.new self.new.receipts.items }
+    {
+        let mut courtesy = Courtesy::of(self.worker);
+        'jobs: for i in 0..self.jobs.len() {
+            let outcome = retry_in(
+                table,
+                seat,
+                &self.jobs[i],
+                tries,
+                self.worker,
+                pause,
+                way,
+                &mut courtesy,
+            );
+            way.leave(&mut courtesy);
+            self.note(i, outcome);
+        }
+    }
+
+    /// The list of a worker that was not started.
+    pub fn leave(&mut self)
+        requires fresh { IsFreshTask self.old }
+        ensures same { IsSameTask self.old self.new }
+        ensures left { IsLeft self.new }
+        ensures none { self.new.receipts.items ≡ [] }
+    {
+        'jobs: for i in 0..self.jobs.len() {
+            self.note(i, Err(LastAbort::NotStarted));
+        }
+    }
+}
