@@ -1,31 +1,34 @@
 #!/usr/bin/env bash
 # Where the time of a run of the gate goes, by crate.
 #
-#     scripts/gate_times.sh sample SECONDS > LOG     beside `rt ci` or `rt must-fail`, until it is stopped
-#     scripts/gate_times.sh table LOG                the table
+#     scripts/gate_times.sh sample SECONDS [FOLDER ..] > LOG     beside `rt ci` or `rt must-fail`, until it is stopped
+#     scripts/gate_times.sh table LOG                            the table
 #
-# The sampler looks every so many seconds at the prover's processes that a run in this repository started, and writes a line for
-# each: the time, the process, when it started, the processor time that it has had, what it works at (proof, tests or edits) and
-# for which crate. What a process works after the last look at it is lost, so SECONDS is small, 1 or 2. The table has processor
-# minutes: of each process the last that was seen, added up by crate and kind, the dearest crate first.
+# The sampler looks every so many seconds at the prover's processes that a run in this repository started, or one in the checkouts
+# FOLDER .. that share its work, and writes a line for each: the time, the process, when it started, the processor time that it has had,
+# what it works at (proof, tests or edits) and for which crate. What a process works after the last look at it is lost, so SECONDS is
+# small, 1 or 2. The table has processor minutes: of each process the last that was seen, added up by crate and kind, the dearest crate
+# first.
 set -u
 
 usage() {
-    sed -n '2,10s/^# \{0,1\}//p' "$0"
+    sed -n '2,12s/^# \{0,1\}//p' "$0"
     exit 2
 }
 
 cd "$(dirname "$0")/.." || exit 2
-root=$(pwd -P)
+roots=("$(pwd -P)")
 
-# Whether the process, or one that started it, works at the top of this repository or in one of its crates.
+# Whether the process, or one that started it, works at the top of such a repository or in one of its crates.
 is_ours() {
-    local pid=$1 at
+    local pid=$1 at root
     while [ "${pid:-0}" -gt 1 ]; do
         at=$(readlink "/proc/$pid/cwd" 2>/dev/null) || return 1
-        case "$at" in
-        "$root" | "$root"/crates/*) return 0 ;;
-        esac
+        for root in "${roots[@]}"; do
+            case "$at" in
+            "$root" | "$root"/crates/*) return 0 ;;
+            esac
+        done
         pid=$(awk '{ print $4 }' "/proc/$pid/stat" 2>/dev/null)
     done
     return 1
@@ -62,7 +65,8 @@ look_at() {
 
 case "${1:-}" in
 sample)
-    [ $# -eq 2 ] || usage
+    [ $# -ge 2 ] || usage
+    [ $# -eq 2 ] || roots=("${@:3}")
     while :; do
         for pid in $(pgrep -f -- --crate-name); do
             look_at "$pid"

@@ -1,6 +1,4 @@
 //! The same sessions on tables under one lock.
-ghost use Rattle.text_formats.specs.Options.{AreWithin};
-ghost use Rattle.vac_model.specs.Balanced.{IsBalanced};
 
 use crate::clock::seconds_since;
 use crate::sessions::{lists_of, memory, no_such_sessions};
@@ -11,19 +9,6 @@ use std::thread::{Threads, map_indices};
 use std::time::Instant;
 use text_formats::{Options, opening};
 use vac_model::{Action, Tables};
-
-/// Tables that are balanced whenever their lock is taken.
-#[derive(Drop)]
-struct Balanced {
-    tables: Tables,
-    ghost balanced: { IsBalanced tables },
-}
-
-impl Balanced {
-    fn act(&mut self, action: &Action) -> bool {
-        self.tables.act(action).is_ok()
-    }
-}
 
 /// The seconds that the sessions take.
 pub fn time<R: Runtime + AllocGlobal + Threads + Wait + Sync>(
@@ -42,9 +27,7 @@ fn drawn<R: Runtime + AllocGlobal + Threads + Wait + Sync>(
     rt: &R,
     options: &Options,
     seed: u64,
-) -> io::Result<f64>
-    requires { AreWithin options.now }
-{
+) -> io::Result<f64> {
     let lists = lists_of(rt.alloc(), seed, options).map_err(memory)?;
     opened(rt, options, seed, lists.as_slice())
 }
@@ -54,16 +37,14 @@ fn opened<R: Runtime + AllocGlobal + Threads + Wait + Sync>(
     options: &Options,
     seed: u64,
     lists: &[Vec<Action>],
-) -> io::Result<f64>
-    requires { AreWithin options.now }
-{
+) -> io::Result<f64> {
     let tables = opening(rt.alloc(), seed, options).map_err(memory)?;
-    act_all(rt, &Mutex::new(Balanced { tables }), lists)
+    act_all(rt, &Mutex::new(tables), lists)
 }
 
 fn act_all<R: Runtime + AllocGlobal + Threads + Wait + Sync>(
     rt: &R,
-    tables: &Mutex<Balanced>,
+    tables: &Mutex<Tables>,
     lists: &[Vec<Action>],
 ) -> io::Result<f64> {
     let start = Instant::now(rt);
@@ -86,10 +67,10 @@ fn act_all<R: Runtime + AllocGlobal + Threads + Wait + Sync>(
 }
 
 /// Whether none of the actions is refused.
-fn act_each<R: Wait>(rt: &R, tables: &Mutex<Balanced>, list: &[Action]) -> bool {
+fn act_each<R: Wait>(rt: &R, tables: &Mutex<Tables>, list: &[Action]) -> bool {
     let mut allowed = true;
     for action in list {
-        allowed &= tables.lock(rt).act(action);
+        allowed &= tables.lock(rt).act(action).is_ok();
     }
     allowed
 }

@@ -1,5 +1,4 @@
 //! Puts into sets of a transaction and finds in them, in nanoseconds a call.
-ghost use Rattle.std.specs.Prelude.{◌<◌, ◌≤◌};
 
 use rand::seq::SliceRandom;
 use rand_core::SeedableRng;
@@ -38,9 +37,7 @@ fn report_both(
     report(rt, order, 4096, locations)
 }
 
-fn all_locations(alloc: Global, distance: u32) -> Result<Vec<u32>, AllocError>
-    requires { distance ≤ APART }
-{
+fn all_locations(alloc: Global, distance: u32) -> Result<Vec<u32>, AllocError> {
     let mut locations = Vec::new(alloc);
     for location in 0..LOCATIONS {
         locations.push(location * distance)?;
@@ -53,9 +50,7 @@ fn report(
     order: &str,
     size: usize,
     locations: &[u32],
-) -> io::Result<()>
-    requires { 0 < size }
-{
+) -> io::Result<()> {
     let put = nanos_a_call(time_puts(rt, size, locations)?);
     let find = nanos_a_call(time_finds(rt, size, locations)?);
     println!(rt; "{size} locations, {order}: {put:.1} ns a put, {find:.1} ns a find")
@@ -73,9 +68,7 @@ fn time_puts(
     rt: &(impl Runtime + AllocGlobal),
     size: usize,
     locations: &[u32],
-) -> io::Result<Duration>
-    requires { 0 < size }
-{
+) -> io::Result<Duration> {
     let mut set = ReadSet::new(rt.alloc());
     set.reserve(size)?;
     let start = Instant::now(rt)?;
@@ -83,9 +76,7 @@ fn time_puts(
     start.elapsed(rt)
 }
 
-fn put_rounds(set: &mut ReadSet, size: usize, locations: &[u32]) -> Result<(), SetRefusal>
-    requires { 0 < size }
-{
+fn put_rounds(set: &mut ReadSet, size: usize, locations: &[u32]) -> Result<(), SetRefusal> {
     for _ in 0..ROUNDS {
         for chunk in locations.chunks(size) {
             set.clear();
@@ -106,9 +97,7 @@ fn time_finds(
     rt: &(impl Runtime + AllocGlobal),
     size: usize,
     locations: &[u32],
-) -> io::Result<Duration>
-    requires { 0 < size }
-{
+) -> io::Result<Duration> {
     let sets = sets_of(rt.alloc(), size, locations).map_err(refused)?;
     let start = Instant::now(rt)?;
     let found = find_rounds(sets.as_slice(), size, locations);
@@ -120,9 +109,7 @@ fn time_finds(
     }
 }
 
-fn sets_of(alloc: Global, size: usize, locations: &[u32]) -> Result<Vec<ReadSet>, SetRefusal>
-    requires { 0 < size }
-{
+fn sets_of(alloc: Global, size: usize, locations: &[u32]) -> Result<Vec<ReadSet>, SetRefusal> {
     let mut sets = Vec::new(alloc);
     for chunk in locations.chunks(size) {
         let mut set = ReadSet::new(alloc);
@@ -132,9 +119,7 @@ fn sets_of(alloc: Global, size: usize, locations: &[u32]) -> Result<Vec<ReadSet>
     Ok(sets)
 }
 
-fn find_rounds(sets: &[ReadSet], size: usize, locations: &[u32]) -> bool
-    requires { 0 < size }
-{
+fn find_rounds(sets: &[ReadSet], size: usize, locations: &[u32]) -> bool {
     let mut found = true;
     for _ in 0..ROUNDS {
         for (set, chunk) in sets.iter().zip(locations.chunks(size)) {

@@ -1,5 +1,4 @@
 //! Drawn sessions of one client, one after another on a running world, in microseconds a session.
-ghost use Rattle.text_formats.specs.Options.{AreWithin};
 
 use crate::clock::seconds_since;
 use crate::sessions::{Mix, SEED, STRIPES, memory, no_such_sessions, options};
@@ -37,9 +36,7 @@ fn seconds_of(rt: &(impl Runtime + AllocGlobal), options: &Options) -> io::Resul
     }
 }
 
-fn drawn(rt: &(impl Runtime + AllocGlobal), options: &Options) -> io::Result<f64>
-    requires { AreWithin options.now }
-{
+fn drawn(rt: &(impl Runtime + AllocGlobal), options: &Options) -> io::Result<f64> {
     let actions = generate(rt.alloc(), SEED, 1, options).map_err(memory)?;
     timed(rt, options, actions.as_slice())
 }
@@ -48,9 +45,7 @@ fn timed(
     rt: &(impl Runtime + AllocGlobal),
     options: &Options,
     actions: &[Action],
-) -> io::Result<f64>
-    requires { AreWithin options.now }
-{
+) -> io::Result<f64> {
     let tables = opening(rt.alloc(), SEED, options).map_err(memory)?;
     let start = Instant::now(rt);
     let run = run_in_order(rt.alloc(), tables, STRIPES, actions);
