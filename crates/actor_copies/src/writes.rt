@@ -46,7 +46,9 @@ fn reserve_writes(words: &mut Actor, count: usize) -> Result<(), Memory>
     ensures calls { OnOk result (vec_len words.new.calls + count ≤ vec_capacity words.new.calls) }
 {
     words.calls.reserve(count)?;
-    words.writes.reserve(count)?;
+    if let Err(_) = words.writes.reserve(count) {
+        return Err(Memory);
+    }
     Ok(())
 }
 
@@ -65,7 +67,9 @@ pub fn reserve_words(words: &mut Actor, reads: usize, writes: usize) -> Result<(
     reserve_writes(words, writes)?;
     words.calls.reserve(more)?;
     if !words.declared {
-        words.reads.reserve(reads)?;
+        if let Err(_) = words.reads.reserve(reads) {
+            return Err(Memory);
+        }
     }
     Ok(())
 }

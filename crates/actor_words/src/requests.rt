@@ -55,7 +55,9 @@ fn reserve_read(words: &mut Actor) -> Result<(), AllocError>
     if words.declared {
         return Ok(());
     }
-    words.reads.reserve(1)?;
+    if let Err(_) = words.reads.reserve(1) {
+        return Err(AllocError);
+    }
     Ok(())
 }
 

@@ -1,6 +1,6 @@
 //! The values that a transaction read or is to write, by location.
 ghost use Rattle.std.specs.Prelude.{◌≡◌, ◌↔◌, ◌+◌, ◌<◌, ◌≤◌, [], false, true, count_by, insert, length, nat_lt};
-ghost use Rattle.std.specs.Prelude.{Err, IsOk, IsSome, None, Ok, OnErr, OnOk};
+ghost use Rattle.std.specs.Prelude.{Err, IfErr, IsOk, IsSome, None, Ok, OnErr, OnOk};
 ghost use Rattle.std.specs.Vec.{vec_capacity, vec_len};
 ghost use Rattle.tx_sets.specs.Entries.{IsRising, lookup, with_entry};
 ghost use Rattle.tx_sets.specs.AccessSet.{AreLinked, AreOrderly, IsBeyondLimit, IsHead, IsLast, IsPlaceOf, LacksLink, LacksRoom};
@@ -164,15 +164,18 @@ impl<Role> AccessSet<Role> {
         Ok(())
     }
 
-    /// Makes room for `more` further locations: within the limit, they are put without memory.
-    pub fn reserve(&mut self, more: usize) -> Result<(), AllocError>
+    /// Makes room for `more` further locations: within the limit, they are put without memory. `Memory`, where none is given,
+    /// leaves the set as it was.
+    pub fn reserve(&mut self, more: usize) -> Result<(), SetRefusal>
         ensures entries { self.new.entries ≡ self.old.entries }
         ensures ok { OnOk result (more ≤ self.new.room) }
         ensures room { self.old.room ≤ self.new.room }
         ensures reserved { more ≤ self.old.room → IsOk result }
+        ensures memory { IfErr result (λ refusal. refusal ≡ OutOfMemory) }
         ensures err { OnErr result (self.new ≡ self.old) }
     {
-        reserve_both(&mut self.links, &mut self.entries, more)
+        reserve_both(&mut self.links, &mut self.entries, more)?;
+        Ok(())
     }
 
     /// Takes all entries out, for the next transaction. The memory stays.

@@ -13,8 +13,7 @@ use crate::actor::{Actor, Place};
 use crate::answer::{WordAnswer, WordRefusal, WordRequest};
 use crate::phase::Phase;
 use crate::record::WordCall;
-use std::alloc::AllocError;
-use tx_sets::{AccessSet, LOCATION_LIMIT, ReadSet};
+use tx_sets::{AccessSet, LOCATION_LIMIT, ReadSet, SetRefusal};
 
 /// Why a new location is refused, if a set has its most locations.
 fn if_full<Role>(set: &AccessSet<Role>) -> Option<WordRefusal>
@@ -28,7 +27,7 @@ fn if_full<Role>(set: &AccessSet<Role>) -> Option<WordRefusal>
 }
 
 /// Makes room for a read that is to be kept. A declared reader keeps none.
-fn reserve_read(reads: &mut ReadSet, declared: bool) -> Result<(), AllocError>
+fn reserve_read(reads: &mut ReadSet, declared: bool) -> Result<(), SetRefusal>
     ensures entries { reads.new.entries ≡ reads.old.entries }
     ensures room { OnOk result (declared ≡ false → 0 < reads.new.room) }
     ensures none { declared ≡ true → IsOk result }
