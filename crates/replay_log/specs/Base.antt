@@ -1,13 +1,16 @@
 -- A base of any of the four kinds: what it shows to calls, and what calls answer, read, write and change.
-use Rattle.std.specs.Prelude.{◌≡◌, ℕ, ◌+◌, ◌<◌, ◌≤◌, List, ◌++◌, length, Option, Some, option_map}
+use Rattle.std.specs.Prelude.{◌≡◌, ℕ, ◌+◌, ◌<◌, ◌≤◌, List, [], ◌++◌, length, Option, Some, None, option_map}
 use Rattle.std.specs.Ordering.{nat_cmp}
-use Rattle.std.specs.FinMap.{FinMap}
+use Rattle.std.specs.FinMap.{FinMap, empty}
 use Rattle.seq_model.specs.declared.call.Op.{Op}
 use Rattle.seq_model.specs.declared.held.Held.{Held}
 use Rattle.seq_model.specs.declared.held.Held.TheVariants as held
+use Rattle.seq_model.specs.declared.kind.Kind.{Kind}
+use Rattle.seq_model.specs.declared.kind.Kind.TheVariants as kind
 use Rattle.seq_model.specs.Counts.{Multiset}
 use Rattle.conflict.specs.declared.change.Change.{Change}
 use Rattle.conflict.specs.declared.outcome.Outcome.{Outcome}
+use Rattle.conflict.specs.Refusals.{IsPqStripeCount, IsStripeCount}
 use Rattle.conflict.specs.Rules.{applied, AreConflicting}
 use Rattle.base_map.specs.Conflicts as map
 use Rattle.base_bag.specs.Conflicts as bag
@@ -24,7 +27,19 @@ pub data Shown (V : Type 0) : Type 0 where
   OfPq : (elements : pq.Shown) → Shown V
   OfQueue : (items : queue.Shown) → Shown V
 
+-- a collection of the kind may have so many stripes
+abbrev pub IsStripeCountOfKind : Kind → ℕ → Type 0
+IsStripeCountOfKind kind.Pq n = IsPqStripeCount n
+IsStripeCountOfKind k n = IsStripeCount n
+
 module _ {V : Type 0} where
+  -- what an empty collection of the kind shows
+  abbrev pub empty_of : Kind → Shown V
+  empty_of kind.Map = OfMap empty
+  empty_of kind.Bag = OfBag empty
+  empty_of kind.Pq = OfPq (record { elements = empty; least = None })
+  empty_of kind.Queue = OfQueue (queue.queue_view 0 [])
+
   abbrev pub shown_of : Base V → Shown V
   shown_of (base.Map b) = OfMap b.shown
   shown_of (base.Bag b) = OfBag b.shown

@@ -7,11 +7,13 @@ ghost use Rattle.conflict.specs.Editions.{raised};
 ghost use Rattle.conflict.specs.Refusals.{IsTooLong, IsStripeCountOf};
 ghost use Rattle.replay_log.specs.Base.{
   IsPreparedFor,
+  IsStripeCountOfKind,
   LeavesPrepared,
   StaysPrepared,
   after,
   changes_of,
   editions_of,
+  empty_of,
   held_of,
   locations_of,
   outcome_of,
@@ -30,10 +32,10 @@ use base_map::MapBase;
 use base_pq::PqBase;
 use base_queue::QueueBase;
 use conflict::{Change, Changes, LocSet, Outcome};
-use seq_model::{Held, Memory, Op, Refusal, Value};
+use seq_model::{Held, Kind, Memory, Op, Refusal, Value};
 use std::alloc::Global;
 
-/// A collection in stripes, with an edition for each of its locations. An empty one is made by `new` of its kind.
+/// A collection in stripes, with an edition for each of its locations.
 #[derive(Drop)]
 pub enum Base<V> {
     Map(MapBase<V>),
@@ -43,6 +45,24 @@ pub enum Base<V> {
 }
 
 impl<V: Value> Base<V> {
+    /// An empty collection of this kind, with edition 0 for each location; the first item of a queue will have index 0. A number of
+    /// stripes outside 1 to `STRIPE_LIMIT`, of a priority queue 1 to `PQ_STRIPE_LIMIT`, is refused as TooLong. Only then memory is
+    /// asked for.
+    pub fn new(alloc: Global, stripes: u32, kind: Kind) -> Result<Base<V>, Refusal>
+        ensures shown { IfOk result (λ base. shown_of base ≡ empty_of kind) }
+        ensures stripes { IfOk result (λ base. stripes_of base ≡ stripes) }
+        ensures editions { IfOk result (λ base. editions_of base ≡ replicate (locations_of stripes (shown_of base)) 0) }
+        ensures refused { IfErr result (λ refusal. IsTooLong refusal (IsStripeCountOfKind kind stripes)) }
+        ensures fits { IsOk result → IsStripeCountOfKind kind stripes }
+    {
+        Ok(match kind {
+            Kind::Map => Base::Map(MapBase::new(alloc, stripes)?),
+            Kind::Bag => Base::Bag(BagBase::new(alloc, stripes)?),
+            Kind::Pq => Base::Pq(PqBase::new(alloc, stripes)?),
+            Kind::Queue => Base::Queue(QueueBase::new(alloc, stripes)?),
+        })
+    }
+
     /// A collection that holds this, with edition 0 for each location. A number of stripes outside 1 to `STRIPE_LIMIT`, of a priority
     /// queue 1 to `PQ_STRIPE_LIMIT`, too many copies of an element, and items whose indexes would pass `INDEX_LIMIT`, are refused as
     /// TooLong. Only then memory is asked for.
