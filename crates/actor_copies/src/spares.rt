@@ -256,7 +256,7 @@ fn first_spare<V: Value>(alloc: Global, stripes: u32, kind: MemoKind) -> Result<
     ensures memo { IfOk result (λ spare. IsBlank stripes kind spare.memo) }
     ensures editions { IfOk result (λ spare. spare.editions.contents ≡ map.empty) }
 {
-    let memo = Boxed::new(alloc, Memo::new(alloc, stripes, kind)?)?;
+    let memo = Boxed::new(alloc, Memo::empty(alloc, stripes, kind)?)?;
     let editions = Boxed::new(alloc, FewKeys::new(alloc))?;
     Ok(Spare { memo, editions })
 }

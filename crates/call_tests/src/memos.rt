@@ -3,8 +3,8 @@ use crate::print::print_changes;
 use conflict::Outcome;
 use replay_log::Base;
 use row_parts::{print_reply, script_of};
-use seq_model::{Memory, Op, Refusal, Request};
-use shadow::{Memo, MemoKind};
+use seq_model::{Kind, Memory, Op, Refusal, Request};
+use shadow::Memo;
 use std::alloc::Global;
 use text_formats::EventLine;
 
@@ -21,8 +21,8 @@ pub fn answer_remembered(text: &mut String, base: &Base<u64>, calls: &str) -> Re
 
 fn memo_of(alloc: Global, base: &Base<u64>) -> Result<Memo<u64>, Refusal> {
     match base {
-        Base::Map(_) => Memo::new(alloc, STRIPES, MemoKind::Map),
-        Base::Bag(_) => Memo::new(alloc, STRIPES, MemoKind::Bag),
+        Base::Map(_) => Memo::new(alloc, STRIPES, Kind::Map),
+        Base::Bag(_) => Memo::new(alloc, STRIPES, Kind::Bag),
         _ => Err(Refusal::NoSuch),
     }
 }

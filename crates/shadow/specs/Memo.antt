@@ -1,5 +1,5 @@
 -- What a transaction keeps of the single keys that it touched of a map or a multiset, and of the number of all keys of a map.
-use Rattle.std.specs.Prelude.{◌≡◌, ℕ, suc, ◌+◌, ◌-◌, ◌^◌, ◌<◌, ⊤, length, Bool, true, false, List, Option, Some, None, is_some, nat_lt}
+use Rattle.std.specs.Prelude.{◌≡◌, ℕ, suc, ◌+◌, ◌-◌, ◌^◌, ◌<◌, ⊤, ⊥, length, Bool, true, false, List, Option, Some, None, is_some, nat_lt}
 use Rattle.std.specs.Prelude.{replicate, unwrap_or, if◌then◌else◌}
 use Rattle.std.specs.Ordering.{nat_cmp}
 use Rattle.std.specs.List.{sum}
@@ -24,6 +24,8 @@ use Rattle.replay_log.specs.Base.{Shown, OfMap, OfBag, changes_of, outcome_of, s
 use Rattle.replay_log.specs.Parts.{kind_of}
 use Rattle.replay_log.specs.declared.touch.Touched.{Touched}
 use Rattle.replay_log.specs.declared.touch.Touched.TheVariants.{Entry, Copies, Counts, Total}
+use Rattle.seq_model.specs.declared.kind.Kind.{Kind}
+use Rattle.seq_model.specs.declared.kind.Kind.TheVariants as any_kind
 use Rattle.shadow.specs.declared.memo.MemoKind.{MemoKind}
 use Rattle.shadow.specs.declared.memo.MemoKind.TheVariants as kind
 use Rattle.replay_log.specs.Log.{LogView}
@@ -65,6 +67,12 @@ with_number n (Some total) = Some total
 abbrev pub IsTold : Option ℕ → Type 0
 IsTold None = ⊤
 IsTold (Some total) = total < 2 ^ 63
+
+-- a call on a collection of the kind touches single keys
+abbrev pub HasKeys : Kind → Type 0
+HasKeys any_kind.Map = ⊤
+HasKeys any_kind.Bag = ⊤
+HasKeys k = ⊥
 
 -- the room of the table of the kind
 abbrev pub kind_room : MemoKind → (entries copies : ℕ) → ℕ

@@ -10,16 +10,16 @@ ghost use Rattle.conflict.specs.Footprints.{all_below};
 ghost use Rattle.conflict.specs.Refusals.{IsTooLong, IsStripeCount};
 ghost use Rattle.base_bag.specs.Conflicts as bag;
 ghost use Rattle.base_map.specs.Conflicts as of_map;
-ghost use Rattle.replay_log.specs.Base.{changes_of, reads_of, shown_of, stripes_of, writes_of};
+ghost use Rattle.replay_log.specs.Base.{changes_of, empty_of, reads_of, shown_of, stripes_of, writes_of};
 ghost use Rattle.shadow.specs.KeyPlace.{written_there};
-ghost use Rattle.shadow.specs.Memo.{HasPlace, IsReadyFor, answer_with, blank_of, copies_after, copies_kept, copies_without};
+ghost use Rattle.shadow.specs.Memo.{HasKeys, HasPlace, IsReadyFor, answer_with, blank_of, copies_after, copies_kept, copies_without};
 ghost use Rattle.shadow.specs.Memo.{entries_after, entries_kept};
 ghost use Rattle.shadow.specs.Memo.{entries_without, grown_after, grown_kept, holds, kind_room, map_answer, shape, shrunk_after};
 ghost use Rattle.shadow.specs.Memo.{shrunk_kept, total_without, with_count, with_entry, with_key, with_number, with_total, IsTold};
 
 use conflict::{Change, FewKeys, LocSet, Note, Outcome, is_stripe_count};
 use replay_log::{Log, Touch, Touched};
-use seq_model::{COPY_LIMIT, Items, Memory, Op, Refusal, Reply, Value};
+use seq_model::{COPY_LIMIT, Items, Kind, Memory, Op, Refusal, Reply, Value};
 use std::alloc::Global;
 use std::marker::Model;
 use std::mem;
@@ -133,8 +133,29 @@ impl<V: Drop> Memo<V> {
 
 impl<V: Value> Memo<V> {
     /// A memo of a map or a multiset in so many stripes, with no key yet. A number of stripes outside 1 to `STRIPE_LIMIT` is refused
-    /// as TooLong.
-    pub fn new(alloc: Global, stripes: u32, kind: MemoKind) -> Result<Memo<V>, Refusal>
+    /// as TooLong. There is none of a priority queue or a queue, as each of their calls touches the whole.
+    pub fn new(alloc: Global, stripes: u32, kind: Kind) -> Result<Memo<V>, Refusal>
+        requires { HasKeys kind }
+        ensures blank { IfOk result (λ memo. shown_of memo.blank ≡ empty_of kind) }
+        ensures stripes { IfOk result (λ memo. stripes_of memo.blank ≡ stripes) }
+        ensures entries { IfOk result (λ memo. memo.entries ≡ map.empty) }
+        ensures copies { IfOk result (λ memo. memo.copies ≡ map.empty) }
+        ensures total { IfOk result (λ memo. memo.total ≡ None) }
+        ensures grown { IfOk result (λ memo. memo.grown ≡ 0) }
+        ensures shrunk { IfOk result (λ memo. memo.shrunk ≡ 0) }
+        ensures changes { IfOk result (λ memo. memo.changes ≡ []) }
+        ensures locations { IfOk result (λ memo. memo.locations ≡ []) }
+        ensures refused { IfErr result (λ refusal. IsTooLong refusal (IsStripeCount stripes)) }
+    {
+        match kind {
+            Kind::Map => Memo::empty(alloc, stripes, MemoKind::Map),
+            Kind::Bag => Memo::empty(alloc, stripes, MemoKind::Bag),
+            Kind::Pq | Kind::Queue => unreachable!(),
+        }
+    }
+
+    /// What `new` makes, by a kind that has keys.
+    pub fn empty(alloc: Global, stripes: u32, kind: MemoKind) -> Result<Memo<V>, Refusal>
         ensures blank { IfOk result (λ memo. shown_of memo.blank ≡ shape kind) }
         ensures stripes { IfOk result (λ memo. stripes_of memo.blank ≡ stripes) }
         ensures entries { IfOk result (λ memo. memo.entries ≡ map.empty) }
@@ -165,7 +186,7 @@ impl<V: Value> Memo<V> {
         })
     }
 
-    /// Is from now on what `new` makes, in its own memory and in that of this log, whatever both keep.
+    /// Is from now on what `empty` makes, in its own memory and in that of this log, whatever both keep.
     pub fn renew(&mut self, stripes: u32, kind: MemoKind, log: Log<V>) -> Result<(), Refusal>
         ensures blank { OnOk result (shown_of self.new.blank ≡ shape kind) }
         ensures stripes { OnOk result (stripes_of self.new.blank ≡ stripes) }
