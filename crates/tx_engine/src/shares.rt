@@ -11,7 +11,7 @@ ghost use Rattle.tx_engine.specs.Closing.{IsLeftBy};
 ghost use Rattle.tx_engine.specs.Ready.{IsReady};
 
 use crate::seats::TxSeat;
-use seq_model::{Refusal, Shape, State, Value};
+use seq_model::{Memory, Refusal, Shape, State, Value};
 use std::alloc::Global;
 use tx_table::{Closed, SHARES, Seat, TxTable};
 
@@ -80,17 +80,19 @@ impl<V: Value> TxSeat<V> {
     }
 
     /// What the table holds, once every seat was joined into this one: it is what the receipts leave, one transaction after another. It
-    /// takes no memory.
-    pub fn close(self, table: TxTable<V>) -> Closed<V>
+    /// takes no memory, so it is never refused.
+    pub fn close(self, table: TxTable<V>) -> Result<Closed<V>, Memory>
         requires ready { IsReady table self }
         requires all { (view self.seat).shares ≡ SHARES }
-        ensures words { result.words ≡ words_in table }
-        ensures locations { result.locations ≡ locations_in table }
-        ensures collections { length (homes_of result) ≡ length (blocks_in table) }
-        ensures left { IsLeftBy (contents_in table) (view self.seat).receipts result }
-        ensures shows { ShowsWorld (opening_of table) (actor self.seat) (view self.seat) (row_of result) (map some (homes_of result)) }
+        ensures served { IsOk result }
+        ensures words { IfOk result (λ closed. closed.words ≡ words_in table) }
+        ensures locations { IfOk result (λ closed. closed.locations ≡ locations_in table) }
+        ensures collections { IfOk result (λ closed. length (homes_of closed) ≡ length (blocks_in table)) }
+        ensures left { IfOk result (IsLeftBy (contents_in table) (view self.seat).receipts) }
+        ensures shows { IfOk result (λ closed.
+            ShowsWorld (opening_of table) (actor self.seat) (view self.seat) (row_of closed) (map some (homes_of closed))) }
     {
-        table.close(self.into_seat())
+        Ok(table.into_closed(self.into_seat()))
     }
 
     fn into_seat(self) -> Seat<V>

@@ -222,7 +222,8 @@ impl<V: Value> Store<V> {
         } = self;
         match seat {
             Some(seat) => {
-                let state = seat.close(table).state()?;
+                let closed = seat.close(table)?;
+                let state = closed.state()?;
                 Ok(Contents {
                     store: number,
                     state,

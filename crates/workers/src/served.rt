@@ -86,7 +86,7 @@ fn close(table: TxTable<Entry>, seat: TxSeat<Entry>) -> Result<State<Entry>, Mem
     requires all { (view seat.seat).shares ≡ SHARES }
     ensures { IfOk result (IsClosedWith table seat) }
 {
-    let closed = seat.close(table);
+    let closed = seat.close(table)?;
     let state = closed.state()?;
     Ok(state)
 }

@@ -23,7 +23,7 @@ pub fn close<V: Value>(table: TxTable<V>, seat: TxSeat<V>) -> Result<(u64, State
         drop(table);
         return Err(Refusal::NoSuch);
     }
-    let closed = seat.close(table);
+    let closed = seat.close(table)?;
     let clock = closed.clock();
     let last = closed.state()?;
     Ok((clock, last))
@@ -43,7 +43,7 @@ pub fn close_told(
         drop(table);
         return Err(Refusal::NoSuch);
     }
-    let closed = seat.close(table);
+    let closed = seat.close(table)?;
     say_left(page, &closed, rows);
     let clock = closed.clock();
     let last = closed.state()?;

@@ -4,7 +4,7 @@ use Rattle.replay_log.proofs.ContentLemmas.{end_above}
 use Rattle.tx_table.specs.Layout.{width}
 use Rattle.tx_table.specs.Opening.{blocks_at, words_at}
 use Rattle.tx_table.proofs.SeatShares.{all_home, closes_all, shows_last}
-use Rattle.tx_table.proofs.table.TxTable.close.Goals as goal
+use Rattle.tx_table.proofs.table.TxTable.into_closed.Goals as goal
 
 pub invariant_of-result : goal.invariant_of-result
 invariant_of-result g c =
