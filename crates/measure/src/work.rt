@@ -1,4 +1,5 @@
 //! The calls of the transactions, and what they are made on.
+ghost use Rattle.std.specs.Prelude.{◌<◌};
 
 use rand_core::Rng;
 use rand_xoshiro::Xoshiro256PlusPlus;

@@ -1,4 +1,5 @@
 //! Drawn sessions of one client, one after another on a running world, in microseconds a session.
+ghost use Rattle.text_formats.specs.Options.{AreWithin};
 
 use crate::clock::seconds_since;
 use crate::sessions::{Mix, SEED, STRIPES, memory, no_such_sessions, options};
@@ -36,7 +37,9 @@ fn seconds_of(rt: &(impl Runtime + AllocGlobal), options: &Options) -> io::Resul
     }
 }
 
-fn drawn(rt: &(impl Runtime + AllocGlobal), options: &Options) -> io::Result<f64> {
+fn drawn(rt: &(impl Runtime + AllocGlobal), options: &Options) -> io::Result<f64>
+    requires { AreWithin options.now }
+{
     let actions = generate(rt.alloc(), SEED, 1, options).map_err(memory)?;
     timed(rt, options, actions.as_slice())
 }
@@ -45,7 +48,9 @@ fn timed(
     rt: &(impl Runtime + AllocGlobal),
     options: &Options,
     actions: &[Action],
-) -> io::Result<f64> {
+) -> io::Result<f64>
+    requires { AreWithin options.now }
+{
     let tables = opening(rt.alloc(), SEED, options).map_err(memory)?;
     let start = Instant::now(rt);
     let run = run_in_order(rt.alloc(), tables, STRIPES, actions);

@@ -1,4 +1,9 @@
 //! Drawn sessions by workers on a shared table.
+ghost use Rattle.std.specs.Prelude.{◌≡◌, ◌≤◌, IfOk, length};
+ghost use Rattle.text_formats.specs.Options.{AreWithin};
+ghost use Rattle.vac_model.specs.Balanced.{IsBalanced};
+ghost use Rattle.tx_table.specs.Seated.{view};
+ghost use Rattle.tx_engine.specs.Ready.{IsReady};
 
 use crate::clock::seconds_since;
 use crate::sessions::{STRIPES, lists_of, memory, no_such_sessions};
@@ -37,7 +42,9 @@ fn drawn<R: Runtime + AllocGlobal + Threads + Wait + Sync>(
     rt: &R,
     options: &Options,
     seed: u64,
-) -> io::Result<(f64, u64)> {
+) -> io::Result<(f64, u64)>
+    requires { AreWithin options.now }
+{
     let tables = opening(rt.alloc(), seed, options).map_err(memory)?;
     let made = from_tables(rt, options, seed, &tables);
     drop(tables);
@@ -49,7 +56,10 @@ fn from_tables<R: Runtime + AllocGlobal + Threads + Wait + Sync>(
     options: &Options,
     seed: u64,
     tables: &Tables,
-) -> io::Result<(f64, u64)> {
+) -> io::Result<(f64, u64)>
+    requires within { AreWithin options.now }
+    requires balanced { IsBalanced tables.now }
+{
     let lists = lists_of(rt.alloc(), seed, options).map_err(memory)?;
     of_lists(rt, tables, lists.as_slice())
 }
@@ -58,7 +68,9 @@ fn of_lists<R: Runtime + AllocGlobal + Threads + Wait + Sync>(
     rt: &R,
     tables: &Tables,
     lists: &[Vec<Action>],
-) -> io::Result<(f64, u64)> {
+) -> io::Result<(f64, u64)>
+    requires { IsBalanced tables.now }
+{
     let sessions = all_sessions(rt.alloc(), lists).map_err(refused)?;
     if sessions.is_empty() || sessions.len() > ACTOR_LIMIT as usize {
         return Err(no_such_sessions());
@@ -71,7 +83,9 @@ fn at_table<R: Runtime + AllocGlobal + Threads + Wait + Sync>(
     rt: &R,
     state: State<Entry>,
     sessions: Vec<Vec<Session>>,
-) -> io::Result<(f64, u64)> {
+) -> io::Result<(f64, u64)>
+    requires { (1 ≤ length sessions.items) × (length sessions.items ≤ ACTOR_LIMIT) }
+{
     match open(rt.alloc(), state) {
         Ok((table, seat)) => {
             let made = run(rt, &table, seat, sessions);
@@ -99,7 +113,10 @@ fn refused(_refusal: Refusal) -> io::Error {
     io::Error::other("the table can't be opened")
 }
 
-fn open(alloc: Global, state: State<Entry>) -> Result<(TxTable<Entry>, TxSeat<Entry>), Refusal> {
+fn open(alloc: Global, state: State<Entry>) -> Result<(TxTable<Entry>, TxSeat<Entry>), Refusal>
+    ensures ready { IfOk result (λ opened. IsReady opened.0 opened.1) }
+    ensures shares { IfOk result (λ opened. (view opened.1.seat).shares ≡ 64) }
+{
     let shape = Shape {
         stripes: Items::from_vec(vec![in alloc; STRIPES; 8]?),
         clock: 0,
@@ -112,7 +129,11 @@ fn run<R: Runtime + AllocGlobal + Threads + Wait + Sync>(
     table: &TxTable<Entry>,
     seat: TxSeat<Entry>,
     sessions: Vec<Vec<Session>>,
-) -> io::Result<(f64, u64)> {
+) -> io::Result<(f64, u64)>
+    requires ready { IsReady table.now seat }
+    requires shares { (view seat.seat).shares ≡ 64 }
+    requires some { (1 ≤ length sessions.items) × (length sessions.items ≤ ACTOR_LIMIT) }
+{
     match Tries::new(rt.alloc(), sessions.len()) {
         Ok(tries) => timed(rt, table, seat, sessions, &tries),
         Err(refusal) => {
@@ -128,7 +149,11 @@ fn timed<R: Runtime + AllocGlobal + Threads + Wait + Sync>(
     seat: TxSeat<Entry>,
     sessions: Vec<Vec<Session>>,
     tries: &Tries,
-) -> io::Result<(f64, u64)> {
+) -> io::Result<(f64, u64)>
+    requires ready { IsReady table.now seat }
+    requires shares { (view seat.seat).shares ≡ 64 }
+    requires some { (1 ≤ length sessions.items) × (length sessions.items ≤ ACTOR_LIMIT) }
+{
     let start = Instant::now(rt);
     let (seat, report) = run_workers_owned(rt, rt.alloc(), table, seat, sessions, TRIES, tries);
     let seconds = seconds_since(rt, start);

@@ -1,4 +1,6 @@
 //! Actions on the reservation tables, in actions a second.
+ghost use Rattle.std.specs.Prelude.{◌<◌, OnOk};
+ghost use Rattle.vac_model.specs.Balanced.{IsBalanced};
 
 use crate::clock::seconds_since;
 use rand_core::{Rng, SeedableRng};
@@ -23,13 +25,17 @@ pub fn measure(rt: &(impl Runtime + AllocGlobal)) -> io::Result<()> {
 }
 
 /// Of so many items of each kind, and as many customers.
-fn report(rt: &(impl Runtime + AllocGlobal), items: u64) -> io::Result<()> {
+fn report(rt: &(impl Runtime + AllocGlobal), items: u64) -> io::Result<()>
+    requires { 0 < items }
+{
     let seconds = seconds_of(rt, items)?;
     let speed = ACTIONS as f64 / seconds / 1e3;
     println!(rt; "{items} items a kind: {speed:.0} thousand actions a second")
 }
 
-fn seconds_of(rt: &(impl Runtime + AllocGlobal), items: u64) -> io::Result<f64> {
+fn seconds_of(rt: &(impl Runtime + AllocGlobal), items: u64) -> io::Result<f64>
+    requires { 0 < items }
+{
     let mut tables = Tables::new(rt.alloc());
     let seconds = timed(rt, items, &mut tables);
     drop(tables);
@@ -37,7 +43,10 @@ fn seconds_of(rt: &(impl Runtime + AllocGlobal), items: u64) -> io::Result<f64> 
 }
 
 /// The time of the second half of the actions.
-fn timed(rt: &(impl Runtime + AllocGlobal), items: u64, tables: &mut Tables) -> io::Result<f64> {
+fn timed(rt: &(impl Runtime + AllocGlobal), items: u64, tables: &mut Tables) -> io::Result<f64>
+    requires some { 0 < items }
+    requires balanced { IsBalanced tables.old }
+{
     let mut random = Xoshiro256PlusPlus::seed_from_u64(1);
     open(rt.alloc(), items, tables).map_err(refused)?;
     run(rt.alloc(), items, &mut random, tables).map_err(refused)?;
@@ -51,7 +60,10 @@ fn refused(_refusal: ActionRefusal) -> io::Error {
 }
 
 /// Adds the items, each with ten units.
-fn open(alloc: Global, items: u64, tables: &mut Tables) -> Result<(), ActionRefusal> {
+fn open(alloc: Global, items: u64, tables: &mut Tables) -> Result<(), ActionRefusal>
+    requires { IsBalanced tables.old }
+    ensures { OnOk result (IsBalanced tables.new) }
+{
     for id in 0..items {
         let action = opening_of(alloc, id)?;
         tables.act(&action)?;
@@ -83,7 +95,11 @@ fn run(
     items: u64,
     random: &mut Xoshiro256PlusPlus,
     tables: &mut Tables,
-) -> Result<(), ActionRefusal> {
+) -> Result<(), ActionRefusal>
+    requires some { 0 < items }
+    requires balanced { IsBalanced tables.old }
+    ensures { OnOk result (IsBalanced tables.new) }
+{
     for _ in 0..ACTIONS {
         let action = drawn(alloc, items, random)?;
         tables.act(&action)?;
@@ -93,7 +109,9 @@ fn run(
 
 // Of a hundred actions about eighty are reservations, ten deletions and ten updates, which set a price: so with few items and with many
 // as many units are there for each customer, and the answers are of one mix.
-fn drawn(alloc: Global, items: u64, random: &mut Xoshiro256PlusPlus) -> Result<Action, Memory> {
+fn drawn(alloc: Global, items: u64, random: &mut Xoshiro256PlusPlus) -> Result<Action, Memory>
+    requires { 0 < items }
+{
     let customer = random.next_u64() % items;
     match random.next_u64() % 100 {
         0..=79 => Ok(Action::Reserve {
@@ -120,7 +138,9 @@ fn kind_of(random: u64) -> Kind {
     }
 }
 
-fn asks(alloc: Global, items: u64, random: &mut Xoshiro256PlusPlus) -> Result<Items<Ask>, Memory> {
+fn asks(alloc: Global, items: u64, random: &mut Xoshiro256PlusPlus) -> Result<Items<Ask>, Memory>
+    requires { 0 < items }
+{
     let mut asks = Items::new(alloc);
     for _ in 0..ASKS {
         let kind = kind_of(random.next_u64());

@@ -1,4 +1,5 @@
 //! Puts into sets of a transaction and finds in them, in nanoseconds a call.
+ghost use Rattle.std.specs.Prelude.{◌<◌, ◌≤◌};
 
 use rand::seq::SliceRandom;
 use rand_core::SeedableRng;
@@ -37,7 +38,9 @@ fn report_both(
     report(rt, order, 4096, locations)
 }
 
-fn all_locations(alloc: Global, distance: u32) -> Result<Vec<u32>, AllocError> {
+fn all_locations(alloc: Global, distance: u32) -> Result<Vec<u32>, AllocError>
+    requires { distance ≤ APART }
+{
     let mut locations = Vec::new(alloc);
     for location in 0..LOCATIONS {
         locations.push(location * distance)?;
@@ -50,7 +53,9 @@ fn report(
     order: &str,
     size: usize,
     locations: &[u32],
-) -> io::Result<()> {
+) -> io::Result<()>
+    requires { 0 < size }
+{
     let put = nanos_a_call(time_puts(rt, size, locations)?);
     let find = nanos_a_call(time_finds(rt, size, locations)?);
     println!(rt; "{size} locations, {order}: {put:.1} ns a put, {find:.1} ns a find")
@@ -68,15 +73,19 @@ fn time_puts(
     rt: &(impl Runtime + AllocGlobal),
     size: usize,
     locations: &[u32],
-) -> io::Result<Duration> {
+) -> io::Result<Duration>
+    requires { 0 < size }
+{
     let mut set = ReadSet::new(rt.alloc());
-    set.reserve(size)?;
+    set.reserve(size).map_err(refused)?;
     let start = Instant::now(rt)?;
     put_rounds(&mut set, size, locations).map_err(refused)?;
     start.elapsed(rt)
 }
 
-fn put_rounds(set: &mut ReadSet, size: usize, locations: &[u32]) -> Result<(), SetRefusal> {
+fn put_rounds(set: &mut ReadSet, size: usize, locations: &[u32]) -> Result<(), SetRefusal>
+    requires { 0 < size }
+{
     for _ in 0..ROUNDS {
         for chunk in locations.chunks(size) {
             set.clear();
@@ -97,7 +106,9 @@ fn time_finds(
     rt: &(impl Runtime + AllocGlobal),
     size: usize,
     locations: &[u32],
-) -> io::Result<Duration> {
+) -> io::Result<Duration>
+    requires { 0 < size }
+{
     let sets = sets_of(rt.alloc(), size, locations).map_err(refused)?;
     let start = Instant::now(rt)?;
     let found = find_rounds(sets.as_slice(), size, locations);
@@ -109,7 +120,9 @@ fn time_finds(
     }
 }
 
-fn sets_of(alloc: Global, size: usize, locations: &[u32]) -> Result<Vec<ReadSet>, SetRefusal> {
+fn sets_of(alloc: Global, size: usize, locations: &[u32]) -> Result<Vec<ReadSet>, SetRefusal>
+    requires { 0 < size }
+{
     let mut sets = Vec::new(alloc);
     for chunk in locations.chunks(size) {
         let mut set = ReadSet::new(alloc);
@@ -119,7 +132,9 @@ fn sets_of(alloc: Global, size: usize, locations: &[u32]) -> Result<Vec<ReadSet>
     Ok(sets)
 }
 
-fn find_rounds(sets: &[ReadSet], size: usize, locations: &[u32]) -> bool {
+fn find_rounds(sets: &[ReadSet], size: usize, locations: &[u32]) -> bool
+    requires { 0 < size }
+{
     let mut found = true;
     for _ in 0..ROUNDS {
         for (set, chunk) in sets.iter().zip(locations.chunks(size)) {

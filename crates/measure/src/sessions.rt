@@ -1,4 +1,5 @@
 //! The sessions that are run.
+ghost use Rattle.text_formats.specs.Options.{AreWithin};
 
 use seq_model::Memory;
 use std::alloc::Global;
@@ -51,7 +52,9 @@ pub fn options(mix: Mix, relations: u32, clients: u32, sessions: u32) -> Options
 }
 
 /// The sessions of each client.
-pub fn lists_of(alloc: Global, seed: u64, options: &Options) -> Result<Vec<Vec<Action>>, Memory> {
+pub fn lists_of(alloc: Global, seed: u64, options: &Options) -> Result<Vec<Vec<Action>>, Memory>
+    requires { AreWithin options.now }
+{
     let mut lists = Vec::new(alloc);
     for worker in 1..=options.clients {
         lists.push(generate(alloc, seed, worker, options)?)?;

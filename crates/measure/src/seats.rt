@@ -1,4 +1,8 @@
 //! Transactions at seats of a table, each seat in a thread of its own.
+ghost use Rattle.std.specs.Prelude.{◌<◌, ◌≡◌, IfOk};
+ghost use Rattle.std.specs.Thread.{IsSync};
+ghost use Rattle.tx_table.specs.Seated.{view};
+ghost use Rattle.tx_engine.specs.Ready.{HasBegunSince, IsReady};
 
 use crate::clock::seconds_since;
 use crate::outcomes::Outcomes;
@@ -38,14 +42,20 @@ fn timed<R: Runtime + AllocGlobal + Threads + Sync>(
     work: Work,
     threads: u32,
     transactions: u32,
-) -> io::Result<(Outcomes, f64)> {
+) -> io::Result<(Outcomes, f64)>
+    requires ready { IsReady table.now seat }
+    requires shares { (view seat.seat).shares ≡ 64 }
+{
     let start = Instant::now(rt);
     let outcomes = run(rt, table, seat, work, threads, transactions)?;
     let seconds = seconds_since(rt, start)?;
     Ok((outcomes, seconds))
 }
 
-fn open(alloc: Global, work: Work) -> Result<(TxTable<u64>, TxSeat<u64>), Refusal> {
+fn open(alloc: Global, work: Work) -> Result<(TxTable<u64>, TxSeat<u64>), Refusal>
+    ensures ready { IfOk result (λ opened. IsReady opened.0 opened.1) }
+    ensures shares { IfOk result (λ opened. (view opened.1.seat).shares ≡ 64) }
+{
     let shape = shape(alloc, work)?;
     let state = opening(alloc, work)?;
     TxSeat::open(alloc, &shape, state)
@@ -58,7 +68,10 @@ fn run<R: Threads + Sync>(
     work: Work,
     threads: u32,
     transactions: u32,
-) -> io::Result<Outcomes> {
+) -> io::Result<Outcomes>
+    requires ready { IsReady table.now seat }
+    requires shares { (view seat.seat).shares ≡ 64 }
+{
     match threads {
         1 => Ok(on_one(table, seat, work, transactions, 1)),
         2 => Ok(on_two(rt, table, seat, work, transactions, 1)),
@@ -76,12 +89,23 @@ fn on_four<R: Threads + Sync>(
     mut seat: TxSeat<u64>,
     work: Work,
     transactions: u32,
-) -> Outcomes {
+) -> Outcomes
+    requires ready { IsReady table.now seat }
+    requires shares { 33 < (view seat.seat).shares }
+{
     let other = seat.split(table, 32);
     let (first, second) = join(
         rt,
-        || -> Outcomes { on_two(rt, table, seat, work, transactions, 1) },
-        || -> Outcomes { on_two(rt, table, other, work, transactions, 3) },
+        || -> Outcomes
+            requires sync { IsSync R.row }
+            requires ready { IsReady table.now seat }
+            requires shares { 1 < (view seat.seat).shares }
+        { on_two(rt, table, seat, work, transactions, 1) },
+        || -> Outcomes
+            requires sync { IsSync R.row }
+            requires ready { IsReady table.now other }
+            requires shares { 1 < (view other.seat).shares }
+        { on_two(rt, table, other, work, transactions, 3) },
     );
     first.and(second)
 }
@@ -93,12 +117,21 @@ fn on_two<R: Threads + Sync>(
     work: Work,
     transactions: u32,
     seed: u64,
-) -> Outcomes {
+) -> Outcomes
+    requires ready { IsReady table.now seat }
+    requires shares { 1 < (view seat.seat).shares }
+    requires seed { seed < 64 }
+{
     let other = seat.split(table, 1);
     let (first, second) = join(
         rt,
-        || -> Outcomes { on_one(table, seat, work, transactions, seed) },
-        || -> Outcomes { on_one(table, other, work, transactions, seed + 1) },
+        || -> Outcomes
+            requires ready { IsReady table.now seat }
+        { on_one(table, seat, work, transactions, seed) },
+        || -> Outcomes
+            requires ready { IsReady table.now other }
+            requires seed { seed < 64 }
+        { on_one(table, other, work, transactions, seed + 1) },
     );
     first.and(second)
 }
@@ -109,7 +142,9 @@ fn on_one(
     work: Work,
     transactions: u32,
     seed: u64,
-) -> Outcomes {
+) -> Outcomes
+    requires ready { IsReady table.now seat }
+{
     let mut random = Xoshiro256PlusPlus::seed_from_u64(seed);
     let mut outcomes = Outcomes::NONE;
     'transactions: for _ in 0..transactions {
@@ -124,7 +159,10 @@ fn transact(
     seat: &mut TxSeat<u64>,
     work: Work,
     random: &mut Xoshiro256PlusPlus,
-) -> Result<(), Refusal> {
+) -> Result<(), Refusal>
+    requires ready { IsReady table.now seat.old }
+    ensures ready { IsReady table.now seat.new }
+{
     let calls = drawn(work, random);
     seat.begin(table)?;
     make_calls(table, seat, calls)?;
@@ -132,14 +170,24 @@ fn transact(
     Ok(())
 }
 
-fn make_calls(table: &TxTable<u64>, seat: &mut TxSeat<u64>, calls: Calls) -> Result<(), Refusal> {
+fn make_calls(table: &TxTable<u64>, seat: &mut TxSeat<u64>, calls: Calls) -> Result<(), Refusal>
+    requires ready { IsReady table.now seat.old }
+    requires since { HasBegunSince table.now seat.old }
+    ensures ready { IsReady table.now seat.new }
+    ensures since { HasBegunSince table.now seat.new }
+{
     'calls: for call in calls {
         make_call(table, seat, call)?;
     }
     Ok(())
 }
 
-fn make_call(table: &TxTable<u64>, seat: &mut TxSeat<u64>, call: Call<u64>) -> Result<(), Refusal> {
+fn make_call(table: &TxTable<u64>, seat: &mut TxSeat<u64>, call: Call<u64>) -> Result<(), Refusal>
+    requires ready { IsReady table.now seat.old }
+    requires since { HasBegunSince table.now seat.old }
+    ensures ready { IsReady table.now seat.new }
+    ensures since { HasBegunSince table.now seat.new }
+{
     let _ = seat.call(table, call)?;
     Ok(())
 }
