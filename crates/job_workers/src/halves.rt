@@ -6,8 +6,8 @@ ghost use Rattle.tx_table.specs.Shown.{both_of, left_of, right_of};
 ghost use Rattle.tx_engine.specs.Ready.{IsReady};
 ghost use Rattle.job_workers.specs.Trees.{AreOthers, CanRun, ComesBack, IsFresh, Ran, WasLeft, leaves};
 
+use crate::priority::Priority;
 use crate::tree::Tree;
-use crate::way::Way;
 use jobs::Job;
 use seq_model::{ACTOR_LIMIT, Value};
 use std::snapshot::Snapshot;
@@ -87,7 +87,7 @@ pub fn run_tree<
     rt: &R,
     tries: u64,
     pause: &P,
-    way: &Way,
+    priority: &Priority,
     table: &TxTable<V>,
     mut seat: TxSeat<V>,
     mut tree: Box<Tree<V, J>>,
@@ -102,7 +102,7 @@ pub fn run_tree<
     match mem::replace(&mut *tree, Tree::Taken) {
         Tree::Taken => (seat, tree),
         Tree::Leaf(mut task) => {
-            task.work(table, &mut seat, tries, pause, way);
+            task.work(table, &mut seat, tries, pause, priority);
             *tree = Tree::Leaf(task);
             (seat, tree)
         }
@@ -111,7 +111,7 @@ pub fn run_tree<
             let _left = left.count();
             let shares = right.count();
             let other = split_off(table, &mut seat, shares);
-            let (first, second) = both(rt, tries, pause, way, table, seat, left, other, right);
+            let (first, second) = both(rt, tries, pause, priority, table, seat, left, other, right);
             let (mut seat, left) = first;
             let (other, right) = second;
             join_again(table, &mut seat, other);
@@ -132,7 +132,7 @@ fn both<
     rt: &R,
     tries: u64,
     pause: &P,
-    way: &Way,
+    priority: &Priority,
     table: &TxTable<V>,
     seat: TxSeat<V>,
     left: Box<Tree<V, J>>,
@@ -178,19 +178,22 @@ fn both<
                     if refused.load(Ordering::SeqCst) {
                         give_back(table, other, right)
                     } else {
-                        run_tree(rt, tries, pause, way, table, other, right)
+                        run_tree(rt, tries, pause, priority, table, other, right)
                     }
                 },
             );
             match child {
                 Ok(child) => {
-                    let first = run_tree(rt, tries, pause, way, table, seat, left);
+                    let first = run_tree(rt, tries, pause, priority, table, seat, left);
                     (first, child.join(rt))
                 }
                 Err(not_started) => {
                     refused.store(true, Ordering::SeqCst);
                     let second = (not_started.value)();
-                    (run_tree(rt, tries, pause, way, table, seat, left), second)
+                    (
+                        run_tree(rt, tries, pause, priority, table, seat, left),
+                        second,
+                    )
                 }
             }
         },

@@ -7,12 +7,12 @@
 mod causes;
 mod halves;
 mod lists;
+mod priority;
 mod report;
 mod run;
 mod tasks;
 mod tree;
 mod tries;
-mod way;
 
 pub use causes::LastAbort;
 pub use report::Report;

@@ -8,9 +8,9 @@ ghost use Rattle.job_workers.specs.Reports.{HasNotRun, HasRoomFor, HasRun, IsRep
 
 use crate::halves::run_tree;
 use crate::lists::tree_of;
+use crate::priority::Priority;
 use crate::report::{Draft, Report};
 use crate::tree::Tree;
-use crate::way::Way;
 use core::mem::replace_with;
 use jobs::Job;
 use seq_model::{ACTOR_LIMIT, Memory, Value};
@@ -62,8 +62,8 @@ pub fn run_workers_owned<
 {
     match prepare(alloc, lists) {
         Ok((draft, tree)) => {
-            let way = Way::new();
-            let (mut seat, tree) = run_tree(rt, tries, pause, &way, table, seat, tree);
+            let priority = Priority::new();
+            let (mut seat, tree) = run_tree(rt, tries, pause, &priority, table, seat, tree);
             seat.abort(table);
             (seat, Ok(draft.filled(tree)))
         }

@@ -5,8 +5,8 @@ ghost use Rattle.tx_engine.specs.Ready.{IsReady};
 ghost use Rattle.job_workers.specs.Tasks.{Gains, GetsJoined, HasRoom, IsDone, IsFreshTask, IsLeft, IsSameTask, missed_in, receipts_in};
 
 use crate::causes::LastAbort;
+use crate::priority::{Priority, Waiting};
 use crate::tries::retry_in;
-use crate::way::{Courtesy, Way};
 use jobs::Job;
 use seq_model::{Record, Value};
 use tx_engine::{Pause, TxSeat};
@@ -47,7 +47,7 @@ impl<V: Value, J: Job<V>> Task<V, J> {
         seat: &mut TxSeat<V>,
         tries: u64,
         pause: &P,
-        way: &Way,
+        priority: &Priority,
     )
         requires some { 1 ≤ tries }
         requires ready { IsReady table.now seat.old }
@@ -58,7 +58,7 @@ impl<V: Value, J: Job<V>> Task<V, J> {
         ensures joined { GetsJoined seat.old seat.new [] }
         ensures gains { Gains seat.old seat.new self.new.receipts.items }
     {
-        let mut courtesy = Courtesy::of(self.worker);
+        let mut waiting = Waiting::of(self.worker);
         'jobs: for i in 0..self.jobs.len() {
             let outcome = retry_in(
                 table,
@@ -67,10 +67,10 @@ impl<V: Value, J: Job<V>> Task<V, J> {
                 tries,
                 self.worker,
                 pause,
-                way,
-                &mut courtesy,
+                priority,
+                &mut waiting,
             );
-            way.leave(&mut courtesy);
+            priority.release(&mut waiting);
             self.note(i, outcome);
         }
     }

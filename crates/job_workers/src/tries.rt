@@ -6,7 +6,7 @@ ghost use Rattle.tx_engine.specs.Ready.{IsReady, standing};
 ghost use Rattle.job_workers.specs.Tries.{HasReceipt, HasNoReceipt, IsTransient};
 
 use crate::causes::LastAbort;
-use crate::way::{Courtesy, Way};
+use crate::priority::{Priority, Waiting};
 use jobs::Job;
 use seq_model::{Record, Refusal, Value};
 use std::hint::spin_loop;
@@ -47,7 +47,7 @@ fn wait(attempts: u64) {
     }
 }
 
-/// The attempts of a job, as `retry` has them. Other workers give way to it, and it to them.
+/// The attempts of a job, as `retry` has them, with its priority among the jobs of other workers.
 pub(crate) fn retry_in<V: Value, J: Job<V>, P: Pause>(
     table: &TxTable<V>,
     seat: &mut TxSeat<V>,
@@ -55,8 +55,8 @@ pub(crate) fn retry_in<V: Value, J: Job<V>, P: Pause>(
     tries: u64,
     worker: u64,
     pause: &P,
-    way: &Way,
-    courtesy: &mut Courtesy,
+    priority: &Priority,
+    waiting: &mut Waiting,
 ) -> Result<Record<V>, LastAbort>
     requires some { 1 ≤ tries }
     requires ready { IsReady table.now seat.old }
@@ -68,7 +68,7 @@ pub(crate) fn retry_in<V: Value, J: Job<V>, P: Pause>(
     let mut last = LastAbort::GivenUp;
     'tries: for i in 0..tries {
         wait(i);
-        way.give(courtesy, i);
+        priority.wait(waiting, i);
         match attempt_with(table, seat, job, worker, pause) {
             Ok(Attempt::Committed(receipt)) => {
                 pause.after_receipt(worker, receipt.number);
@@ -107,7 +107,16 @@ pub fn retry<V: Value, J: Job<V>, P: Pause>(
     ensures receipt { IfOk result (HasReceipt (J.asks job.now) table.now tries seat.old.seat seat.new.seat) }
     ensures none { IfErr result (HasNoReceipt (J.asks job.now) table.now tries seat.old.seat seat.new.seat) }
 {
-    let way = Way::new();
-    let mut courtesy = Courtesy::of(worker);
-    retry_in(table, seat, job, tries, worker, pause, &way, &mut courtesy)
+    let priority = Priority::new();
+    let mut waiting = Waiting::of(worker);
+    retry_in(
+        table,
+        seat,
+        job,
+        tries,
+        worker,
+        pause,
+        &priority,
+        &mut waiting,
+    )
 }
