@@ -1,5 +1,5 @@
 -- What a transaction keeps of the single keys that it touched of a map or a multiset, and of the number of all keys of a map.
-use Rattle.std.specs.Prelude.{◌≡◌, ℕ, suc, ◌+◌, ◌-◌, ◌^◌, ◌<◌, ⊤, ⊥, length, Bool, true, false, List, Option, Some, None, is_some, nat_lt}
+use Rattle.std.specs.Prelude.{◌≡◌, ℕ, suc, ◌+◌, ◌-◌, ◌^◌, ◌<◌, ⊤, length, Bool, true, false, List, Option, Some, None, is_some, nat_lt}
 use Rattle.std.specs.Prelude.{replicate, unwrap_or, if◌then◌else◌}
 use Rattle.std.specs.Ordering.{nat_cmp}
 use Rattle.std.specs.List.{sum}
