@@ -19,7 +19,7 @@ use tx_table::TxTable;
 pub enum Attempt<V> {
     /// The job's transaction has committed, with this receipt.
     Committed(Record<V>),
-    /// The job has given up, and its transaction has ended without a commit.
+    /// The job has aborted: its transaction has ended without a commit.
     GivenUp,
 }
 
@@ -45,7 +45,7 @@ fn begin<V: Value>(table: &TxTable<V>, seat: &mut TxSeat<V>) -> Result<u64, Refu
     seat.begin(table)
 }
 
-/// The job's next call is made, and its reply joins those before it; or the job is done, or gives up.
+/// The job's next call is made, and its reply joins those before it; or the job is done, or aborts.
 fn ask_next<V: Value, J: Job<V>>(
     table: &TxTable<V>,
     seat: &mut TxSeat<V>,
@@ -80,7 +80,7 @@ fn ask_next<V: Value, J: Job<V>>(
     }
 }
 
-/// The calls of a job on the transaction that has just begun, up to where it is done, or gives up. What is in the list of replies goes.
+/// The calls of a job on the transaction that has just begun, up to where it is done, or aborts. The list of replies is cleared first.
 fn ask_all<V: Value, J: Job<V>>(
     table: &TxTable<V>,
     seat: &mut TxSeat<V>,
@@ -108,7 +108,7 @@ fn ask_all<V: Value, J: Job<V>>(
     }
 }
 
-/// The attempt, with a list for the job's replies: what is in it goes.
+/// The attempt, with a list for the job's replies, which is cleared before the job's first call.
 fn attempt_in<V: Value, J: Job<V>, P: Pause>(
     table: &TxTable<V>,
     seat: &mut TxSeat<V>,
@@ -141,10 +141,10 @@ fn attempt_in<V: Value, J: Job<V>, P: Pause>(
 }
 
 /// One attempt of a job by this worker: a transaction begins that may write, an open one being aborted first; the job's calls are made; it
-/// commits once the job is done, `pause` being told before the first step of that, and ends without a commit where the job gives up. The
-/// receipt that is answered is the one that the seat gains. A refusal is that of the request that was refused: `Exhausted` of the begin; of
-/// a call, or of the commit, as these have it; `Memory` also where the job is refused memory, or there is none for its replies, as its
-/// calls so far stand. A transaction that stands then is aborted: none is left, and the seat gains no receipt.
+/// commits once the job is done, `pause` being called before the first step of that, and ends without a commit where the job aborts. The
+/// receipt that is answered is the one that the seat gains. A refusal is that of the request that was refused: `Exhausted` of the begin;
+/// those of `call` and of `commit`; `Memory` also where an allocation fails in the job, or for its replies, with the transaction open at
+/// its calls so far. A transaction that is open then is aborted: none is left, and the seat gains no receipt.
 pub fn attempt_with<V: Value, J: Job<V>, P: Pause>(
     table: &TxTable<V>,
     seat: &mut TxSeat<V>,

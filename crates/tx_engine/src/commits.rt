@@ -28,7 +28,7 @@ fn commit_told<V: Value>(told: Told<V>, receipt: Option<Record<V>>) -> Result<Re
     }
 }
 
-/// A transaction commits, as [`crate::TxSeat::commit`] has it of an open one.
+/// An open transaction commits, like [`crate::TxSeat::commit`].
 pub(crate) fn commit<V: Value>(
     alloc: Global,
     table: &TxTable<V>,

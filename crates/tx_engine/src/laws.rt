@@ -34,7 +34,7 @@ use seq_model::Value;
 
 /// Whatever events have happened: the records of the world that they reach are, in commit order, a run of the sequential model from the
 /// opening; its open and aborted transactions saw only the state at the number that they began with; and where no commit is half
-/// done, its words and collections are what the run leaves.
+/// done, its words and collections are what the run results in.
 pub fn worlds_are_serial<V: Value>()
     ensures { (o : World V) (opens : Opens o) (events : List (Event V)) → HaveStripes o.blocks → IsSerial opens.contents (run o events) }
 {
@@ -78,8 +78,8 @@ pub fn busy_gates_were_tried_64_times<V: Value>()
 }
 
 /// A request of a seat that is answered a cause for which its transaction is aborted, or that it was aborted, as a call or a commit is
-/// that is refused for such a cause: no turn of that transaction stores a value, or takes a base home with its changes, and each lock that
-/// it took goes back with its old version.
+/// that is refused for such a cause: no turn of that transaction stores a value, or puts a base back with its changes, and each lock that
+/// it took is put back with its old version.
 pub fn given_up_seats_change_nothing<V: Value>()
     ensures told { (t : TxTable V) (s u : TxSeat V) (n : Told V) → IsReady t s → IsEndTold n → HasTold (opening_of t) s.seat u.seat n →
         GaveUp (opening_of t) s.seat u.seat n }

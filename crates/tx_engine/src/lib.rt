@@ -5,7 +5,7 @@
 //! in a world with the seat's actor alone, which to that actor is one that events have reached. Between two requests no gate is held.
 //!
 //! A *job* is run by an *attempt* ([`attempt`]): a transaction begins at a seat, the calls that the job asks are made, each after the
-//! replies to those before it, and the transaction commits once the job is done. Where the job gives up, or a request is refused, no
+//! replies to those before it, and the transaction commits once the job is done. Where the job aborts, or a request is refused, no
 //! transaction is left, and the seat is ready for the next attempt.
 //!
 //! A table shows a world that events have reached (the rule of `tx_table`), and each seat keeps what that world is to its actor. So what

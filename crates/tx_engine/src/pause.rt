@@ -1,7 +1,7 @@
 //! Where a worker may be held.
 use seq_model::Refusal;
 
-/// What a worker calls on its way. Those who try transactions that overlap hold a worker there until another has gone on. Nothing that is
+/// What a worker calls on its way. Those who try transactions that overlap hold a worker there until another has continued. Nothing that is
 /// promised of an attempt depends on it.
 pub trait Pause {
     /// This worker's job is done, and no step of the commit is taken so far.

@@ -6,7 +6,7 @@ use std::alloc::Global;
 use std::marker::Model;
 use std::mem;
 
-/// The list in which the replies to a job lie while it is attempted. Contracts see nothing of it.
+/// The list in which the replies to a job are stored while it is attempted. Contracts see nothing of it.
 #[derive(Drop)]
 pub(crate) struct ReplyRoom<V> {
     replies: Vec<Reply<V>>,
@@ -37,7 +37,7 @@ impl<V: Drop> ReplyRoom<V> {
         replies
     }
 
-    /// Keeps a list. What is in it goes.
+    /// Keeps a list, and clears it.
     pub(crate) fn keep(&mut self, replies: Vec<Reply<V>>) {
         self.replies = replies;
         self.replies.clear();

@@ -24,9 +24,9 @@ use tx_table::{Seat, TxTable};
 pub struct TxSeat<V> {
     pub(crate) seat: Seat<V>,
     pub(crate) actor: TxActor<V>,
-    /// Where the bases lie that a request takes on its way. Between requests there are none, and the room is kept.
+    /// The bases that a request takes on its way are stored here. Between requests there are none, and the room is kept.
     pub(crate) bases: Vec<Boxed<Base<V>>>,
-    // Where the replies to a job lie while it is attempted.
+    // The replies to a job are stored here while it is attempted.
     pub(crate) replies: ReplyRoom<V>,
     pub(crate) alloc: Global,
 }
@@ -57,7 +57,7 @@ impl<V: Value> TxSeat<V> {
         self.replies.take(self.alloc)
     }
 
-    /// Keeps the list of an attempt for the next one. What is in it goes.
+    /// Keeps the list of an attempt for the next one, and clears it.
     pub fn keep_replies(&mut self, replies: Vec<Reply<V>>)
         ensures same { (self.new.seat ≡ self.old.seat) × (self.new.actor ≡ self.old.actor) }
     {
@@ -232,8 +232,8 @@ impl<V: Value> TxSeat<V> {
         Ok(receipt)
     }
 
-    /// The seat knows of a commit with this number, which others told it of: its next transaction begins at that number, or above it.
-    /// The clock is loaded first, once. `Ahead` where it is below the number, and the number is not learnt. A transaction that is open stays
+    /// The seat learns of a commit with this number, which other seats made: its next transaction begins at that number, or above it.
+    /// The clock is loaded first, once. `Ahead` where it is below the number, and the number is not learnt. An open transaction is still
     /// open; one that began below a number that was learnt may only be aborted.
     pub fn learn(&mut self, table: &TxTable<V>, number: u64) -> Result<(), Refusal>
         requires ready { IsReady table.now self.old }

@@ -48,7 +48,7 @@ impl<V: Value> TxSeat<V> {
     }
 
     /// A new seat, which gets so many of this one's shares. It has no receipts, its last number is 0, and its actor was asked nothing. A
-    /// transaction that is open here stays as it is.
+    /// transaction that is open here is unchanged.
     pub fn split(&mut self, table: &TxTable<V>, shares: u64) -> TxSeat<V>
         requires ready { IsReady table.now self.old }
         requires some { 1 ≤ shares }
@@ -64,7 +64,7 @@ impl<V: Value> TxSeat<V> {
         TxSeat::new(self.alloc, table, seat)
     }
 
-    /// The other seat's shares and receipts become this one's, and the greater last number. A transaction that is open here stays as it is;
+    /// The other seat's shares and receipts become this one's, and the greater last number. A transaction that is open here is unchanged;
     /// one that was left open there is not committed any more.
     pub fn join(&mut self, table: &TxTable<V>, other: TxSeat<V>)
         requires ready { IsReady table.now self.old }

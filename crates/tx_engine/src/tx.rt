@@ -17,7 +17,7 @@ use tx_table::TxTable;
 /// What a commit gives: the record of its transaction, which is called so where it stands among others.
 pub type Receipt<V> = Record<V>;
 
-/// A transaction at a seat of a table. One that is dropped while it is open holds no lock and no gate; it stays open until its seat begins
+/// A transaction at a seat of a table. One that is dropped while it is open holds no lock and no gate; it is open until its seat begins
 /// the next one, which aborts it first.
 #[derive(Drop)]
 pub struct Tx<'a, V> {
@@ -65,7 +65,7 @@ pub fn begin_read<'a, V: Value>(
     Ok(Tx::over(seat, table))
 }
 
-/// The seat learns of a commit with this number, as `TxSeat::learn` has it.
+/// The seat learns of a commit with this number, like `TxSeat::learn`.
 pub fn learn<V: Value>(table: &TxTable<V>, seat: &mut TxSeat<V>, number: u64) -> Result<(), Refusal>
     requires ready { IsReady table.now seat.old }
     ensures ready { IsReady table.now seat.new }
@@ -87,7 +87,7 @@ impl<'a, V: Value> Tx<'a, V> {
         Tx { table, seat }
     }
 
-    /// A call on a word or a collection, as `TxSeat::call` has it: `target` is the number of a word for `Read` and `Write`, and else of a
+    /// A call on a word or a collection, like `TxSeat::call`: `target` is the number of a word for `Read` and `Write`, and else of a
     /// collection.
     pub fn call(&mut self, op: Op<V>, target: u32) -> Result<Reply<V>, Refusal>
         requires ready { IsReady self.old.table.now self.old.seat.now }
@@ -100,7 +100,7 @@ impl<'a, V: Value> Tx<'a, V> {
         self.seat.call(self.table, Call { target, op })
     }
 
-    /// A word is read, as `TxSeat::read` has it.
+    /// A word is read, like `TxSeat::read`.
     pub fn read(&mut self, word: u32) -> Result<Reply<V>, Refusal>
         requires ready { IsReady self.old.table.now self.old.seat.now }
         requires since { HasBegunSince self.old.table.now self.old.seat.now }
@@ -112,7 +112,7 @@ impl<'a, V: Value> Tx<'a, V> {
         self.seat.read(self.table, word)
     }
 
-    /// A word is written, once the transaction commits, as `TxSeat::write` has it.
+    /// A word is written, once the transaction commits, like `TxSeat::write`.
     pub fn write(&mut self, word: u32, value: u64) -> Result<Reply<V>, Refusal>
         requires ready { IsReady self.old.table.now self.old.seat.now }
         requires since { HasBegunSince self.old.table.now self.old.seat.now }
@@ -124,7 +124,7 @@ impl<'a, V: Value> Tx<'a, V> {
         self.seat.write(self.table, word, value)
     }
 
-    /// The transaction commits, with its receipt, as `TxSeat::commit` has it.
+    /// The transaction commits, with its receipt, like `TxSeat::commit`.
     pub fn commit(self) -> Result<Receipt<V>, Refusal>
         requires ready { IsReady self.table.now self.seat.now }
         requires since { HasBegunSince self.table.now self.seat.now }
