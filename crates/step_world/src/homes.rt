@@ -29,7 +29,7 @@ fn prepare_base<V: Value>(table: &mut Table<V>, actor: &TxActor<V>, k: u32) -> R
 }
 
 /// Makes room in the bases of these collections for the logs of the actor's calls there, so that putting them back takes no memory. The
-/// bases hold what they did, also where an allocation fails.
+/// bases hold what they held before, also where an allocation fails.
 fn prepare_bases<V: Value>(
     table: &mut Table<V>,
     actor: &TxActor<V>,

@@ -1,6 +1,6 @@
 //! A world of transactions over words and collections, one atomic step at a time, with the events that it is fed and what it answers.
 //!
-//! A world has parts: its table, the actors that run on it, and what has come of them. An event is taken by its actor and by one word or
+//! A world has parts: its table, the actors that run on it, and their ended transactions. An event is taken by its actor and by one word or
 //! gate of the table. The contracts say that each event leaves and answers what the definitions' event does, and that what is shown is in
 //! serial order. A growth that is refused to an event may leave the parts half changed, so the world answers no more then.
 #![tactic(auto)]

@@ -23,7 +23,7 @@ use world_table::{Table, lay};
 #[derive(Drop)]
 pub struct Parts<V> {
     pub table: Table<V>,
-    /// How the locations lie.
+    /// How the locations are laid out.
     pub blocks: Blocks,
     /// The actors 1 to 64, each at the place before its number.
     pub actors: Vec<TxActor<V>>,
@@ -80,7 +80,7 @@ impl<V: Value> Parts<V> {
         }
     }
 
-    /// What has come of the events so far.
+    /// The result of the events so far.
     pub fn trace(&self) -> Result<Trace<V>, Memory>
         requires { HasWorld self.now }
         ensures trace { IfOk result (λ trace. (opening : Contents V) (w : World V) → IsReached opening w → IsWorld self.now w →
@@ -104,7 +104,7 @@ impl<V: Value> Parts<V> {
         })
     }
 
-    /// What has come of all events. The records and the aborted transactions are moved, not copied.
+    /// The result of all events. The records and the aborted transactions are moved, not copied.
     pub fn into_trace(self) -> Result<Trace<V>, Memory>
         requires { HasWorld self }
         ensures trace { IfOk result (λ trace. (opening : Contents V) (w : World V) → IsReached opening w → IsWorld self w →

@@ -194,7 +194,7 @@ impl<V: Value> Parts<V> {
         Ok(told)
     }
 
-    /// The load of the clock that ends an aborted transaction. Where there is no memory to tell of it, it loads nothing.
+    /// The load of the clock that ends an aborted transaction. Where there is no memory to list it, it loads nothing.
     pub(crate) fn leave(&mut self, i: usize) -> Result<Told<V>, Memory>
         requires inside { i < length self.old.actors.items }
         requires world { HasWorld self.old }

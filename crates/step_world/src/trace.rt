@@ -1,4 +1,4 @@
-//! What has come of a world's events.
+//! The result of a world's events.
 ghost use Rattle.std.specs.Prelude.{◌≡◌, ◌&&◌, IfOk, OnOk};
 ghost use Rattle.replay_log.specs.Worlds.{is_half_done};
 ghost use Rattle.replay_log.specs.WorldTraces.{half_in};
@@ -21,7 +21,7 @@ pub struct Ended<V> {
     pub cause: Option<Refusal>,
 }
 
-/// What has come of a world's events. `Debug` prints it without its state.
+/// The result of a world's events. `Debug` prints it without its state.
 #[derive(Drop)]
 #[derive_where(Debug; V)]
 pub struct Trace<V> {

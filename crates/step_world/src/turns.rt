@@ -76,7 +76,7 @@ pub fn close<V: Value>(
     (told, record)
 }
 
-/// The load of the clock that ends the aborted transaction of the actor of this number, with what is answered of it. It takes no memory.
+/// The load of the clock that ends the aborted transaction of the actor of this number, with its answer. It takes no memory.
 pub fn leave<V: Value>(
     alloc: Global,
     table: &mut Table<V>,
@@ -112,7 +112,7 @@ pub fn leave<V: Value>(
     (told, ended)
 }
 
-/// The first value store of a commit: its request, and then the step of the words. Where memory is refused the actor shows what it did.
+/// The first value store of a commit: its request, and then the step of the words. Out of memory, the actor shows what it showed before.
 pub fn first_store<V: Value>(
     table: &mut Table<V>,
     actor: &mut TxActor<V>,
@@ -140,7 +140,7 @@ pub fn first_store<V: Value>(
     Ok(actor.stepped(told))
 }
 
-/// The first value store of a commit, with the record that it makes. Where memory is refused the actor shows what it did.
+/// The first value store of a commit, with the record that it makes. Out of memory, the actor shows what it showed before.
 pub fn commit<V: Value>(
     alloc: Global,
     table: &mut Table<V>,

@@ -84,8 +84,8 @@ impl<V: Value> World<V> {
 
     /// One event, and its notice.
     ///
-    /// `Memory` where a growth was refused, and to each later event. A step of a half-done commit takes no memory, nor does an event that
-    /// refuses memory to a request.
+    /// `Memory` where a growth was refused, and to each later event. A step of a half-done commit takes no memory, nor does an event by
+    /// which an allocation fails in a request.
     pub fn feed(&mut self, event: Event<V>) -> Result<Notice<V>, Memory>
         ensures ok { IfOk result (Feeds self.old.parts event self.new.parts) }
         ensures from { OnOk result ((opening : Contents V) → IsFrom opening self.old.parts → IsFrom opening self.new.parts) }
@@ -111,7 +111,7 @@ impl<V: Value> World<V> {
         Ok(notice)
     }
 
-    /// What has come of the events so far.
+    /// The result of the events so far.
     pub fn trace(&self) -> Result<Trace<V>, Memory>
         ensures lasting { IsOk result → self.now.failed ≡ false }
         ensures trace { IfOk result (λ trace. (opening : Contents V) (w : PureWorld V) → IsReached opening w →
@@ -124,7 +124,7 @@ impl<V: Value> World<V> {
         self.parts.trace()
     }
 
-    /// What has come of all events. The records and the aborted transactions are moved, not copied.
+    /// The result of all events. The records and the aborted transactions are moved, not copied.
     pub fn into_trace(self) -> Result<Trace<V>, Memory>
         ensures lasting { IsOk result → self.failed ≡ false }
         ensures trace { IfOk result (λ trace. (opening : Contents V) (w : PureWorld V) → IsReached opening w →
@@ -138,7 +138,7 @@ impl<V: Value> World<V> {
     }
 }
 
-/// Opens a world, feeds it the events in their order, and answers what has come of them.
+/// Opens a world, feeds it the events in their order, and answers their result.
 ///
 /// Refused as `World::open`, and `Memory` where a growth was refused.
 pub fn run_world<V: Value>(
