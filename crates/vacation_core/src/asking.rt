@@ -6,7 +6,7 @@ use client_sessions::Entry;
 use seq_model::{Event, Memory, Notice, Request};
 use step_world::World;
 
-/// Each request is answered within so many steps of its client.
+/// Each request is answered within this number of steps of its client.
 const STEP_LIMIT: u32 = 1_000_000;
 
 /// A request of the client that is this actor, and then its steps, until something is answered. To a client that is alone and asks what its

@@ -11,9 +11,9 @@ use std::alloc::Global;
 #[derive(Drop)]
 pub struct OpenSession {
     pub session: Session,
-    /// What its calls were replied so far.
+    /// The replies to its calls so far.
     pub replies: Items<Reply<Entry>>,
-    /// Why it gives its transaction up, where a call of it was refused.
+    /// Why it aborts its transaction, where a call of it was refused.
     pub fault: Option<Refusal>,
 }
 
@@ -61,7 +61,7 @@ impl Client {
         }
     }
 
-    /// A call of the session was answered. The replies before it stay where they are.
+    /// A call of the session was answered. The replies before it are unchanged.
     pub fn join(&mut self, reply: Reply<Entry>) -> Result<(), Memory>
         ensures { OnOk result (self.new ≡ joined reply self.old) }
     {
@@ -71,7 +71,7 @@ impl Client {
         }
     }
 
-    /// A call of the session was refused, for which it gives its transaction up.
+    /// A call of the session was refused, for which it aborts its transaction.
     pub fn fail(&mut self, cause: Refusal)
         ensures { self.new ≡ failed cause self.old }
     {
@@ -90,7 +90,7 @@ impl Client {
         }
     }
 
-    /// The session has ended without a commit: why it gave its transaction up, where it did.
+    /// The session has ended without a commit: why it aborted its transaction, where it did.
     pub fn leave(&mut self) -> Option<Refusal>
         ensures fault { result ≡ fault_of self.old }
         ensures rest { self.new ≡ left self.old }

@@ -13,7 +13,7 @@ use std::alloc::Global;
 use step_world::World;
 use vac_model::Tables;
 
-/// A world on these tables, with so many stripes for each of the five maps and three queues, whose clock is 0.
+/// A world on these tables, with this number of stripes for each of the five maps and three queues, whose clock is 0.
 pub fn open(alloc: Global, tables: &Tables, stripes: u32) -> Result<World<Entry>, Memory>
     requires balanced { IsBalanced tables.now }
     requires stripes { IsStripeCount stripes }

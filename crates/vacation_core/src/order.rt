@@ -20,7 +20,7 @@ use std::alloc::Global;
 use step_world::World;
 use vac_model::{Action, Tables};
 
-/// What has come of the sessions of a list of actions.
+/// The result of the sessions of a list of actions.
 #[derive(Drop)]
 pub struct Ordered {
     /// One for each action, in order.
@@ -96,7 +96,7 @@ pub fn run_in_order(
     run_in_order_with(alloc, tables, stripes, actions, &NoProgress)
 }
 
-/// What `run_in_order` does; after each session `progress` hears how many there were.
+/// What `run_in_order` does; after each session `progress` is called with how many there were.
 pub fn run_in_order_with<P: Progress>(
     alloc: Global,
     tables: Tables,

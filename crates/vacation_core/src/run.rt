@@ -17,7 +17,7 @@ use seq_model::{Items, Memory, Refusal};
 use std::alloc::Global;
 use vac_model::{ActionReply, Tables};
 
-/// What came of events.
+/// The result of events.
 #[derive(Drop)]
 pub struct VacTrace {
     /// The sessions that committed, in commit order, half-done ones too: the actor, the number of the commit, whether it wrote, and what
@@ -56,7 +56,7 @@ fn are_allowed(events: &[VacEvent]) -> bool
 }
 
 impl VacWorld {
-    /// What has come of the events so far.
+    /// The result of the events so far.
     fn into_trace(self, alloc: Global) -> Result<VacTrace, Memory>
         requires { HasPlay self }
         ensures { IfOk result (λ trace. (p : Play) → IsPlay self p → IsVacTrace p trace) }
@@ -78,7 +78,7 @@ impl VacWorld {
         })
     }
 
-    /// What comes of these events, each of its client, in a world that opens on these tables, in so many stripes.
+    /// The result of these events, each of its client, in a world that opens on these tables, in so many stripes.
     ///
     /// The tables are what words and collections hold in the end: where no commit is half done, what the sessions that committed leave,
     /// balanced. `TooLong` where a collection can't have so many stripes, or an action is beyond its limits: nothing has run then; and

@@ -12,7 +12,7 @@ use step_world::World;
 /// The client is this actor.
 pub const CLIENT: u32 = 1;
 
-/// A session asks no more often than this: its calls, and the end.
+/// A session makes at most this many requests: its calls, and the end.
 const ASK_LIMIT: usize = CALL_LIMIT + 1;
 
 fn reply_in(notice: Notice<Entry>) -> Option<Reply<Entry>>
@@ -32,7 +32,7 @@ fn begin(world: &mut World<Entry>) -> Result<(), Memory>
     Ok(())
 }
 
-/// Makes a call of the session. It is refused nothing but memory.
+/// Makes a call of the session. It is refused only where an allocation fails.
 fn call(world: &mut World<Entry>, call: Call<Entry>) -> Result<Reply<Entry>, Memory>
     requires { MayCall call world.old.parts }
     ensures { IfOk result (λ reply. Calls call world.old.parts reply world.new.parts) }
@@ -52,7 +52,7 @@ fn commit(world: &mut World<Entry>) -> Result<(), Memory>
     Ok(())
 }
 
-/// Makes all calls of a session, each after the replies to those before it. It doesn't give up, and asks no more than it may.
+/// Makes all calls of a session, each after the replies to those before it. It doesn't abort, and makes no more requests than it may.
 fn make_calls(alloc: Global, world: &mut World<Entry>, session: &Session) -> Result<(), Memory>
     requires { HasBegun session.now world.old.parts }
     ensures { OnOk result (MakesCalls session.now world.old.parts world.new.parts) }

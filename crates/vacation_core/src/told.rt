@@ -1,4 +1,4 @@
-//! What became of the sessions that committed.
+//! The results of the sessions that committed.
 ghost use Rattle.std.specs.Prelude.{◌≡◌, ◌+◌, ◌<◌, ◌^◌, IsSome, List, replicate, length, IfOk, MatchOption, slice_get};
 ghost use Rattle.client_sessions.specs.Runs.{Deal};
 ghost use Rattle.vacation_core.specs.Told.{AreOwn, HaveFirst, HaveOwn, IsToldOne, sessions_of, told_all};
@@ -25,7 +25,7 @@ fn session_at(client: &Client, place: usize) -> Option<&Session>
     }
 }
 
-/// What became of the session of this record, after so many sessions of each client.
+/// The result of the session of this record, after these numbers of sessions of the clients (`told`).
 fn tell(
     clients: &[Client],
     told: &mut Vec<usize>,
@@ -48,7 +48,7 @@ fn tell(
     Ok((*actor, record.number, record.writes, reply))
 }
 
-/// What became of the sessions of these records, in their order.
+/// The results of the sessions of these records, in their order.
 pub fn tell_all(
     alloc: Global,
     clients: &[Client],

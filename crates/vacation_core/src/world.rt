@@ -26,7 +26,7 @@ use std::alloc::Global;
 use step_world::{ACTORS, World};
 use vac_model::{Action, Tables};
 
-/// So many requests of a session are answered at once at most, one for each call that a transaction may have.
+/// At most this many requests of a session are answered at once, one for each call that a transaction may have.
 const REQUEST_LIMIT: u32 = 4097;
 
 /// The clients of a world, which are its actors 1 to 64, and the sessions that ended without a commit.
@@ -58,7 +58,7 @@ fn actor_at(i: usize) -> u32
     i as u32 + 1
 }
 
-/// Whether a call was mistaken that is refused so, which leaves its transaction open.
+/// Whether a call with this refusal was mistaken: such a refusal leaves its transaction open.
 fn is_mistaken(cause: Refusal) -> bool
     ensures { Mistaken cause result }
 {
@@ -100,7 +100,7 @@ impl VacWorld {
         self.aborted.push((actor, cause))
     }
 
-    /// An event of the world, and what it answers.
+    /// An event of the world, and its answer.
     fn feed(&mut self, event: Event<Entry>) -> Result<Notice<Entry>, Memory>
         ensures fed { IfOk result (Feeds self.old.world.parts event self.new.world.parts) }
         ensures clients { self.new.clients.items ≡ self.old.clients.items }
@@ -109,7 +109,7 @@ impl VacWorld {
         self.world.feed(event)
     }
 
-    /// A call of the session at this place was refused, for which it gives its transaction up, where it has one.
+    /// A call of the session at this place was refused, for which it aborts its transaction, where it has one.
     fn give_up(&mut self, i: usize, cause: Refusal) -> Result<bool, Memory>
         requires { HasPlace i self.old }
         ensures ok { IfOk result (λ gives_up. (p : Play) → Refusing i self.old p → Abandons i cause p gives_up self.new) }
@@ -125,7 +125,7 @@ impl VacWorld {
         Ok(true)
     }
 
-    /// A call of the session at this place is answered so at once: whether by a reply.
+    /// A call of the session at this place has this answer at once: whether it is a reply.
     fn replied(&mut self, i: usize, answer: Answer<Entry>) -> Result<bool, Memory>
         requires { HasPlace i self.old }
         ensures ok { IfOk result (λ more. (k b : ℕ) (call : ACall Entry) (to : Play) → Called i k call (Answered b answer) self.old to
@@ -141,7 +141,7 @@ impl VacWorld {
         }
     }
 
-    /// A call of the session at this place is answered so at once: whether it is a reply.
+    /// A call of the session at this place has this notice at once: whether it is a reply.
     fn called(&mut self, i: usize, notice: Notice<Entry>) -> Result<bool, Memory>
         requires { HasPlace i self.old }
         ensures ok { IfOk result (λ more. (k : ℕ) (call : ACall Entry) (to : Play) → Called i k call notice self.old to
@@ -286,7 +286,7 @@ impl VacWorld {
         self.end_refused(i, cause)
     }
 
-    /// What the client at this place does once it is answered so.
+    /// What the client at this place does after this notice.
     fn hear(&mut self, i: usize, notice: Notice<Entry>) -> Result<(), Memory>
         requires { HasPlace i self.old }
         ensures { OnOk result ((p : Play) → Hears i notice self.old p → IsPlay self.new (hears (i + 1) notice p)) }
@@ -349,7 +349,7 @@ impl VacWorld {
         }
     }
 
-    /// What this event makes of the clients and of their world.
+    /// Applies this event to the clients and to their world.
     fn play(&mut self, event: &VacEvent) -> Result<(), Memory>
         requires play { HasPlay self.old }
         requires allowed { MayHappen event.now }
@@ -362,7 +362,7 @@ impl VacWorld {
         }
     }
 
-    /// What these events make of them, one after another.
+    /// Applies these events to them, one after another.
     pub(crate) fn play_all(&mut self, events: &[VacEvent]) -> Result<(), Memory>
         requires play { HasPlay self.old }
         requires allowed { AreAllowed events.now }

@@ -4,7 +4,7 @@ ghost use Rattle.vacation_core.specs.Serial.{SessionsAreSerial};
 
 /// Over every list of events of any number of clients, each of whose transactions is the session of an allowed action, from the state
 /// of balanced tables: the committed sessions, in commit order, were answered as their actions are, one after another; where no
-/// commit is half done the world holds the state of the tables that they leave, balanced; and no session gives up.
+/// commit is half done the world holds the state of the tables that they leave, balanced; and no session aborts on its replies.
 pub fn sessions_are_serial()
     ensures { SessionsAreSerial }
 {}
