@@ -20,13 +20,13 @@ use tx_actor::laws::{copies_by_stage, copies_stay_own};
 use tx_actor::{Told, TxActor};
 use tx_table::{Seat, TxTable};
 
-/// A request, which the seat keeps until its next step takes it in. What is answered at once is answered as the definitions have it:
+/// A request, which the seat keeps until its next step takes it in. What is answered at once is answered as the definitions say:
 /// `NotIdle` where another is under way, or for a begin within a transaction, and `NoTransaction` for a call or an end without one. A call
 /// on a collection is `NoSuch` where there is no such collection, or it is of another kind, and for a change in a declared reader, then
 /// `TooLong` past the limit of calls; what the transaction has of the collection answers it, or a location is read first, or the
-/// transaction is given up, as its copy is stale; and where it has not what the call touches, the collection's gate is tried next. Where
-/// memory is refused nothing is asked, and the actor shows what it did; that comes only where neither the state of the transaction, nor
-/// `NoSuch`, nor the limit of calls refuses the request, nor want of room for a word in its set.
+/// transaction is aborted, as its copy is stale; and where it has not what the call touches, the collection's gate is tried next. Where
+/// an allocation fails nothing is asked, and the actor shows what it did; that comes only where neither the state of the transaction, nor
+/// `NoSuch`, nor the limit of calls refuses the request, nor a set with no room for a word.
 #[inline(always)]
 pub fn ask<V: Value>(
     alloc: Global,

@@ -40,7 +40,7 @@ pub(crate) fn first<V: Value>(bases: &mut Vec<Boxed<Base<V>>>) -> Boxed<Base<V>>
     bases.remove(0)
 }
 
-/// The request of a seat is refused memory.
+/// An allocation fails for the request of a seat.
 fn refuse<V: Value>(seat: &mut Seat<V>)
     ensures { HasTaken seat.old (Starve 0) seat.new }
 {
@@ -75,8 +75,8 @@ fn wait<V>(stage: &Stage<V>) {
 }
 
 /// A try on the gate of a collection. Where it was free its base comes into hand; where it was taken the try waits, and from the 17th on
-/// the thread yields, as the one that holds it may wait for a core, and at the 64th time the transaction is given up, `GateBusy`. Where
-/// memory is refused no step is taken, and the actor is as it was.
+/// the thread yields, as the one that holds it may wait for a core, and at the 64th time the transaction is aborted, `GateBusy`. Where
+/// an allocation fails no step is taken, and the actor is as it was.
 #[inline(always)]
 pub fn try_gate<V: Value>(
     table: &TxTable<V>,
@@ -136,7 +136,7 @@ pub fn put_gate<V: Value>(
     actor.put_gate()
 }
 
-/// As [`copy_base`], of a call for which all is made ready before the gate is put back: where there is no memory for it no step is taken.
+/// Like [`copy_base`], of a call for which all is made ready before the gate is put back: where there is no memory for it no step is taken.
 #[inline(never)]
 fn copy_here<V: Value>(
     alloc: Global,
@@ -177,9 +177,9 @@ fn copy_here<V: Value>(
 }
 
 /// What the call of an actor touches of its collection's base is copied, and the gate is put back with the base as it was. `TooLong` where
-/// its locations don't fit the sets, else it is accepted, or a location is read first, or the transaction is given up, as the copy is
+/// its locations don't fit the sets, else it is accepted, or a location is read first, or the transaction is aborted, as the copy is
 /// stale. Of a call on a key whose location is to be read first, the gate is put back before the call is made ready. Where there is no
-/// memory for it the transaction is given up as one that starves: it holds its gate and no step is taken, or the gate was put back and it
+/// memory for it the transaction is aborted as one that starves: it holds its gate and no step is taken, or the gate was put back and it
 /// waits for a location.
 #[inline(always)]
 pub fn copy_base<V: Value>(

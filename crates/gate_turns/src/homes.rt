@@ -1,4 +1,4 @@
-//! A commit that has written collections, and its bases on their way home.
+//! A commit that has written collections, and how its bases are put back.
 ghost use Rattle.std.specs.Prelude.{◌≡◌, ◌<◌, ◌++◌, ◌∷◌, [], IfOk, OnErr, OnOk, length, true};
 ghost use Rattle.actor_words.specs.Dispatch.{next_of};
 ghost use Rattle.tx_actor.specs.Running.{stage_of};
@@ -36,7 +36,7 @@ fn prepare_base<V: Value>(
 }
 
 /// Makes room in the bases in hand, which are those of these collections, for the logs of the actor's calls there. They hold what they did,
-/// also where memory is refused.
+/// also where an allocation fails.
 fn prepare_bases<V: Value>(
     actor: &TxActor<V>,
     homes: &VecDeque<u32>,
@@ -65,7 +65,7 @@ fn prepare<V: Value>(actor: &TxActor<V>, bases: &mut Vec<Boxed<Base<V>>>) -> Res
 }
 
 /// The first value store of a commit, with its receipt, once the bases that it has written are prepared to take their logs without memory.
-/// Where memory is refused no step is taken, and the actor is as it was.
+/// Where an allocation fails no step is taken, and the actor is as it was.
 pub fn commit<V: Value>(
     alloc: Global,
     table: &TxTable<V>,
@@ -94,7 +94,7 @@ pub fn commit<V: Value>(
     Ok(done)
 }
 
-/// The base of a collection that a commit has written goes home with the log of its calls there, and its gate is put back. It takes no
+/// The base of a collection that a commit has written is put back with the log of its calls there, and so is its gate. It takes no
 /// memory and is never refused.
 #[inline(always)]
 pub fn go_home<V: Value>(

@@ -1,4 +1,4 @@
-//! What stays of a seat's bases over the turns on words of `tx_turns`.
+//! What is unchanged of a seat's bases over the turns on words of `tx_turns`.
 ghost use Rattle.gate_turns.specs.Laws.{StarvesKeep, WordsKeep};
 
 use actor_turns::laws::events_keep_copies;
@@ -6,8 +6,8 @@ use actor_words::laws::steps_as_worlds;
 use seq_model::Value;
 use tx_actor::laws::copies_by_stage;
 
-/// A turn on the words, and a want of memory, leave what a seat has out of the table, and its actor has of collections what its next stage
-/// asks. The first value store asks more, and is [`crate::commit`]; so do the loads for a call ([`crate::load_word`]).
+/// A turn on the words, and a failed allocation, leave what a seat has out of the table, and its actor has of collections what its next
+/// stage asks. The first value store asks more, and is [`crate::commit`]; so do the loads for a call ([`crate::load_word`]).
 pub fn turns_keep_own<V: Value>()
     ensures words { WordsKeep V }
     ensures starves { StarvesKeep V }

@@ -18,8 +18,8 @@ use tx_actor::{Told, TxActor};
 use tx_table::{Seat, TxTable};
 use tx_threads::step_words;
 
-/// The next step of an actor's words while the locations of its call are read: with the copied edition the call goes on, and is accepted
-/// at the last; with another the copy is stale, and where the location has moved it is given up.
+/// The next step of an actor's words while the locations of its call are read: with the copied edition the call continues, and is accepted
+/// at the last; with another the copy is stale, and where the location has moved the transaction is aborted.
 pub fn load_word<V: Value>(
     table: &TxTable<V>,
     seat: &mut Seat<V>,
