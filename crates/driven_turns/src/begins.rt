@@ -53,7 +53,7 @@ fn begin_on<V: Value>(
     actor.stepped(told)
 }
 
-/// The step by which a transaction begins, where one is to begin. It always tells something, so the answer is false then.
+/// The step by which a transaction begins, where one is to begin. It always answers something, so the result is false then.
 #[inline(always)]
 pub(crate) fn begun_on<V: Value>(
     table: &TxTable<V>,

@@ -47,7 +47,7 @@ fn is_on_gate(next: Next) -> bool
     }
 }
 
-/// The turns of a request that is under way, up to the one that tells something: what it told is in `said` then, and the receipt that they
+/// The turns of a request that is under way, up to the one that answers something: its answer is in `said` then, and the receipt that they
 /// made in `kept`. They end, whatever the other seats do. Where an allocation fails they stop, and the transaction is being aborted.
 #[inline(never)]
 fn advance<V: Value>(
@@ -97,7 +97,7 @@ fn advance<V: Value>(
     }
 }
 
-/// The turns of a transaction that is being aborted: its gates and its locks are put back, and the last one tells why. They take no memory.
+/// The turns of a transaction that is being aborted: its gates and locks are put back, and the last one answers why. They take no memory.
 #[inline(never)]
 fn give_up<V: Value>(
     alloc: Global,
@@ -150,7 +150,7 @@ fn finish_from<V: Value>(
     }
 }
 
-/// The answer of a request of which some turns were taken: what the last one told, or, where all were quiet, that of the turns left.
+/// The answer of a request of which some turns were taken: what the last one answered, or, where all were quiet, that of the turns left.
 #[inline(always)]
 fn finish_after<V: Value>(
     alloc: Global,
@@ -178,8 +178,8 @@ fn finish_after<V: Value>(
     finish_from(alloc, table, seat, actor, bases, made)
 }
 
-/// The steps of a commit on the words after its first store, which told this: whether all were quiet. The values that are left are stored,
-/// and the locks are given back.
+/// The steps of a commit on the words after its first store, whose answer this is: whether all were quiet. The values that are left are
+/// stored, and the locks are given back.
 #[inline(always)]
 fn write_on<V: Value>(
     table: &TxTable<V>,
@@ -206,7 +206,7 @@ fn write_on<V: Value>(
     released_on(table, seat, actor, bases, said)
 }
 
-/// The turns of a commit after its first store, which told this and made its receipt.
+/// The turns of a commit after its first store, which gave this answer and made its receipt.
 #[inline(always)]
 fn write_back<V: Value>(
     alloc: Global,
@@ -348,7 +348,7 @@ fn close_through<V: Value>(
 
 /// The turns of the request that is under way, up to its answer, with the receipt that they make. They end, whatever the other seats do.
 /// Where an allocation fails, the transaction is aborted, and the answer says so. After the answer no gate is held and no base is in hand.
-/// The bases that it takes on the way lie in `bases`, which keeps the room for the next request: what lies there at first is dropped.
+/// The bases that it takes on the way are stored in `bases`, which keeps the room for the next request: what is there at first is dropped.
 #[inline(always)]
 pub fn drive<V: Value>(
     alloc: Global,
@@ -370,7 +370,7 @@ pub fn drive<V: Value>(
     finish_from(alloc, table, seat, actor, bases, None)
 }
 
-/// As [`drive`], of a call: a word is read by straight code.
+/// Like [`drive`], of a call: a word is read by straight code.
 #[inline(always)]
 pub fn drive_call<V: Value>(
     alloc: Global,
@@ -394,7 +394,7 @@ pub fn drive_call<V: Value>(
     finish_after(alloc, table, seat, actor, bases, quiet, said, None)
 }
 
-/// As [`drive`], of a commit: its steps on the words are straight code.
+/// Like [`drive`], of a commit: its steps on the words are straight code.
 #[inline(always)]
 pub fn drive_commit<V: Value>(
     alloc: Global,
@@ -419,7 +419,7 @@ pub fn drive_commit<V: Value>(
     commit_through(alloc, table, seat, actor, bases)
 }
 
-/// As [`drive`], of a begin: its one step is straight code.
+/// Like [`drive`], of a begin: its one step is straight code.
 #[inline(always)]
 pub fn drive_begin<V: Value>(
     alloc: Global,

@@ -132,9 +132,9 @@ fn again_for<V: Value>(
     actor.loaded(told)
 }
 
-/// The three loads of a location that a call reads, one atomic step each. They tell nothing where others have changed the location, so that
-/// the transaction is being aborted, or where the call has a further one to load; else the last one tells the call's answer. Between them
-/// the actor is unchanged.
+/// The three loads of a location that a call reads, one atomic step each. They answer nothing where others have changed the location, so
+/// that the transaction is being aborted, or where the call has a further one to load; else the last one returns the call's answer. Between
+/// them the actor is unchanged.
 #[inline(always)]
 pub(crate) fn load_on<V: Value>(
     table: &TxTable<V>,

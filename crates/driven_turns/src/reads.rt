@@ -131,8 +131,8 @@ fn again_on<V: Value>(
     }
 }
 
-/// The three loads of a word that is read, one atomic step each. They tell nothing where others have changed the word, so that the
-/// transaction is being aborted; else the last one tells the reply. Between them the actor is unchanged.
+/// The three loads of a word that is read, one atomic step each. They answer nothing where others have changed the word, so that the
+/// transaction is being aborted; else the last one returns the reply. Between them the actor is unchanged.
 #[inline(always)]
 fn read_on<V: Value>(
     table: &TxTable<V>,

@@ -107,7 +107,7 @@ fn release_last<V: Value>(
     actor.released()
 }
 
-/// The locks that are held are given back, one atomic step each. The last step tells that the transaction has committed, so the answer is
+/// The locks that are held are given back, one atomic step each. The last one answers that the transaction has committed, so the result is
 /// false.
 #[inline(always)]
 fn releases_on<V: Value>(

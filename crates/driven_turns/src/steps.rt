@@ -24,7 +24,7 @@ use tx_actor::{Stage, Told, TxActor};
 use tx_table::{Seat, TxTable};
 use tx_threads::step_words;
 
-/// Whether nothing comes of a step on the words at this stage, since it told nothing.
+/// Whether nothing comes of a step on the words at this stage, since it answered nothing.
 #[inline(always)]
 fn is_waiting<V>(stage: &Stage<V>, told: Result<Option<WordAnswer>, WordRefusal>) -> bool
     ensures told { result ≡ true → notice_told told ≡ notice.Quiet }
@@ -40,8 +40,8 @@ fn is_waiting<V>(stage: &Stage<V>, told: Result<Option<WordAnswer>, WordRefusal>
     }
 }
 
-/// Steps on the words that make no receipt, up to one that tells something, or of which something comes at its stage: whether that one was
-/// quiet. What it told else lies in `said`. They are taken one after another, and each is one atomic step.
+/// Steps on the words that make no receipt, up to one that answers something, or of which something comes at its stage: whether that one
+/// was quiet. What it answers else is stored in `said`. They are taken one after another, and each is one atomic step.
 #[inline(always)]
 pub(crate) fn steps_on<V: Value>(
     table: &TxTable<V>,

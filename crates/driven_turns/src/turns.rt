@@ -21,7 +21,7 @@ use tx_actor::{Stage, Told, TxActor};
 use tx_table::{Seat, TxTable};
 use tx_turns::{close, starve, step_word};
 
-/// Whether this is quiet. What isn't lies in `said` from then on.
+/// Whether this is quiet. What isn't is stored in `said` from then on.
 #[inline(always)]
 pub(crate) fn says<V: Value>(told: Told<V>, said: &mut Told<V>) -> bool
     ensures told { told ≡ told_in result said.new }
@@ -36,7 +36,7 @@ pub(crate) fn says<V: Value>(told: Told<V>, said: &mut Told<V>) -> bool
     }
 }
 
-/// What was told: nothing where it was quiet, else what was said.
+/// What was answered: nothing where it was quiet, else what was said.
 fn told_of<V: Value>(quiet: bool, said: Told<V>) -> Told<V>
     ensures { result ≡ told_in quiet said }
 {
@@ -92,7 +92,7 @@ pub(crate) fn step<V: Value>(
     }
 }
 
-/// A try on a gate: whether it was quiet. Where memory is refused no step is taken, and the request is given up.
+/// A try on a gate: whether it was quiet. Where an allocation fails no step is taken, and the request is aborted.
 #[inline(always)]
 fn try_next<V: Value>(
     table: &TxTable<V>,
@@ -121,7 +121,7 @@ fn try_next<V: Value>(
     }
 }
 
-/// What a call touches is copied, and its gate put back: whether that was quiet. Where memory is wanting the request is given up.
+/// What a call touches is copied, and its gate put back: whether that was quiet. Where an allocation fails the request is aborted.
 #[inline(always)]
 fn copy_next<V: Value>(
     alloc: Global,
@@ -147,7 +147,7 @@ fn copy_next<V: Value>(
     }
 }
 
-/// A base goes home with its log: whether that was quiet.
+/// A base is put back with its log: whether that was quiet.
 #[inline(always)]
 fn home_next<V: Value>(
     alloc: Global,
@@ -190,7 +190,7 @@ fn put_next<V: Value>(
     says(put_gate(table, seat, actor, bases, k), said)
 }
 
-/// The first value store of a commit, with its receipt. Where memory is refused no step is taken, and the request is given up.
+/// The first value store of a commit, with its receipt. Where an allocation fails no step is taken, and the request is aborted.
 pub(crate) fn store_next<V: Value>(
     alloc: Global,
     table: &TxTable<V>,
@@ -217,7 +217,7 @@ pub(crate) fn store_next<V: Value>(
     }
 }
 
-/// A turn on a gate, which makes no receipt: whether it was quiet. What it told else lies in `said`.
+/// A turn on a gate, which makes no receipt: whether it was quiet. What it answers else is stored in `said`.
 #[inline(always)]
 pub(crate) fn turn_on_gate<V: Value>(
     alloc: Global,
@@ -251,9 +251,9 @@ pub(crate) fn turn_on_gate<V: Value>(
     }
 }
 
-/// The next turn of a request that is under way, with the receipt that it makes. Where memory is wanting, which only a try of a gate, what
-/// a call copies and the first value store of a commit take, the request is given up: no step is taken, or the gate of a call that is to
-/// read a location was put back.
+/// The next turn of a request that is under way, with the receipt that it makes. Where an allocation fails, and only a try of a gate,
+/// what a call copies and the first value store of a commit allocate, the request is aborted: no step is taken, or the gate of a call
+/// that is to read a location was put back.
 #[inline(always)]
 pub fn turn<V: Value>(
     alloc: Global,
@@ -296,7 +296,7 @@ fn keep<V: Value>(made: Option<Record<V>>, kept: &mut Option<Record<V>>)
     }
 }
 
-/// As [`turn`]: whether it was quiet. What it told else lies in `said`, and a receipt that it made in `kept`.
+/// Like [`turn`]: whether it was quiet. What it answers else is stored in `said`, and a receipt that it made in `kept`.
 #[inline(never)]
 pub(crate) fn turn_apart<V: Value>(
     alloc: Global,
