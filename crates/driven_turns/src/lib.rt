@@ -4,8 +4,8 @@
 //! else, and what such code finds in its way, is done by turns of the seat and its actor (`tx_turns`, `gate_turns`), one step each. A turn
 //! is quiet where it answers nothing; the last one gives the answer. A function `.._on` takes some turns and returns whether all were
 //! quiet: where the last one was not, its answer is in `said`. The result is what the definitions say of it in the world with this seat
-//! alone (`specs/Driven.antt`), which to its actor is one that events have reached. Bases of gates that are taken are in hand until they are
-//! put back; where an allocation fails, the request is aborted.
+//! alone (`specs/Driven.antt`), which to its actor is one that events have reached. Bases of gates that are taken are in hand until they
+//! are put back; where an allocation fails, the request is aborted.
 #![tactic(auto)]
 
 mod begins;
