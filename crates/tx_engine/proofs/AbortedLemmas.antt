@@ -1,7 +1,7 @@
 -- What the table shows of an aborted transaction.
 --
--- The own world of its seat has it as the last of its aborted ones (`IsAbortedFor`), and what is asked later leaves these. They are those
--- that the table's world has of the actor, each of which saw one state (`HasAborted`).
+-- The world with its seat's actor alone has it as the last of its aborted ones (`IsAbortedFor`), and what is asked later leaves these. They
+-- are those that the table's world has of the actor, each of which saw one state (`HasAborted`).
 use Rattle.std.proofs.Common.{◌≡◌, ℕ, true, false, List, [], ◌∷◌, ◌++◌, Option, Some, None, inl, inr, ⊎_elim, sym, ap, ◌∙◌, subst, arith}
 use Rattle.std.specs.Prelude.{◌==◌}
 use Rattle.std.proofs.lemmas.Bool.{cases_Bool, cond-false, cond-true}

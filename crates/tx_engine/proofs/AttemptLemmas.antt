@@ -1,7 +1,7 @@
--- What an attempt comes to, by what its requests come to.
+-- The result of an attempt, by the results of its requests.
 --
--- Each request keeps the receipts, and leaves the transaction open with the calls so far, or there is none; so what the attempt comes to
--- is put together at its end. A call past the limit of calls is refused as it is asked, so a job is answered no more calls than that.
+-- Each request keeps the receipts, and leaves the transaction open with the calls so far, or there is none; so the attempt's result is put
+-- together at its end. A call past the limit of calls is refused as it is asked, so a job is answered no more calls than that.
 use Rattle.std.proofs.Common.{◌≡◌, ℕ, ◌+◌, ◌<◌, ◌≤◌, Bool, true, false, List, [], ◌∷◌, ◌++◌, length, None, Ok, Err}
 use Rattle.std.proofs.Common.{inl, inr, refl, sym, ap, ◌∙◌, subst, arith}
 use Rattle.std.proofs.Math.Dec.{ltb}
@@ -65,7 +65,7 @@ module _ {V : Type 0} where
     calls_are : (w.seats a).calls ≡ calls
     calls_are = same_calls (w.seats a).calls calls (sym (ap (phase_at (w.seats a).calls) at_open) ∙ stands)
 
-    -- what is told at once past the limit
+    -- what is answered at once past the limit
     refuses : CALL_LIMIT ≤ length (w.seats a).calls → (b : Bool) → is_there w a call.target call.op ≡ b
         → (cause : Refusal) × ((happens w (Asks a (request.Call call))).1 ≡ Refused a cause)
     refuses long true there = (_, ap (λ (r : World V × Notice V). r.1) (too_long w a call.target call.op at_open there long))
@@ -138,7 +138,7 @@ module _ {V : Type 0} where
       refused = C;
     }
 
-    -- memory is wanting, after these replies to the calls so far
+    -- an allocation fails, after these replies to the calls so far
     pub starved : (s m : Seat V) (replies : List (Reply V)) → KeepsReceipts s m → HasSameAborted o s m → IsSoFar asks o m replies
         → IsStarved asks o (acts o s).aborted s m OutOfMemory
     starved s m replies kept same k =
@@ -198,7 +198,7 @@ module _ {V : Type 0} where
     }
 
     -- ---- its end
-    -- the job has come to this end
+    -- the job has reached this end
     pub at_end : (es : List (Ended V)) (b m : Seat V) (e end : End) → e ≡ end → Reaches asks o es b m e → Reaches asks o es b m end
     at_end es b m e end is k = subst (λ (f : End). Reaches asks o es b m f) is k
 

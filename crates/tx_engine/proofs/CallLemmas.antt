@@ -1,7 +1,8 @@
--- A call is asked, and driven where nothing is told at once.
+-- A call is asked, and driven where nothing is answered at once.
 --
--- What the ask tells in the own world says where the transaction stands (`asks_move`); that it is not given up there is a law on worlds
--- that events have reached, and the own world is one of these to its actor. What the turns come to is the law on courses (`Driven.comes`).
+-- What the ask answers in the world with the actor alone says where the transaction stands (`asks_move`); that it is not aborted there is a
+-- law on worlds that events have reached, and the world with the actor alone is one of these to it. The result of the turns is the law on
+-- courses (`Driven.comes`).
 use Rattle.std.proofs.Common.{◌≡◌, ◌≢◌, ◌⊎◌, ℕ, true, false, List, Option, None, Result, Ok, Err, IfErr, inl, inr, refl, sym, ap, ◌∙◌, subst}
 use Rattle.std.proofs.Common.{[], ◌∷◌, ◌++◌, Some}
 use Rattle.seq_model.specs.declared.call.Call.{Call}
@@ -73,7 +74,7 @@ module _ {V : Type 0} where
     abbrev b : ℕ
     b = seated.actor m
 
-    -- as the course has it
+    -- as in the course
     call_ends : (n : Told V) (d : Option (Record V)) → n ≢ told.Quiet → ComesTo b (seat_in o m) (notice_of b n) (seat_in o u) d
         → EndsFrom b (seat_in o m) (Calls calls call) (notice_of b n) (seat_in o u) d
     call_ends told.Quiet d ne h = absurd (ne refl)
@@ -121,7 +122,7 @@ module _ {V : Type 0} where
   leaves_back o s m u calls call (Err cause) kept (inl stays) = inl stays
   leaves_back o s m u calls call (Err cause) kept (inr ended) = inr (ended_back o s m u cause kept ended)
 
-  -- ---- what a call is told as it is asked
+  -- ---- what a call is answered as it is asked
   module _ (t : TxTable V) (s m : table.Seat V) (call : Call V) (opened : IsOpen (opening_of t) s)
       (has : HasAsked s (request.Call call) m) where
     abbrev o : World V
@@ -145,7 +146,7 @@ module _ {V : Type 0} where
         subst (λ (k : Phase V × Notice V × Phase V). AskMoves k.0 q k.1 k.2) (λ i. (on i, sym is i, phase (sym seat_is i)))
         (asks_move (acts o s) a q)
 
-    -- what is told at once is a reply or a refusal
+    -- what is answered at once is a reply or a refusal
     pub call_told : (calls : List (Call V × Reply V)) → standing o s ≡ Stands calls → (n : Told V) → n ≢ told.Quiet → Answers o s q n
         → IsCallTold n
     call_told calls on told.Quiet ne is = absurd (ne refl)
@@ -188,7 +189,7 @@ module _ {V : Type 0} where
       reader = asked_reader o s m q at_open has;
     }
 
-    -- ---- where nothing is told
+    -- ---- where nothing is answered
     not_given_up : (r : TxActor V) → Ties t s r → (calls : List (Call V × Reply V)) → standing o s ≡ Stands calls → standing o m ≡ Ends → ⊥
     not_given_up r ties calls on ends =
         let key = t.whole.shared.key in
@@ -233,7 +234,7 @@ module _ {V : Type 0} where
           reader = λ is. D.reader (asked_reader o s m q at_open has is);
         }
 
-  -- ---- where memory was refused
+  -- ---- where an allocation failed
   pub call_starved : (o : World V) (s u : table.Seat V) (call : Call V) → KeepsReceipts s u → standing o u ≡ Rests → HasAborted o s u
       → IsLastAborted o s u None → (is_declared o s ≡ true → is_declared o u ≡ true)
       → IsAdmitted (acts o s) (seated.actor s) (request.Call call) → CallsTo o s call u (Err OutOfMemory)

@@ -1,4 +1,4 @@
--- What a closed table holds, told of the closed table itself: no slot is empty, so its bases are those in the slots, in order.
+-- What a closed table holds, of the closed table itself: no slot is empty, so its bases are those in the slots, in order.
 use Rattle.std.proofs.Common.{◌≡◌, ℕ, zero, suc, ◌+◌, ◌<◌, List, [], ◌∷◌, Some, None}
 use Rattle.std.proofs.Common.{length, map, slice_get, take, drop, get_or, refl, sym, ap, ◌∙◌, subst}
 use Rattle.std.specs.Prelude.{All}

@@ -177,7 +177,7 @@ module _ {V : Type 0} where
     ends_from (told.Refused cause) d ne h =
         subst (λ (p : Phase V). EndsFrom a (seat_in o s) p (Refused a cause) (seat_in o u) d) on h
 
-    -- what a commit with this record has told
+    -- what a commit with this record has answered
     abbrev IsMade : Told V → Record V → Type 0
     IsMade n r = (standing o u ≡ Rests) × (r.calls ≡ calls) × (n ≡ told.Answered (answer.Committed r.number))
 
@@ -288,7 +288,7 @@ module _ {V : Type 0} where
         kinds = R.2;
       }
 
-  -- one that was refused memory as it was asked
+  -- one for which an allocation failed as it was asked
   pub starved_commit : (o : World V) (s u : table.Seat V) (cause : Refusal) → KeepsReceipts s u → standing o u ≡ Rests
       → cause ≡ OutOfMemory → HasAborted o s u → IsLastAborted o s u None → CommitsTo o s u (Err cause)
   starved_commit o s u cause keeps rests memory aborted noted = record {

@@ -1,7 +1,7 @@
--- What an attempt adds to the aborted transactions of the own world.
+-- What an attempt adds to the aborted transactions of the world with its actor alone.
 --
 -- A begin adds the one that was open, and no other; a request that is answered adds none. So the transaction of the attempt is all that is
--- added behind it: by the request that was refused, or by the abort after it.
+-- added after it: by the request that was refused, or by the abort after it.
 use Rattle.std.proofs.Common.{◌≡◌, ◌⊎◌, List, [], ◌∷◌, ◌++◌, Option, Some, None, inl, inr, sym, ap, ◌∙◌, append-nil, subst}
 use Rattle.std.proofs.lemmas.List.{append_assoc}
 use Rattle.seq_model.specs.declared.call.Call.{Call}

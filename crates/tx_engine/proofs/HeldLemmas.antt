@@ -1,7 +1,7 @@
 -- What a step leaves of the locks that its actor holds.
 --
 -- Before a commit takes its locks an actor holds none (`PlaceOk`). While it takes them it gives none back, nor by a step on a gate, or by
--- what is asked; where its transaction is given up, each step gives one back (`lock_goes_back`).
+-- what is asked; where its transaction is aborted, each step gives one back (`lock_goes_back`).
 use Rattle.std.proofs.Common.{◌≡◌, ◌⊎◌, ℕ, zero, suc, Bool, true, false, cond, List, [], ◌∷◌, ◌++◌, Some, None, inl}
 use Rattle.std.proofs.Common.{inr, refl, sym, ap, ◌∙◌, subst, eqb}
 use Rattle.std.specs.Prelude.{nat_le}
@@ -220,7 +220,7 @@ module _ {V : Type 0} where
       (λ at. let some = subst (λ st. StageOk w.words w.blocks (w.seats a) y (w.boosted.shadows a) st y.place) at ok in
       cancelling_keeps w a y.held linked at refl some.1)
 
-  -- an actor whose last step is due holds none
+  -- an actor whose last step is next holds none
   pub leaves_bare : (w : World V) (a : ℕ) → Linked w → (w.seats a).stage ≡ Leaving → (actor_of w a).held ≡ []
   leaves_bare w a linked at =
       let y = actor_of w a in

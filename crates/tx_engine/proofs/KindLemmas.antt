@@ -19,7 +19,7 @@ module _ {V : Type 0} (op : Op V) where
   call_mistaken TooLong h = tt
   call_mistaken cause h = absurd h
 
-  -- or it is given up
+  -- or it is aborted
   pub call_given_up : (cause : Refusal) → IsCallCause op cause → IsCallRefusal op cause
   unfolding IsCallRefusal
   call_given_up (Moved l word) h = h

@@ -44,7 +44,7 @@ use Rattle.driven_turns.proofs.RestLemmas.{IsFree, free_own}
 
 module _ {V : Type 0} where
   -- ---- a new seat
-  -- its own world is the opening
+  -- the world with its actor alone is the opening
   new_acts : (t : TxTable V) (s : table.Seat V) → IsNew t s → acts (opening_of t) s ≡ opening_of t
   new_acts t s h i = asked_all (seated.actor s) (lone (seated.actor s) (opening_of t) (h.turns i)) (h.asked i)
 
@@ -231,7 +231,7 @@ module _ {V : Type 0} where
   noted_requests : (s u : table.Seat V) → u.place ≡ s.place → u.asked ≡ s.asked → requests_of u ≡ requests_of s
   noted_requests s u place asked = same_requests s u (ap (λ p. p.me.0.turns) place) (ap (λ es. list_of es) asked)
 
-  -- a seat whose own world is the same stays tied
+  -- a seat is still tied where the world with its actor alone is the same
   pub stays_tied : (t : TxTable V) (s u : table.Seat V) (r : TxActor V) → Owns t u → seated.actor u ≡ seated.actor s
       → acts (opening_of t) u ≡ acts (opening_of t) s → 0 < (view u).shares → Ties t s r → Ties t u r
   stays_tied t s u r owns same own live ties =
@@ -254,7 +254,7 @@ module _ {V : Type 0} where
         prepared = h.prepared;
       }
 
-  -- what of a seat lies beside it and its actor doesn't count
+  -- what of a seat is beside it and its actor doesn't count
   pub still_ready : (t : TxTable V) (s u : TxSeat V) → u.seat ≡ s.seat → u.actor ≡ s.actor → IsReady t s → IsReady t u
   still_ready t s u same actor h = record {
     table = h.table;

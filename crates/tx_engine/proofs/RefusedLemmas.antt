@@ -1,8 +1,8 @@
--- What the turns of a transaction leave that was given up.
+-- What the turns of an aborted transaction leave.
 --
--- From its first value store on a commit goes on, by its own turns, until its actor is at rest, and what is asked meanwhile is refused. So
--- where a turn tells a cause, as only the last step of a transaction that is given up does, no turn of this transaction stored a value or
--- took a base home: its actor would have been at rest in between. And of steps before a commit the lemmas on worlds say what they leave
+-- From its first value store on a commit continues, by its own turns, until its actor is idle, and what is asked meanwhile is refused. So
+-- where a turn answers a cause, as only the last step of an aborted transaction does, no turn of this transaction stored a value or put a
+-- base back with changes: its actor would have been idle in between. And of steps before a commit the lemmas on worlds say what they leave
 -- (`steps_untouched`, `locks_held`, `keeps_locks`).
 use Rattle.std.proofs.Common.{◌≡◌, ◌⊎◌, ℕ, Bool, true, false, List, [], ◌∷◌, ◌++◌, inl, inr, refl, sym, ap, ◌∙◌, subst, append_assoc}
 use Rattle.std.proofs.Common.{◌<◌, true≢false, arith}
@@ -57,7 +57,7 @@ module _ {V : Type 0} where
   abbrev IsHalf : World V → ℕ → Type 0
   IsHalf u a = is_half_done (stage_of u a) ≡ true
 
-  -- ---- a commit goes on until its actor is at rest
+  -- ---- a commit continues until its actor is idle
   sits_half : (u : World V) (a : ℕ) (x : Seat V) → is_half_done x.stage ≡ true → IsHalf (seated u a x) a
   sits_half u a x h = ap (λ (y : Seat V). is_half_done y.stage) (put-same u.seats a x) ∙ h
 
@@ -109,7 +109,7 @@ module _ {V : Type 0} where
   all_half a [] u h = h
   all_half a (e ∷ es) u h = all_half a es (happens u (own a e)).0 (one_half u a e h)
 
-  -- ---- the turns since the actor was at rest, or from the first on
+  -- ---- the turns since the actor was idle, or from the first on
   either_way : (st : Stage V) → IsCommitting st ⊎ (IsCommitting st → ⊥)
   either_way (Ready ks) = inl tt
   either_way (Storing ks) = inl tt
@@ -187,7 +187,7 @@ module _ {V : Type 0} where
       subst (λ (js : List (Turn V)). Goes a w js (lone a w js)) (append_assoc is (i ∷ []) later)
       (run_goes later (is ++ i ∷ []) w a (took_goes w is a i old))
 
-  -- ---- an actor at rest stays so until it asks to begin
+  -- ---- an idle actor remains idle until it asks to begin
   asked_idle : (u : World V) (a : ℕ) (q : Request V) → begins_asked (Ask a q ∷ []) ≡ 0 → stage_of u a ≡ Idle
       → stage_of (happens u (Ask a q)).0 a ≡ Idle
   asked_idle u a q none e =
@@ -254,7 +254,7 @@ module _ {V : Type 0} where
     all_give_back o a linked is (took a w i) h.1,
   )
 
-  -- ---- where a cause is told, or that the transaction was aborted
+  -- ---- where a cause is answered, or that the transaction was aborted
   leaving_at : (v u : World V) (a : ℕ) (st : Stage V) (cause : Refusal) → IsGivenUpFor cause → IsRefusedAt v a st u cause → st ≡ Leaving
   leaving_at v u a Leaving cause up h = refl
   leaving_at v u a Idle cause up h = absurd (subst IsGivenUpFor h.0 up)

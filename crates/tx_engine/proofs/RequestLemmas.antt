@@ -1,4 +1,4 @@
--- Requests from a transaction at rest: where its actor stands, what the request has under way, and what it comes to.
+-- Requests from an idle transaction: where its actor stands, what the request has under way, and its result.
 use Rattle.std.proofs.Common.{◌≡◌, ◌≢◌, ℕ, ◌+◌, Bool, true, false, true≢false, List, [], ◌∷◌, ◌++◌, Option, None}
 use Rattle.std.proofs.Common.{Result, Ok, Err, IfOk, IfErr, refl}
 use Rattle.std.proofs.Common.{cond, inl, inr, sym, ap, ◌∙◌, subst, arith}
@@ -103,7 +103,7 @@ module _ {V : Type 0} where
         let quiet : is_loading (stage_of r.stage) ≡ false = ap (λ (k : own.Stage V). is_loading (stage_of k)) on in
         ap (phase_at x.calls) (own_stage t s r quiet ties ∙ ap (λ (k : own.Stage V). stage_of k) on)
 
-    -- it is being given up: nothing is asked of what it has of collections
+    -- it is being aborted: nothing is asked of what it has of collections
     pub ends_free : phase x ≡ Ends → IsFree r.stage
     unfolding is_call
     ends_free on = free_at x.calls r.stage (at Ends refl on)
@@ -248,14 +248,14 @@ module _ {V : Type 0} where
     turns = D.turns;
   }
 
-  -- what was found or told since then, was since before
+  -- what was found or answered since then, was since before
   pub found_back : (o : World V) (s m u : table.Seat V) (cause : Refusal) → KeepsReceipts s m → HasFound o m u cause → HasFound o s u cause
   found_back o s m u cause kept = since.found_back o s m kept.seat.1 kept.more kept.turns u cause
 
   pub told_back : (o : World V) (s m u : table.Seat V) (n : Told V) → KeepsReceipts s m → HasTold o m u n → HasTold o s u n
   told_back o s m u n kept = since.told_back o s m kept.seat.1 kept.more kept.turns u n
 
-  -- and what was told by then is told still, whatever turns come later
+  -- and what was answered by then is answered still, whatever turns come later
   pub told_later : (o : World V) (s m u : table.Seat V) (n : Told V) (more : List (Turn V)) → (view u).turns ≡ (view m).turns ++ more
       → HasTold o s m n → HasTold o s u n
   told_later o s m u n more turns h = (
@@ -305,7 +305,7 @@ module _ {V : Type 0} where
     told = told_back o s m u (told.Answered (answer.Begun rv)) kept h.told;
   }
 
-  -- what its turn tells is the one or the other
+  -- what its turn answers is the one or the other
   pub begin_told : (declared : Bool) (o : World V) (s u : table.Seat V) (n : Told V) → BeginsTo declared o s u n → IsBeginTold n
   begin_told declared o s u told.Quiet h = absurd h
   begin_told declared o s u (told.Answered (answer.Begun rv)) h = tt
@@ -338,7 +338,7 @@ module _ {V : Type 0} where
   ends_to o s u n d on outs D ne =
       let h = none_ends o s u n d on D ne in (turns_keep o s u n d h.0 outs D, h.1)
 
-  -- an open transaction that is to abort is being given up
+  -- an open transaction that is to abort is being aborted
   quiet_abort : (w : World V) (a : ℕ) (x : Seat V) (st : Stage V) (calls : List (Call V × Reply V)) → phase_at x.calls st ≡ Stands calls
       → (ask_at w a x st Abort).1 ≡ Quiet
   quiet_abort w a x worlds.Open calls h = refl
@@ -370,7 +370,7 @@ module _ {V : Type 0} where
   is_aborted a (told.Answered q) e = (let f : q ≡ answer.Aborted = cc in ap told.Answered f)
   is_aborted a (told.Refused cause) e = absurd (let z : ⊥ = cc in z)
 
-  -- and so it is told
+  -- and so it is answered
   pub abort_told : (o : World V) (s m u : table.Seat V) (calls : List (Call V × Reply V)) → standing o s ≡ Stands calls → HasAsked s Abort m
       → (n : Told V) (d : Option (Record V)) → Driven o m u n d → n ≢ told.Quiet → HasAborted o s u
   abort_told o s m u calls on has n d D ne =
@@ -384,7 +384,7 @@ module _ {V : Type 0} where
       told_back o s m u (told.Answered answer.Aborted) (asked_keeps s m (has.0, has.1))
       (subst (λ (k : Told V). HasTold o m u k) said (D.tells ne))
 
-  -- ---- what the own world notes of it
+  -- ---- what the world with its actor alone notes of it
   pub asked_aborted : (o : World V) (s m : table.Seat V) (q : Request V) → HasAsked s q m → (acts o m).aborted ≡ (acts o s).aborted
   asked_aborted o s m q has =
       ap (λ (w : World V). w.aborted) (acts_taken o s m (Ask 0 q) has) ∙ (one_step (acts o s) (Ask (seated.actor s) q)).aborted

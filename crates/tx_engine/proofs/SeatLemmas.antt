@@ -1,9 +1,9 @@
 -- What a seat holds.
 --
--- Events have reached a world that is to the seat's actor as its own (`IsReached`). Between its requests an actor is idle there, or its
--- transaction is open, and neither holds a lock or a gate (`StageOk`, `PlaceOk`). Before what it has asked since its last step it was so
--- too, or was to begin: a request leads to neither from elsewhere, and a failed allocation that aborts a transaction leaves its last step
--- to be done.
+-- Events have reached a world that is to the seat's actor as the world with it alone (`IsReached`). Between its requests an actor is idle
+-- there, or its transaction is open, and neither holds a lock or a gate (`StageOk`, `PlaceOk`). Before what it has asked since its last
+-- step it was so too, or was to begin: a request leads to neither from elsewhere, and a failed allocation that aborts a transaction leaves
+-- its last step to be done.
 use Rattle.std.proofs.Common.{◌≡◌, ◌⊎◌, ℕ, true, false, List, [], ◌∷◌, inl, inr, refl, sym, ap, ◌∙◌, subst, true≢false, eq-eqb}
 use Rattle.std.specs.Prelude.{if◌then◌else◌}
 use Rattle.word_machine.specs.Actor.{Actor, Place}
@@ -43,7 +43,7 @@ SerialLaw V = (o : World V) (opens : Opens o) (events : List (Event V)) → Have
 
 module _ {V : Type 0} where
   -- ---- an actor that holds nothing
-  -- at rest, about to begin, or open
+  -- idle, about to begin, or open
   abbrev IsBare : Stage V → Type 0
   IsBare Idle = Unit {0}
   IsBare Beginning = Unit {0}

@@ -1,6 +1,6 @@
--- A seat that is joined into another, or is the last one, is at rest or open: so by what it knows, without what it has asked since its last
--- step, no commit of it is half done, and it holds no gate. A commit that is half done stays so, whatever is asked, and what is asked moves
--- no gate.
+-- A seat that is joined into another, or is the last one, is idle or open: so by what it knows, without what it has asked since its last
+-- step, no commit of it is half done, and it holds no gate. A commit that is half done is still so, whatever is asked, and what is asked
+-- moves no gate.
 use Rattle.std.proofs.Common.{◌≡◌, ◌⊎◌, ℕ, ◌<◌, true, false, true≢false, List, [], ◌∷◌, inl, inr, refl, sym, ap, ◌∙◌, subst}
 use Rattle.std.proofs.lemmas.Bool.{false_from_ne_true}
 use Rattle.seq_model.specs.declared.call.Call.{Call}
@@ -33,7 +33,7 @@ use Rattle.tx_engine.specs.Requests.{IsOpen}
 use Rattle.tx_engine.specs.declared.seats.TxSeat.{TxSeat}
 
 module _ {V : Type 0} where
-  -- a seat with the same actor whose own world is the same stays ready
+  -- a seat with the same actor is still ready where the world with that actor alone is the same
   pub stays_ready : (t : TxTable V) (s u : TxSeat V) → IsReady t s → u.actor ≡ s.actor → Owns t u.seat
       → seated.actor u.seat ≡ seated.actor s.seat → acts (opening_of t) u.seat ≡ acts (opening_of t) s.seat
       → 0 < (view u.seat).shares → out u.seat ≡ out s.seat → IsReady t u
@@ -58,7 +58,7 @@ module _ {V : Type 0} where
   half_starve w a x Releasing seat at h = ap (λ (y : Seat V). is_half_done y.stage) seat ∙ ap is_half_done at
   half_starve w a x st seat at h = absurd (true≢false (sym h))
 
-  -- a commit that is half done stays so, whatever is asked
+  -- a commit that is half done is still so, whatever is asked
   half_stays : (es : List (Event V)) (a : ℕ) (w : World V) → is_half_done (w.seats a).stage ≡ true
       → is_half_done ((asked_all a w es).seats a).stage ≡ true
   half_stays [] a w h = h

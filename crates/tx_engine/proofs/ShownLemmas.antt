@@ -1,8 +1,8 @@
 -- What a table shows of its seats.
 --
--- The world's aborted transactions of an actor are those of its own world (`IsOwn`), and all of the world's saw their states. Each actor's
--- records weigh what its own world's do, and a seat's receipts what those of its actors do. So the receipts of one seat, which weigh no
--- more than all records, count no actor twice that has a record. What an actor asks is an event, and leaves the records.
+-- The world's aborted transactions of an actor are those of the world with it alone (`IsOwn`), and all of the world's saw their states.
+-- Each actor's records weigh what those of that world do, and a seat's receipts what those of its actors do. So the receipts of one seat,
+-- which weigh no more than all records, count no actor twice that has a record. What an actor asks is an event, and leaves the records.
 use Rattle.std.proofs.Common.{◌≡◌, ℕ, zero, suc, ◌<◌, ◌≤◌, List, [], ◌∷◌, get_or, refl, sym, ◌∙◌, ◌++◌}
 use Rattle.std.proofs.Common.{subst, arith}
 use Rattle.std.specs.Prelude.{All, ◌==◌}
@@ -52,7 +52,7 @@ module _ {V : Type 0} where
     saw = subst (AllSaw c w.records) own.aborted (all_saw c w.records a w.aborted serial.aborted_saw);
   }
 
-  -- an actor for which a seat stands is as its own world has it
+  -- an actor for which a seat stands is as in the world with it alone
   abbrev IsOwnOf : World V → World V → ℕ × List (Turn V) → Type 0
   IsOwnOf o w p = IsOwn p.0 w (lone p.0 o p.1)
 

@@ -1,8 +1,8 @@
 -- Serial order between two steps.
 --
 -- The events of the rule reach a world that the table shows, and what events reach is in serial order. An actor is in this world as its
--- seat has it, or as it was at the opening, so where no seat has a commit half done, the world holds what its records leave. A value of
--- the table is that of the world. A base lies in its slot where its gate is free, and shows the parts of the world there.
+-- seat has it, or as it was at the opening, so where no seat has a commit half done, the world holds what its records leave. A value of the
+-- table is that of the world. A base is in its slot where its gate is free, and shows the parts of the world there.
 use Rattle.std.proofs.Common.{◌≡◌, ℕ, false, List, length, Option as Maybe, Some, None, refl, sym, ap, ◌∙◌, subst, arith}
 use mathlib.Core.Logic.{dite}
 use mathlib.Core.Option.{Option, none, some, some-injective, some-ne-none}

@@ -1,9 +1,9 @@
 -- A request that is refused for a busy gate tried it as often as it may.
 --
--- The turn that found the gate busy was a step from a world that events have reached, in which the last try was due and another held the
--- gate. So the actor did not have it, there or in its own world, and `TurnLemmas` says of its own turns, and the law on worlds of the
--- events, that all tries before were in vain. A try stays a try by what is asked, or its transaction is given up; so a seat tries no gate
--- between its requests, whatever it has asked since its last turn.
+-- The turn that found the gate busy was a step from a world that events have reached, in which the last try was next and another held the
+-- gate. So the actor did not have it, there or in the world with it alone, and `TurnLemmas` says of its own turns, and the law on worlds of
+-- the events, that all tries before were in vain. A try is still a try after what is asked, or its transaction is aborted; so a seat tries
+-- no gate between its requests, whatever it has asked since its last turn.
 use Rattle.std.proofs.Common.{◌≡◌, ℕ, ◌+◌, Bool, true, false, cond, List, [], ◌∷◌, ◌++◌, Some, refl, sym, ap, ◌∙◌, subst, append_assoc}
 use Rattle.std.proofs.Common.{arith, eq-eqb, ne_eqb}
 use Rattle.word_machine.specs.Requests as word
@@ -32,7 +32,7 @@ use Rattle.driven_turns.specs.Driven.{HasFound, standing}
 use Rattle.tx_engine.specs.Tries.{AreVain, WasTriedInVain}
 use Rattle.tx_engine.proofs.TurnLemmas.{Tried, asked_tried, lone_append, run_tried, tries_at}
 
--- where a try is due, the last steps of the actor tried this gate in vain
+-- where a try is next, the last steps of the actor tried this gate in vain
 abbrev pub TryLaw : Type 0 → Type 0
 TryLaw V =
     (o : World V) (opens : Opens o) (events : List (Event V)) (a k n : ℕ) → HaveStripes o.blocks

@@ -1,7 +1,7 @@
 -- How often a seat's own turns tried a gate.
 --
--- In the own world of an actor, a try that fails leaves one try less, and no other turn leads to a try but to the first of a request
--- (`stepped_turns`). A try that fails moves no gate. So where the last try is due, and the actor does not have the gate, it had it at none
+-- In the world with an actor alone, a try that fails leaves one try less, and no other turn leads to a try but to the first of a request
+-- (`stepped_turns`). A try that fails moves no gate. So where the last try is next, and the actor does not have the gate, it had it at none
 -- of the tries before; and a gate that it does not have is not free to it only where its word was not 0. Between its requests a seat tries
 -- no gate, so these turns came later.
 use Rattle.std.proofs.Common.{◌≡◌, ◌≢◌, ℕ, suc, ◌+◌, true, false, List, [], ◌∷◌, ◌++◌, Option, Some, None, length, inl, inr}
@@ -77,7 +77,7 @@ module _ {V : Type 0} where
         (subst (λ (u : World V). IsVain a k u i) (ap (lone a w) h.split ∙ lone_append a h.first h.tries w) g);
   }
 
-  -- ---- what has been tried where a try is due, of a gate that the actor does not have
+  -- ---- what has been tried where a try is next, of a gate that the actor does not have
   abbrev IsTried : (a k n : ℕ) → World V → List (Turn V) → Type 0
   IsTried a k n w is = (m : ℕ) × (m + n ≡ more_tries) × LastVain a k m w is
 

@@ -44,8 +44,8 @@ module _ {V : Type 0} where
   abbrev pub WasAbortedFor : Contents V → World V → Seat V → List (Call V × Reply V) → Refusal → World V → Type 0
   WasAbortedFor c o s calls cause w = WasAborted c o s calls (Some cause) w ⊎ ((cause ≡ OutOfMemory) × WasAborted c o s calls None w)
 
-  -- What the actor of u has asked since its last step leads from w to a world that is to it as its own world is now; and the calls of an
-  -- open transaction have the replies of one state: that of w, from the opening c on, at the number at which it began.
+  -- What the actor of u has asked since its last step leads from w to a world that is to it as the world with it alone is now; and the
+  -- calls of an open transaction have the replies of one state: that of w, from the opening c on, at the number at which it began.
   pub record SeesOneState (c : Contents V) (o : World V) (u : Seat V) (w : World V) : Type 0 where
     pub alike : Alike (actor u) (asked_all (actor u) w (list_of u.asked)) (acts o u)
     pub saw : (calls : List (Call V × Reply V)) → standing o u ≡ Stands calls → IsLegal calls (state_at (seat_in o u).rv w.records c)

@@ -1,4 +1,4 @@
--- What an attempt of a job comes to.
+-- The result of an attempt of a job.
 use Rattle.std.specs.Prelude.{◌≡◌, ◌⊎◌, ℕ, ◌+◌, ◌<◌, ◌≤◌, true, false, List, [], ◌∷◌, ◌++◌, Option, Some, None, Result, Ok, Err}
 use Rattle.std.proofs.Common.{inl, inr}
 use Rattle.seq_model.specs.declared.call.Call.{Call}
@@ -26,8 +26,8 @@ use Rattle.tx_engine.specs.declared.attempts.End.{End}
 use Rattle.tx_engine.specs.declared.attempts.End.TheVariants as ends
 
 module _ {V : Type 0} (o : World V) where
-  -- The aborted transactions of the own world of u are those of that of s; then the one that was open at s, if one was, as its actor asked;
-  -- and then these.
+  -- The aborted transactions of the world with the actor of u alone are those of that of s; then the one that was open at s, if one was, as
+  -- its actor asked; and then these.
   abbrev pub Aborts : Seat V → Seat V → List (Ended V) → Type 0
   Aborts s u es =
       (IsOpen o s → (acts o u).aborted ≡ (acts o s).aborted ++ aborted_for o s None ∷ es)
@@ -44,8 +44,8 @@ module _ {V : Type 0} (o : World V) where
     pub since : KeepsReceipts first m
     pub aborts : Aborts s first []
 
-  -- The own world of u has one aborted transaction more than that of s, beside the one that was open at s, if one was: the seat's own, with
-  -- these calls, and with this cause, or none where its actor asked for the abort.
+  -- The world with the actor of u alone has one aborted transaction more than that of s, beside the one that was open at s, if one was: the
+  -- seat's own, with these calls, and with this cause, or none where its actor asked for the abort.
   pub record GainsAborted (s u : Seat V) (calls : List (Call V × Reply V)) (cause : Option Refusal) : Type 0 where
     pub number : ℕ
     pub gained : Aborts s u (record { actor = actor s; rv = number; calls = calls; cause = cause } ∷ [])
@@ -59,7 +59,7 @@ module _ {V : Type 0} (o : World V) where
 module _ {V : Type 0} (asks : List (Reply V) → Ask V → Type 0) (o : World V) where
   -- ---- on the way
   -- The seat s has led to the seat m, and gained no receipt. Its transaction is open there, with these calls, each of which the job has
-  -- asked; after the replies to them it asks this. These transactions are the aborted ones of the own world.
+  -- asked; after the replies to them it asks this. These transactions are the aborted ones of the world with its actor alone.
   pub record IsAt (aborted : List (Ended V)) (s m : Seat V) (calls : List (Call V × Reply V)) (next : Ask V) : Type 0 where
     pub keeps : KeepsReceipts s m
     pub aborts : (acts o m).aborted ≡ aborted
@@ -78,7 +78,7 @@ module _ {V : Type 0} (asks : List (Reply V) → Ask V → Type 0) (o : World V)
   ask_of ends.Done = ask.Done
   ask_of ends.GivenUp = ask.GiveUp
 
-  -- the job has come to its end
+  -- the job has reached its end
   abbrev pub Reaches : List (Ended V) → Seat V → Seat V → End → Type 0
   Reaches aborted s m e = (calls : List (Call V × Reply V)) × IsAt aborted s m calls (ask_of e)
 
@@ -91,8 +91,8 @@ module _ {V : Type 0} (asks : List (Reply V) → Ask V → Type 0) (o : World V)
     pub at : IsAt aborted s before calls (ask.Call call)
     pub refused : CallsTo o before call m (Err cause)
 
-  -- Memory was wanting for the job, or for its replies. The seat s has led to the seat m, and gained no receipt. Its transaction is open
-  -- there, with these calls, each of which the job has asked. These transactions are the aborted ones of the own world.
+  -- An allocation failed in the job, or for its replies. The seat s has led to the seat m, and gained no receipt. Its transaction is open
+  -- there, with these calls, each of which the job has asked. These transactions are the aborted ones of the world with its actor alone.
   pub record IsStarved (aborted : List (Ended V)) (s m : Seat V) (cause : Refusal) : Type 0 where
     pub memory : cause ≡ OutOfMemory
     pub keeps : KeepsReceipts s m
@@ -101,7 +101,7 @@ module _ {V : Type 0} (asks : List (Reply V) → Ask V → Type 0) (o : World V)
     pub stands : standing o m ≡ Stands calls
     pub each : AreAskedBy asks calls
 
-  -- a call was refused so, or memory for the job or for its replies
+  -- a call was refused so, or an allocation failed in the job or for its replies
   abbrev pub IsUnmade : List (Ended V) → Seat V → Seat V → Refusal → Type 0
   IsUnmade aborted s m cause = IsCallRefused aborted s m cause ⊎ IsStarved aborted s m cause
 
@@ -111,7 +111,7 @@ module _ {V : Type 0} (asks : List (Reply V) → Ask V → Type 0) (o : World V)
   calls_of aborted s m cause (inl refused) = refused.calls
   calls_of aborted s m cause (inr starved) = starved.calls
 
-  -- So it was, which left a seat; a transaction that was open there was then aborted, as one of its turns told.
+  -- So it was, which left a seat; a transaction that was open there was then aborted, as one of its turns answered.
   pub record IsBrokenOff (s u : Seat V) (cause : Refusal) : Type 0 where
     pub left : Seat V
     pub begun : HasBegun o s left
@@ -134,7 +134,7 @@ module _ {V : Type 0} (asks : List (Reply V) → Ask V → Type 0) (o : World V)
   abbrev pub IsRefusedOf : Seat V → Seat V → Refusal → Type 0
   IsRefusedOf s u cause = (IsNotBegun o s u cause × Aborts o s u []) ⊎ (IsCommitRefused s u cause ⊎ IsBrokenOff s u cause)
 
-  -- ---- what an attempt comes to
+  -- ---- the result of an attempt
   -- The receipt has all calls of the job, with their replies, and the seat gains it, and no other. Its number is the last one of the seat
   -- then: above the one before where the job has written, and not below it where it hasn't; then none of its calls has changed anything.
   pub record HasMade (s u : Seat V) (r : Record V) : Type 0 where
@@ -152,7 +152,7 @@ module _ {V : Type 0} (asks : List (Reply V) → Ask V → Type 0) (o : World V)
     pub committed : HasCommitted o before u r
     pub aborts : Aborts o s u []
 
-  -- the job has given up after the replies to its calls, and was aborted; the seat gains no receipt
+  -- the job has aborted after the replies to its calls; the seat gains no receipt
   pub record HasGivenUp (s u : Seat V) : Type 0 where
     pub keeps : KeepsReceipts s u
     pub calls : List (Call V × Reply V)
@@ -162,13 +162,13 @@ module _ {V : Type 0} (asks : List (Reply V) → Ask V → Type 0) (o : World V)
     pub aborted : HasAborted o before u
     pub gains : GainsAborted o s u calls None
 
-  -- a receipt, a job that gave up, or a refusal
+  -- a receipt, a job that aborted, or a refusal
   abbrev pub EndsAs : Seat V → Seat V → Result (Attempt V) Refusal → Type 0
   EndsAs s u (Ok (Committed r)) = HasMade s u r
   EndsAs s u (Ok GivenUp) = HasGivenUp s u
   EndsAs s u (Err cause) = KeepsReceipts s u × IsRefusedOf s u cause
 
-  -- An attempt came to this, and led the seat from s to u, which asked one transaction to begin, and no more. One that was open before was
-  -- aborted, as one of these turns told.
+  -- An attempt had this result, and led the seat from s to u, which asked one transaction to begin, and no more. One that was open before
+  -- was aborted, as one of these turns answered.
   abbrev pub AttemptsTo : Seat V → Seat V → Result (Attempt V) Refusal → Type 0
   AttemptsTo s u r = EndsAs s u r × (begins_of u ≡ begins_of s + 1) × (IsOpen o s → HasAborted o s u)

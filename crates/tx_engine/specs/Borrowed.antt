@@ -16,7 +16,7 @@ use Rattle.tx_engine.specs.Requests.{HasAborted, HasAskedToBegin, IsBegun, IsLas
 module _ {V : Type 0} where
   -- It is open, has no calls, and is a declared reader's or not; it has begun at the clock that its seat knows by then, which is no lower
   -- than the seat's last number. The seat asked no other to begin; one that was left open was aborted, and is the last aborted one of the
-  -- seat's own world. Nothing else was asked.
+  -- world with the seat's actor alone. Nothing else was asked.
   pub record IsBegunSince (declared : Bool) (o : World V) (s u : TxSeat V) : Type 0 where
     pub rv : ℕ
     pub begun : IsBegun declared o s.seat u.seat rv
@@ -39,7 +39,7 @@ module _ {V : Type 0} where
     pub noted : IsOpen (opening_of t) s.seat → IsLastAborted (opening_of t) s.seat u.seat None
 
   -- The seat is ready again, has its receipts, and no transaction is open there. One that was open was aborted, and is the last aborted one
-  -- of the seat's own world; that it abort was asked, and nothing else. Where none was open, the seat is as it was.
+  -- of the world with its actor alone; that it abort was asked, and nothing else. Where none was open, the seat is as it was.
   pub record IsAborted (t : TxTable V) (s u : TxSeat V) : Type 0 where
     pub ready : IsReady t u
     pub rests : standing (opening_of t) u.seat ≡ Rests

@@ -23,8 +23,8 @@ module _ {V : Type 0} where
   abbrev pub stands_for : ℕ → View V → List (ℕ × List (Turn V))
   stands_for j v = (j, v.turns) ∷ v.joined
 
-  -- The aborted transactions of an actor that has taken these turns are in the world w those of its own world, in their order; and each
-  -- saw only the state, by the records of w, at the number that it began with.
+  -- The aborted transactions of an actor that has taken these turns are in the world w those of the world with it alone, in their order;
+  -- and each saw only the state, by the records of w, at the number that it began with.
   pub record HasAborted (c : Contents V) (o w : World V) (p : ℕ × List (Turn V)) : Type 0 where
     pub own : aborted_by p.0 w.aborted ≡ (lone p.0 o p.1).aborted
     pub saw : AllSaw c w.records (lone p.0 o p.1).aborted
@@ -37,9 +37,9 @@ module _ {V : Type 0} where
   abbrev pub AreReceipts : World V → List (ℕ × List (Turn V)) → List (ℕ × Record V) → Type 0
   AreReceipts w ps receipts = (h : ℕ × Record V → ℕ) → total h receipts ≡ total (only_of ps h) w.records
 
-  -- What actor j asks, where its own world is u, leads from the world w at once to one in serial order, with the records of w. This one is
-  -- to j as its own world is then; and where its transaction is open there, its calls so far have the replies of the state, by the records
-  -- of w, at the number that it began with.
+  -- What actor j asks, where u is the world with j alone, leads from the world w at once to one in serial order, with the records of w.
+  -- This one is to j as the world with j alone is then; and where its transaction is open there, its calls so far have the replies of the
+  -- state, by the records of w, at the number that it began with.
   pub record SeesAtOnce (c : Contents V) (w u : World V) (j : ℕ) (asks : List (Event V)) : Type 0 where
     pub serial : IsSerial c (asked_all j w asks)
     pub records : (asked_all j w asks).records ≡ w.records

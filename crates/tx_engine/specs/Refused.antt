@@ -1,4 +1,4 @@
--- What a transaction leaves that was given up.
+-- What an aborted transaction leaves.
 use Rattle.std.specs.Prelude.{◌≡◌, ◌⊎◌, ℕ, ◌<◌, List, [], ◌∷◌, ◌++◌, Some}
 use Rattle.vlock_word.specs.declared.lock_word.LockWord.TheVariants.{Free, Locked}
 use Rattle.tx_sets.specs.Entries.{lookup}
@@ -22,7 +22,7 @@ use Rattle.tx_table.specs.declared.view.Turn.{Turn}
 use Rattle.driven_turns.specs.Begins.{begins_taken}
 use Rattle.driven_turns.specs.Driven.{IsTurnFrom}
 
--- the causes for which a transaction is given up
+-- the causes for which a transaction is aborted
 abbrev pub IsGivenUpFor : Refusal → Type 0
 IsGivenUpFor (Moved location word) = Unit {0}
 IsGivenUpFor (Busy location word) = Unit {0}
@@ -33,7 +33,7 @@ IsGivenUpFor OutOfMemory = Unit {0}
 IsGivenUpFor cause = ⊥
 
 module _ {V : Type 0} where
-  -- such a cause was told, or that the transaction was aborted
+  -- such a cause was answered, or that the transaction was aborted
   abbrev pub IsEndTold : Told V → Type 0
   IsEndTold (Refused cause) = IsGivenUpFor cause
   IsEndTold (Answered Aborted) = Unit {0}
@@ -49,16 +49,16 @@ module _ {V : Type 0} where
         → (lookup (actor_of (happens v (Step a)).0 a).held l ≡ Some k)
         ⊎ ((happens v (Step a)).0.boosted.words.locks ≡ put v.boosted.words.locks l (Free k))
 
-  -- So it is of each of these turns, from the own world w of a on, in every world that events reach from the opening o and that is to a as
-  -- its own.
+  -- So it is of each of these turns, from w, the world with a alone, on, in every world that events reach from the opening o and that is
+  -- the same to a.
   abbrev pub AllGiveBack : World V → ℕ → World V → List (Turn V) → Type 0
   AllGiveBack o a w [] = Unit {0}
   AllGiveBack o a w (turn ∷ turns) =
       ((events : List (Event V)) → Alike a (run o events) (asked_all a w turn.asks) → GivesBack a (run o events))
       × AllGiveBack o a (took a w turn) turns
 
-  -- One of the turns between the seats s and u told this, and its actor held no lock any more. It and the turns before it, from s on, or
-  -- since the actor was at rest and asked to begin, change no value and no base, and give each lock back as it was.
+  -- One of the turns between the seats s and u answered this, and its actor held no lock any more. It and the turns before it, from s on,
+  -- or since the actor was idle and asked to begin, change no value and no base, and give each lock back as it was.
   pub record GaveUp (o : World V) (s u : Seat V) (n : Told V) : Type 0 where
     pub world : World V
     pub last : IsTurnFrom o s u world
@@ -72,6 +72,6 @@ module _ {V : Type 0} where
         ⊎ ((stage_of (lone (actor s) o ((view s).turns ++ earlier)) (actor s) ≡ Idle) × (0 < begins_taken (turns ++ last.turn ∷ [])))
     pub gave_back : AllGiveBack o (actor s) (lone (actor s) o ((view s).turns ++ earlier)) (turns ++ last.turn ∷ [])
 
-  -- so it was of a transaction that was refused for this cause; where memory was wanting as its request was asked, it was aborted
+  -- so it was of a transaction that was refused for this cause; where an allocation failed as its request was asked, it was aborted
   abbrev pub GaveUpFor : World V → Seat V → Seat V → Refusal → Type 0
   GaveUpFor o s u cause = GaveUp o s u (Refused cause) ⊎ ((cause ≡ OutOfMemory) × GaveUp o s u (Answered Aborted))

@@ -1,4 +1,4 @@
--- What a whole request comes to: a begin, a call, a commit, an end.
+-- The result of a whole request: a begin, a call, a commit, an end.
 use Rattle.std.specs.Prelude.{◌≡◌, ◌⊎◌, ℕ, ◌≤◌, Bool, true, false, List, [], ◌∷◌, ◌++◌, Option, Some, None}
 use Rattle.std.specs.Prelude.{Result, Ok, Err, IfOk, IfErr, OnErr}
 use Rattle.tx_sets.specs.Entries.{Entries}
@@ -68,8 +68,8 @@ module _ {V : Type 0} where
     pub more : List (Turn V)
     pub turns : (view u).turns ≡ (view s).turns ++ more
 
-  -- The seat has loaded the clock once beside its turns, and knows it. It is no lower, and nothing else of the seat or of its actor's own
-  -- world has changed, but perhaps its last number; and nothing was asked.
+  -- The seat has loaded the clock once beside its turns, and knows it. It is no lower, and nothing else of the seat or of the world with
+  -- its actor alone has changed, but perhaps its last number; and nothing was asked.
   pub record OnlyKnows (o : World V) (s u : Seat V) : Type 0 where
     pub seat : (u.place.table_id ≡ s.place.table_id) × (actor u ≡ actor s)
     pub shares : (view u).shares ≡ (view s).shares
@@ -83,7 +83,7 @@ module _ {V : Type 0} where
     pub asks : requests_of u ≡ requests_of s
 
   -- ---- what its actor is asked
-  -- Between the seats s and u it was asked this and nothing else; or memory was wanting for it, and it was asked to abort in its place.
+  -- Between the seats s and u it was asked this and nothing else; or an allocation failed for it, and it was asked to abort in its place.
   unfoldable pub HasAskedFor : {A : Type 0} → Seat V → Request V → Result A Refusal → Seat V → Type 0
   HasAskedFor s q r u =
       (requests_of u ≡ requests_of s ++ q ∷ [])
@@ -101,8 +101,8 @@ module _ {V : Type 0} where
       × (standing o s ≡ Rests → requests_of u ≡ requests_of s ++ begin_request declared ∷ [])
 
   -- ---- a begin
-  -- It tells the number at which the transaction has begun, which is open and has no calls, and is a declared reader's or not. It is the
-  -- clock that the seat knows by then, which is no lower than the one that it knew. One of its turns has told it.
+  -- It answers the number at which the transaction has begun, which is open and has no calls, and is a declared reader's or not. It is the
+  -- clock that the seat knows by then, which is no lower than the one that it knew. One of its turns has answered it.
   pub record IsBegun (declared : Bool) (o : World V) (s u : Seat V) (rv : ℕ) : Type 0 where
     pub stands : standing o u ≡ Stands []
     pub declares : is_declared o u ≡ declared
@@ -115,7 +115,7 @@ module _ {V : Type 0} where
   abbrev pub IsNotBegun : World V → Seat V → Seat V → Refusal → Type 0
   IsNotBegun o s u cause = (standing o u ≡ Rests) × IsExhausted o s u cause
 
-  -- what is told of one that comes to this
+  -- the answer of one with this result
   abbrev pub begin_of : Result ℕ Refusal → Told V
   begin_of (Ok rv) = told.Answered (answer.Begun rv)
   begin_of (Err cause) = told.Refused cause
@@ -131,20 +131,20 @@ module _ {V : Type 0} where
   BeginsTo declared o s u n = ⊥
 
   -- ---- an abort
-  -- one of its turns told that it was aborted, as its actor asked
+  -- one of its turns answered that it was aborted, as its actor asked
   abbrev pub HasAborted : World V → Seat V → Seat V → Type 0
   HasAborted o s u = HasTold o s u (told.Answered answer.Aborted)
 
   -- ---- a call, or a commit, that ends its transaction
-  -- Memory was wanting: one of its own turns told so; or it was wanting as the request was asked, and the transaction was aborted.
+  -- Out of memory: one of its own turns answered so; or an allocation failed as the request was asked, and the transaction was aborted.
   abbrev pub WantedMemory : World V → Seat V → Seat V → Refusal → Type 0
   WantedMemory o s u cause = (cause ≡ OutOfMemory) × (HasTold o s u (told.Refused OutOfMemory) ⊎ HasAborted o s u)
 
-  -- one of its own turns found this cause, and one of them told it; or memory was wanting
+  -- one of its own turns found this cause, and one of them answered it; or an allocation failed
   abbrev pub IsFoundAndTold : World V → Seat V → Seat V → Refusal → Type 0
   IsFoundAndTold o s u cause = (HasFound o s u cause × HasTold o s u (told.Refused cause)) ⊎ WantedMemory o s u cause
 
-  -- The own world of u has one aborted transaction more than that of s: that of s, for this cause, or as its actor asked.
+  -- The world with the actor of u alone has one aborted transaction more than that of s: that of s, for this cause, or as its actor asked.
   abbrev pub IsLastAborted : World V → Seat V → Seat V → Option Refusal → Type 0
   IsLastAborted o s u cause = (acts o u).aborted ≡ (acts o s).aborted ++ aborted_for o s cause ∷ []
 
@@ -152,7 +152,7 @@ module _ {V : Type 0} where
   abbrev pub HasSameAborted : World V → Seat V → Seat V → Type 0
   HasSameAborted o s u = (acts o u).aborted ≡ (acts o s).aborted
 
-  -- for this cause; or memory was wanting as the request was asked, and the transaction was aborted
+  -- for this cause; or an allocation failed as the request was asked, and the transaction was aborted
   abbrev pub IsAbortedFor : World V → Seat V → Seat V → Refusal → Type 0
   IsAbortedFor o s u cause = IsLastAborted o s u (Some cause) ⊎ ((cause ≡ OutOfMemory) × IsLastAborted o s u None)
 
@@ -161,7 +161,7 @@ module _ {V : Type 0} where
   IsEnded o s u cause = (standing o u ≡ Rests) × IsFoundAndTold o s u cause
 
   -- ---- a call
-  -- what is told of one that comes to this
+  -- the answer of one with this result
   abbrev pub told_of : Result (Reply V) Refusal → Told V
   told_of (Ok reply) = told.Answered (answer.Replied reply)
   told_of (Err cause) = told.Refused cause
@@ -176,11 +176,11 @@ module _ {V : Type 0} where
   CallLeaves o s calls call u (Ok reply) = standing o u ≡ Stands (calls ++ (call, reply) ∷ [])
   CallLeaves o s calls call u (Err cause) = ((standing o u ≡ Stands calls) × IsMistaken cause) ⊎ IsEnded o s u cause
 
-  -- memory is wanting, and the request is admitted there, in the own world of the seat
+  -- an allocation fails, and the request is admitted there, in the world with the seat's actor alone
   abbrev pub IsUnserved : World V → Seat V → Request V → Told V → Type 0
   IsUnserved o s q n = (n ≡ told.Refused OutOfMemory) × IsAdmitted (acts o s) (actor s) q
 
-  -- the definitions answer it so at once, in the own world of the seat, or one of its turns does; or memory is wanting
+  -- the definitions answer it so at once, in the world with the seat's actor alone, or one of its turns does; or an allocation fails
   abbrev pub IsAnswered : World V → Seat V → Request V → Seat V → Told V → Type 0
   IsAnswered o s q u n = Answers o s q n ⊎ ((Answers o s q told.Quiet × HasTold o s u n) ⊎ IsUnserved o s q n)
 
@@ -192,8 +192,8 @@ module _ {V : Type 0} where
   abbrev pub IsDriven : World V → Seat V → Seat V → Told V → Type 0
   IsDriven o s u n = (d : Option (Record V)) × Driven o s u n d
 
-  -- What a call comes to, whatever was called before. Where a transaction is open after it, it has begun at the same number, and none was
-  -- aborted; a declared reader stays one.
+  -- The result of a call, whatever was called before. Where a transaction is open after it, it has begun at the same number, and none was
+  -- aborted; a declared reader is still one.
   pub record CallsTo (o : World V) (s : Seat V) (call : Call V) (u : Seat V) (r : Result (Reply V) Refusal) : Type 0 where
     pub keeps : KeepsReceipts s u
     pub leaves : (calls : List (Call V × Reply V)) → standing o s ≡ Stands calls → CallLeaves o s calls call u r
@@ -215,7 +215,7 @@ module _ {V : Type 0} where
   IsCommitTold (told.Refused cause) None = Unit {0}
   IsCommitTold n None = ⊥
 
-  -- The seat has this receipt more, and no transaction; the number that is told is the receipt's.
+  -- The seat has this receipt more, and no transaction; the number that is answered is the receipt's.
   pub record HasCommitted (o : World V) (s u : Seat V) (r : Record V) : Type 0 where
     pub seat : (u.place.table_id ≡ s.place.table_id) × (actor u ≡ actor s)
     pub shares : (view u).shares ≡ (view s).shares
@@ -227,7 +227,7 @@ module _ {V : Type 0} where
     pub rests : standing o u ≡ Rests
     pub told : HasTold o s u (told.Answered (answer.Committed r.number))
 
-  -- What a commit comes to: the seat has the one receipt more that it gives, with the calls that were made; or it has none more, for a
+  -- The result of a commit: the seat has the one receipt more that it gives, with the calls that were made; or it has none more, for a
   -- cause that has ended the transaction. A declared reader has written nothing.
   pub record CommitsTo (o : World V) (s u : Seat V) (r : Result (Record V) Refusal) : Type 0 where
     pub committed : IfOk r (HasCommitted o s u)

@@ -24,13 +24,13 @@ use Rattle.tx_table.specs.declared.view.Opening.{Opening}
 use Rattle.tx_table.specs.declared.view.View.{View}
 
 module _ {V : Type 0} where
-  -- no commit of a seat is half done, as its actor's own world has it
+  -- no commit of a seat is half done, in the world with its actor alone
   abbrev pub NoneIsHalfDone : World V → List (View V) → Type 0
   NoneIsHalfDone o views =
       (a : ℕ) (v : View V) → get_elem? views a ≡ some v → is_half_done (stage_of (lone a o v.turns) a) ≡ false
 
-  -- With n words and these blocks, the words of a table are those of c, and each base that lies in its slot is of its collection's kind
-  -- and shape, and shows on each of its locations what the collection of c shows there.
+  -- With n words and these blocks, the words of a table are those of c, and each base that is in its slot is of its collection's kind and
+  -- shape, and shows on each of its locations what the collection of c shows there.
   pub record HasContents (n : ℕ) (bs : List Block) (c : Contents V) (s : State (Slot V) (View V)) : Type 0 where
     pub values : (l : ℕ) → l < n → get_or s.words (address (end_of n bs) (ValueCell l)) 0 ≡ get_or c.words l 0
     pub bases :

@@ -12,7 +12,7 @@ use Rattle.tx_table.specs.declared.view.Turn.{Turn}
 use Rattle.driven_turns.specs.Driven.{IsTurnFrom}
 
 module _ {V : Type 0} where
-  -- From the own world w of a on, each of these turns tries the gate of k, and finds its word not free.
+  -- From w, the world with a alone, on, each of these turns tries the gate of k, and finds its word not free.
   abbrev pub AreVain : (a k : ℕ) → World V → List (Turn V) → Type 0
   AreVain a k w [] = Unit {0}
   AreVain a k w (turn ∷ turns) = Tries (asked_all a w turn.asks) a k × (turn.found ≢ 0) × AreVain a k (took a w turn) turns
