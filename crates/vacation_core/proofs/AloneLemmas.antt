@@ -1,6 +1,6 @@
 -- A client that is alone takes one session after another.
 -- Whoever else has committed has its actions among those of the events, and there are none: so all records are the client's own, in its own
--- order. At rest it is in no commit.
+-- order. An idle client is in no commit.
 use Rattle.std.proofs.Common.{◌≡◌, ℕ, Bool, true, false, ◌&&◌, eqb, eq-eqb, ne_eqb, List, [], ◌∷◌, ◌++◌, inl, inr, refl, sym, ◌∙◌, ap}
 use Rattle.std.specs.Prelude.{map}
 use Rattle.std.proofs.lemmas.Bool.{cases_eq, cond-true, cond-false}
@@ -90,7 +90,7 @@ all_own a (d ∷ ds) (r ∷ rs) are none =
     let rest = all_own a ds rs are.1 (λ c other. skip_first a c d r ds rs is other (none c other)) in
     ((is, rest.0), cond-true (eqb r.0 a) _ _ (eq-eqb r.0 a is) ∙ ap (λ xs. d.0 ∷ xs) rest.1)
 
--- ---- at rest it is in no commit
+-- ---- an idle client is in no commit
 
 rests_at : (x : Seat Entry) (st : Stage Entry) → phase_at x.calls st ≡ Rests → is_half_done st ≡ false
 rests_at x (Storing ks) e = absurd (other e)

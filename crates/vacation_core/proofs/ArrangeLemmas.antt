@@ -1,6 +1,6 @@
 -- Things with a mark each, put into an order of their marks.
 -- Where whatever is counted in two lists is the same, the first mark of the order is among the things' marks, since there is one more of it
--- than none; what has that mark goes first, and what is counted in the others is still the same. Marks are told apart by their codes.
+-- than none; what has that mark goes first, and what is counted in the others is still the same. Marks are distinguished by their codes.
 use Rattle.std.proofs.Common.{◌≡◌, ℕ, ◌+◌, ◌<◌, Bool, true, false, cond, eqb, List, [], ◌∷◌, ◌++◌, inl, inr, refl, sym, ◌∙◌}
 use Rattle.std.proofs.Common.{ap, subst, arith}
 use Rattle.std.specs.Prelude.{◌&&◌, map}
@@ -13,7 +13,7 @@ use Rattle.std.proofs.lemmas.List.Sorted.{IsPermutation-cons, IsPermutation-midd
 use Rattle.std.proofs.lemmas.Bool.Decides.{nat_tests}
 use base.Stored.{Gv, gnil, gnum, gcons}
 
--- ---- codes are told apart
+-- ---- codes distinguish
 
 same_code : Gv → Gv → Bool
 same_code gnil gnil = true
@@ -62,7 +62,7 @@ module _ {B : Type 0} (c : Coded B) where
   uncounted b y e = cond-false (same_code (c.code b) (c.code y)) 1 0 e
 
   module _ {A : Type 0} (f : A → B) where
-    -- a thing whose mark is b, and those before and behind it
+    -- a thing whose mark is b, and those before and after it
     record IsAmong (b : B) (xs : List A) : Type 0 where
       before : List A
       thing : A

@@ -1,6 +1,6 @@
--- What the requests of a session come to on the running world.
--- Where its transaction stands open, a session asks what is left of its program. A reply that is told at once takes the program on, and
--- there was room for its call; a call that is refused leaves the transaction open, which is given up then.
+-- The results of the requests of a session on the running world.
+-- Where its transaction stands open, a session asks what is left of its program. A reply that is answered at once takes the program on, and
+-- there was room for its call; a call that is refused leaves the transaction open, which is aborted then.
 use Rattle.std.proofs.Common.{◌≡◌, ℕ, ◌+◌, ◌<◌, ◌≤◌, Bool, true, false, List, [], ◌∷◌, ◌++◌, length, inl, inr, refl, sym, ◌∙◌, ap, subst}
 use Rattle.std.proofs.Common.{arith, length-append}
 use Rattle.std.specs.Prelude.{Option, Some, slice_get, slice_set}
@@ -131,7 +131,7 @@ roomy a p calls call stands = by (ltb (length calls) CALL_LIMIT) refl
 
 -- ---- a call
 
--- a call was fed, and this was told
+-- a call was fed, and this was answered
 pub calls_now : (i k : ℕ) (call : Call Entry) (v u : VacWorld) (n : Notice Entry) (to : Play) → HasPlace i v → AsksNext i v (ask.Call call)
     → Feeds v.world.parts (event.Ask (i + 1) (request.Call call)) u.world.parts n → u.clients.items ≡ v.clients.items
     → u.aborted ≡ v.aborted → AsksOn i k v to → Called i k call n u to
@@ -216,7 +216,7 @@ unreplied i k b call (answer.Begun rv) v to other x = x.moves
 unreplied i k b call (answer.Committed n) v to other x = x.moves
 unreplied i k b call answer.Aborted v to other x = x.moves
 
--- nothing is told at once: it is under way
+-- nothing is answered at once: it is under way
 pub waits_on : (i k : ℕ) (call : Call Entry) (v : VacWorld) (to : Play) → Called i k call Quiet v to → IsPlay v to
 waits_on i k call v to x =
     subst (IsPlay v) x.comes (record {
@@ -252,7 +252,7 @@ refused_on i k b call cause v to x =
           };
     }
 
--- so it is given up
+-- so it is aborted
 pub given_up : (i k b : ℕ) (call : Call Entry) (cause : Refusal) (v u : VacWorld) (to : Play) (yes : Bool)
     → (x : Called i k call (Refused b cause) v to) → Abandons i cause x.play yes u → IsPlay u to
 given_up i k b call cause v u to true x g = subst (IsPlay u) x.comes g.1
@@ -299,7 +299,7 @@ commits_now i k v u n to place next f clients aborted k' =
           });
     })
 
--- ---- no session gives up
+-- ---- no session aborts on its replies
 
 pub never_up : (i k : ℕ) (v : VacWorld) (to : Play) → HasPlace i v → AsksNext i v ask.GiveUp → AsksOn i k v to → ⊥
 never_up i k v to place next k' =
@@ -311,7 +311,7 @@ never_up i k v to place next k' =
     goes_on h a k'.calls (action_in a h) (done_in a h) k'.on.lawful (at_now a p (Stands k'.calls) own.stands)
     (sym (asking_next k'.calls c.0 a p own) ∙ next c.0 c.1)
 
--- ---- a transaction is given up
+-- ---- a transaction is aborted
 
 -- it stood open: the abort is quiet
 pub gives_up_open : (i : ℕ) (cause : Refusal) (v u t : VacWorld) (c : Client) (p : Play) → i < ACTORS
@@ -330,7 +330,7 @@ gives_up_open i cause v u t c p inside got f clients aborted world same set r =
     quiet : told e p ≡ Quiet
     quiet = sym (own_told i v u p e Quiet inside refl f r.on)
 
-    -- at rest it would be refused
+    -- an idle one would be refused
     never : phase (seat_in a p) ≡ Rests → ⊥
     never rests =
         let x = aborts_to p.history a Rests (action_in a p.history) (done_in a p.history) Quiet (at_now a p Rests rests) (sym quiet) in
@@ -388,7 +388,7 @@ gives_up_open i cause v u t c p inside got f clients aborted world same set r =
       | inr current' ↦ current current'.0 current'.1 k.current k.done
     ]
 
--- it was at rest: nothing has happened
+-- it was idle: nothing has happened
 pub gives_up_none : (i : ℕ) (cause : Refusal) (v u : VacWorld) (n : Notice Entry) (p : Play) → HasPlace i v → (n ≡ Quiet → ⊥)
     → Feeds v.world.parts (event.Ask (i + 1) request.Abort) u.world.parts n → u.clients.items ≡ v.clients.items → u.aborted ≡ v.aborted
     → Refusing i v p → Abandons i cause p false u

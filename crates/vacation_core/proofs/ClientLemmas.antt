@@ -1,6 +1,6 @@
--- What a client of a running world is told says where its transaction stands, and is told within the bound on steps.
+-- What a client of a running world is answered says where its transaction stands, and is answered within the bound on steps.
 -- An event of the running world is one turn more in a history of the definitions' world: there a request and each step say where the
--- transaction goes on, bring the request nearer to its answer, and refuse nothing (`AnsweredLemmas`).
+-- transaction continues, bring the request nearer to its answer, and refuse nothing (`AnsweredLemmas`).
 use Rattle.std.proofs.Common.{◌≡◌, ◌⊎◌, inl, inr, ℕ, ◌+◌, ◌<◌, ◌≤◌, Bool, true, false, List, [], ◌∷◌, ◌++◌, Option, Some, None}
 use Rattle.std.proofs.Common.{refl, sym, ◌∙◌, ap, subst, arith}
 use Rattle.std.specs.Prelude.{if◌then◌else◌, is_some}
@@ -213,7 +213,7 @@ once s x q calls (Some r) (Some d) n p stood under moves done action =
 
 -- ---- a request, and the steps up to its answer
 
--- The client was told m last; if nothing, its request is under way, and k of its steps more are within the bound.
+-- The client was answered m last; if nothing, its request is under way, and k of its steps more are within the bound.
 pub record Waits (a : ℕ) (tables : Holdings) (n : ℕ) (calls : List (Call Entry × Reply Entry)) (q : Request Entry) (m : Notice Entry)
     (action : Action) (done : List Action) (c : Parts Entry) (k : ℕ) : Type 0 where
   pub made : Option (Record Entry)
@@ -268,7 +268,7 @@ module _ (a : ℕ) (tables : Holdings) (calls : List (Call Entry × Reply Entry)
   stands n p old c x same on =
       subst (λ (r : Phase Entry). IsAt a r action done x.history) on (subst (λ (y : Action). IsAt a p y done x.history) same x.at)
 
-  -- a call that is asked gives nothing up
+  -- a call that is asked aborts nothing
   no_end : (h : History) (call : Call Entry) → IsLawful h → IsAt a (Stands calls) action done h
       → phase ((happens (world_in h) (Ask a (request.Call call))).0.seats a) ≡ Ended → ⊥
   no_end h call l at e =
@@ -425,7 +425,7 @@ module _ (a : ℕ) (tables : Holdings) (calls : List (Call Entry × Reply Entry)
         left = nearer h n k x.lawful x.small told (v.left quiet);
       }
 
--- in every world where the client may ask q, it has asked, has made k steps since, and was told n last
+-- in every world where the client may ask q, it has asked, has made k steps since, and was answered n last
 abbrev pub Waiting : Parts Entry → ℕ → Request Entry → Parts Entry → Notice Entry → ℕ → Type 0
 Waiting c a q d m k =
     (tables : Holdings) (n : ℕ) (calls : List (Call Entry × Reply Entry)) (p : Phase Entry) (old action : Action) (done : List Action)

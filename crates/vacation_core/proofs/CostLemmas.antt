@@ -1,8 +1,8 @@
 -- No session asks calls of more weight than a set has locations.
 -- A program takes what its call weighs and what is left of it takes after any reply. So a reservation takes one look-up for each ask, one
 -- for the customer, at most five for each kind, and one to put the customer; an update two for each change. A deletion takes two for each
--- booking and one for each wait, which a customer has 1,000 of at most, since the program gives up where there are more; and at most ten
--- for each of the thirty tickets that it may serve.
+-- booking and one for each wait, which a customer has 1,000 of at most, since the program aborts where there are more; and at most ten for
+-- each of the thirty tickets that it may serve.
 use Rattle.std.proofs.Common.{◌≡◌, ℕ, zero, suc, ◌+◌, ◌*◌, ◌<◌, ◌≤◌, Bool, true, false, ◌&&◌, ◌||◌, List, [], ◌∷◌}
 use Rattle.std.proofs.Common.{length, Option, Some, None, refl, sym, ap, subst, arith, true≢false}
 use Rattle.std.specs.Prelude.{nat_le, nat_lt, if◌then◌else◌, ◌==◌, unwrap_or, is_none}
@@ -69,7 +69,7 @@ item_in_takes next n h (reply.Value (Client who)) = tt
 item_in_takes next n h (reply.Value (Slip t)) = tt
 item_in_takes next n h r = tt
 
--- a customer that the program goes on with is within its limits
+-- a customer with which the program continues is within its limits
 abbrev IsWithin : Option Customer → Type 0
 IsWithin None = Unit {0}
 IsWithin (Some who) = is_customer_within who ≡ true

@@ -1,6 +1,6 @@
--- A transaction that asks as its program says goes on as its program says, whatever happens.
+-- A transaction that asks as its program says continues as its program says, whatever happens.
 -- One pass over the functions of the definitions: each call joins the calls where the program asks it, and what is made of anything else
--- leaves the calls. A commit is told by the last load of a reader and by the last release of a writer alone.
+-- leaves the calls. A commit is answered by the last load of a reader and by the last release of a writer alone.
 use Rattle.std.proofs.Common.{◌≡◌, ℕ, zero, suc, Bool, true, false, cond, ◌&&◌, List, [], ◌∷◌, ◌++◌, length, Option, Some, None}
 use Rattle.std.proofs.Common.{refl, sym, ◌∙◌, ap, subst, eqb}
 use Rattle.std.specs.Prelude.{nat_lt}
@@ -40,7 +40,7 @@ use Rattle.jobs.specs.declared.job.Ask.TheVariants as ask
 use Rattle.jobs.specs.Programs.{Program, Asks, Answers, GivesUp, Follows, after, asked, replies_of}
 use Rattle.jobs.proofs.ProgramLemmas.{done_call, follows_after, give_up_call, same_call}
 
--- it tells of no commit
+-- it answers no commit
 abbrev pub TellsNoCommit : {V : Type 0} → Notice V → Type 0
 TellsNoCommit (Answered a (answer.Committed n)) = ⊥
 TellsNoCommit n = Unit {0}
@@ -103,7 +103,7 @@ module _ {V A : Type 0} (P : ℕ → Type 0) (p : Program V A) where
   abbrev pub IsFollowing : Seat V → Type 0
   IsFollowing x = FollowsAt (P x.rv) p x.calls x.stage
 
-  -- the seat of a follows the program, and no commit was told
+  -- the seat of a follows the program, and no commit was answered
   abbrev pub Goes : ℕ → After V → Type 0
   Goes a r = IsFollowing (r.0.seats a) × TellsNoCommit r.1
 
@@ -147,7 +147,7 @@ module _ {V A : Type 0} (P : ℕ → Type 0) (p : Program V A) where
   loaded [] u a x o c = answered (acted u (Accept a o.asked ∷ [])) a x (call_of o) (reply_of o) c
   loaded (d ∷ es) u a x o c = judged u a x o d es (loads u a x o es) (lookup (actor_of u a).reads d.0) c (loaded es u a x o c)
 
-  -- of a call for which there is no room, the calls before it stay
+  -- of a call for which there is no room, the calls before it are unchanged
   open_still : (N : Type 0) (calls : List (Call V × Reply V)) (c : Call V) → N × AsksNext p calls c → FollowsAt N p calls Open
   open_still N calls c next = (next.0, (Asks c next.1.0, next.1.1))
 
@@ -253,7 +253,7 @@ module _ {V A : Type 0} (P : ℕ → Type 0) (p : Program V A) where
   why_on a None = tt
   why_on a (Some r) = tt
 
-  -- a commit may be told by the next step
+  -- a commit may be answered by the next step
   abbrev pub IsLast : Stage V → Type 0
   IsLast Closing = Unit {0}
   IsLast Releasing = Unit {0}

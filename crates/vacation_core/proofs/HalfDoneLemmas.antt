@@ -49,7 +49,7 @@ use Rattle.vacation_core.proofs.PastLemmas.{shows_past}
 
 -- ---- maps of one kind of entries
 
--- each entry is of the kind that g tells
+-- each entry is of the kind that g names
 abbrev AllOf : {X : Type 0} → (Entry → Option X) → FinMap nat_cmp Entry → Type 0
 AllOf g m = (q : ℕ) (x : Entry) → get m q ≡ Some x → is_some (g x) ≡ true
 

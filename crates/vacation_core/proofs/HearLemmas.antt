@@ -1,6 +1,6 @@
--- What a client keeps of its session, by what it is told.
--- What a step tells says where its transaction goes on, and so does a want of memory; so what the client kept before is what it is to keep,
--- or what it is to have as it hears of an answer.
+-- What a client keeps of its session, by what it is answered.
+-- What a step answers says where its transaction continues, and so does a failed allocation; so what the client kept before is what it is
+-- to keep, or what it is to have as it hears of an answer.
 use Rattle.std.proofs.Common.{◌≡◌, ℕ, Bool, true, false, true≢false, cond, List, [], ◌∷◌, ◌++◌, inl, inr, refl, sym, ◌∙◌, ap, subst}
 use Rattle.std.specs.Prelude.{Option, Some, None}
 use Rattle.seq_model.specs.declared.call.Call.{Call}
@@ -59,12 +59,12 @@ pub closed : (o : Option OpenSession) → is_under_way o ≡ false → o ≡ Non
 closed None h = refl
 closed (Some o) h = absurd (true≢false h)
 
--- ---- at rest
+-- ---- an idle client
 
 none_open : (o : Option OpenSession) → o ≡ None → is_under_way o ≡ true → ⊥
 none_open o e h = true≢false (sym h ∙ ap is_under_way e)
 
--- a client without a session stands at rest, and only there
+-- a client without a session is idle, and no other is
 pub at_rest : (at : Phase Entry) (c : Client) (action : Action) (fault : Option Refusal) (done : List Action) → has_open c ≡ false
     → KeepsAt at c action fault done → at ≡ Rests
 at_rest Rests c action fault done none k = refl
@@ -130,7 +130,7 @@ module _ (c : Client) (action : Action) (fault : Option Refusal) where
   step_hears Ends false (Refused b cause) to done some k m = (inl m, k.0, k.1)
   step_hears before commits n to done some k m = absurd m
 
-  -- ---- a want of memory
+  -- ---- a failed allocation
 
   idle_phase : (calls : List (Call Entry × Reply Entry)) (st : Stage Entry) → st ≡ Idle → phase_at calls st ≡ Rests
   idle_phase calls st e = ap (phase_at calls) e

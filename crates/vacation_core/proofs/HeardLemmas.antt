@@ -1,4 +1,4 @@
--- What a client does that is told of its session, and what begins one.
+-- What a client does with the answer to its session, and what begins one.
 use Rattle.std.proofs.Common.{◌≡◌, ◌⊎◌, ℕ, ◌+◌, ◌<◌, ◌≤◌, true, false, List, [], ◌∷◌, ◌++◌, length, inl, inr, refl, sym, ◌∙◌, ap, subst}
 use Rattle.std.proofs.Common.{arith}
 use Rattle.std.specs.Prelude.{Option, Some, None, slice_get, slice_set, if◌then◌else◌}
@@ -64,7 +64,7 @@ open_is st x y e = ap (λ (s : Stage Entry). at_open s x y) e
 unopened_is : {X : Type 0} → (st : Stage Entry) (x y : X) → st ≡ Idle → at_open st x y ≡ y
 unopened_is st x y e = ap (λ (s : Stage Entry). at_open s x y) e
 
--- ---- it is to go on
+-- ---- it is to continue
 
 -- its transaction has begun
 pub begun_asks : (i b rv : ℕ) (v : VacWorld) (p : Play) → Hears i (Answered b (answer.Begun rv)) v p
@@ -156,7 +156,7 @@ aborted_left i b v u c p got world aborted clients h =
     let k = h.own c got in
     left_now i v u c p got world aborted clients h.on h.others (k.stands ∙ k.hears.0) k.hears.2
 
--- it is told of with the fault for which it gave its transaction up
+-- its end is listed with the fault for which it aborted its transaction
 pub aborted_for : (i b : ℕ) (v u : VacWorld) (c : Client) (p : Play) (o : Option Refusal) → slice_get v.clients.items i ≡ Some c
     → o ≡ fault_of c → Hears i (Answered b answer.Aborted) v p → IsPlay u (ends_for (i + 1) o p)
     → IsPlay u (hears (i + 1) (Answered b answer.Aborted) p)
@@ -214,7 +214,7 @@ pub refused_left : (i : ℕ) (v u : VacWorld) (c : Client) (p : Play) → slice_
 refused_left i v u c p got world aborted clients rests r =
     left_now i v u c p got world aborted clients r.on r.others rests (r.own c got).done
 
--- it gives its transaction up
+-- it aborts its transaction
 pub gives_up_then : (i b : ℕ) (cause : Refusal) (u : VacWorld) (p : Play) → Abandons i cause p true u
     → IsPlay u (hears (i + 1) (Refused b cause) p)
 gives_up_then i b cause u p g =
@@ -312,7 +312,7 @@ begins_now i action v u t n c d p place allowed got got' none f clients aborted 
       absent = λ b isnt. ap (λ (h : History). done_in b h) same ∙ on.absent b isnt;
     }
 
--- ---- nothing is told
+-- ---- nothing is answered
 
 pub unheard : (i : ℕ) (v : VacWorld) (p : Play) → Hears i Quiet v p → IsPlay v p
 unheard i v p h = record {

@@ -1,5 +1,5 @@
 -- A turn more in the history of a world of clients.
--- A turn that may happen leaves a lawful history, whose world is what its event leaves. Where its client stands then, what it is told
+-- A turn that may happen leaves a lawful history, whose world is what its event leaves. Where its client stands then, what it is answered
 -- says; and a step that commits adds the action of its transaction to what the client has committed.
 use Rattle.std.proofs.Common.{◌≡◌, ◌≢◌, ℕ, Bool, true, false, eqb, eq-eqb, List, [], ◌∷◌, ◌++◌, Option, Some, None, refl, sym, ◌∙◌, ap}
 use Rattle.std.proofs.Common.{subst}
@@ -81,7 +81,7 @@ with_one : (b : Bool) (done : List Action) (action : Action)
 with_one true done action = refl
 with_one false done action = append-nil done
 
--- Its client, where it stood at p, has stepped and was told n.
+-- Its client, where it stood at p, has stepped and was answered n.
 pub record Stepped (a : ℕ) (p : Phase Entry) (action : Action) (done : List Action) (n : Notice Entry) (h : History) : Type 0 where
   pub commits : Bool
   pub to : Phase Entry
@@ -207,7 +207,7 @@ begun_to : (actions : Actions) (a : ℕ) (action : Action) (st : Stage Entry) �
 begun_to actions a action st e =
     ap (λ (s : Stage Entry). at_idle s (put actions a action) actions a) e ∙ put-same actions a action
 
--- a client at rest begins the session of an action
+-- an idle client begins the session of an action
 pub begins : (h : History) (a : ℕ) (old action : Action) (done : List Action) → IsAt a Rests old done h
     → IsAt a Begins action done (next h (Ask a request.Begin, action))
 begins h a old action done at =
@@ -227,7 +227,7 @@ begins h a old action done at =
       has = done_next a h t ∙ append-nil (done_in a h) ∙ at.has;
     }
 
--- and is told nothing yet
+-- and is answered nothing yet
 pub begin_is_quiet : (h : History) (a : ℕ) (action : Action) (done : List Action) → IsAt a Rests action done h
     → (happens (world_in h) (Ask a request.Begin)).1 ≡ Quiet
 begin_is_quiet h a action done at =
@@ -241,7 +241,7 @@ quiet_commit : (w : World Entry) (a : ℕ) (x : Seat Entry) (es : Entries) → (
 quiet_commit w a x [] = refl
 quiet_commit w a x (e ∷ es) = refl
 
--- a commit and an abort of an open transaction tell nothing
+-- a commit and an abort of an open transaction answer nothing
 pub commit_is_quiet : (h : History) (a : ℕ) (calls : List (Call Entry × Reply Entry)) (action : Action) (done : List Action)
     → IsAt a (Stands calls) action done h → (happens (world_in h) (Ask a request.Commit)).1 ≡ Quiet
 commit_is_quiet h a calls action done at =
@@ -271,7 +271,7 @@ pub may_ask : (h : History) (a : ℕ) (calls : List (Call Entry × Reply Entry))
     → IsAt a (Stands calls) action done h → asked (after (session action) (replies_of calls)) ≡ next → asked_in h a ≡ next
 may_ask h a calls action done next at asks = asked_is h a calls action done at ∙ asks
 
--- and it doesn't give up
+-- and it doesn't abort
 pub goes_on : (h : History) (a : ℕ) (calls : List (Call Entry × Reply Entry)) (action : Action) (done : List Action)
     → IsLawful h → IsAt a (Stands calls) action done h → asked (after (session action) (replies_of calls)) ≢ ask.GiveUp
 goes_on h a calls action done l at gives_up =

@@ -1,6 +1,6 @@
--- The sessions of a list of actions, and what has come of them.
--- After each session the client has committed one action more. At rest its records are its sessions, one for each action, in their order:
--- so says the law of a client that is alone, of the world that its history leads to; and the trace has what has come of that world.
+-- The sessions of a list of actions, and their results.
+-- After each session the client has committed one action more. Where it is idle its records are its sessions, one for each action, in their
+-- order: so says the law of a client that is alone, of the world that its history leads to; and the trace has the result of that world.
 use Rattle.std.proofs.Common.{◌≡◌, ℕ, suc, ◌+◌, ◌<◌, ◌≤◌, List, [], ◌∷◌, ◌++◌, length, refl, sym, ◌∙◌, ap, subst, arith, take}
 use Rattle.std.proofs.Common.{take-suc}
 use Rattle.std.specs.Prelude.{All, get_or, map}
@@ -78,7 +78,7 @@ all_of_them actions i c d all most so_far tables first allowed x =
           (subst (λ (done : List Action). IsAtRest tables i r.0 done d) (take_all i actions all) r.1),
     )
 
--- ---- what has come of them
+-- ---- their results
 -- the records of one actor, without it and with it again
 own_again : (rs : List (ℕ × Record Entry)) → AreRecordsOf 1 rs → of_client (map (λ r. r.1) rs) ≡ rs
 own_again [] are = refl

@@ -39,7 +39,7 @@ use Rattle.replay_log.proofs.RequestLemmas.{actions_of, run_by}
 
 -- ---- for each count a number
 
--- behind a record in commit order the numbers of writers are greater
+-- after a record in commit order the numbers of writers are greater
 above_rest : (r : Record) (h : List Record) (l : ℕ) → AllFrom r h → AreWriters l h → AreAbove r.number l h
 above_rest r [] l a w = tt
 above_rest r (x ∷ xs) l a w = (

@@ -1,5 +1,5 @@
 -- The turns of a play are those of sessions, whatever the events say.
--- A session asks what is left of its program where its transaction stands, and that may be asked; what a step tells says where the
+-- A session asks what is left of its program where its transaction stands, and that may be asked; what a step answers says where the
 -- transaction stands. By induction on what is left of a session, since each reply at once takes it on; and then on the events.
 use Rattle.std.proofs.Common.{◌≡◌, ℕ, Bool, true, false, cond, List, [], ◌∷◌, ◌++◌, refl, sym, ◌∙◌, ap, subst}
 use Rattle.seq_model.specs.declared.call.Call.{Call}
@@ -72,9 +72,9 @@ replied_next (d ∷ ds) (Asks c on) call next r e = replied_next ds (on d.1) cal
 replied_next (d ∷ ds) (Answers a) call next r e = absurd (answers_asks a call next e)
 replied_next (d ∷ ds) GivesUp call next r e = absurd (gone_asks call next e)
 
--- ---- what is told says where a transaction stands
+-- ---- an answer says where a transaction stands
 
--- it stands open where an answer lets its session go on
+-- it stands open where an answer lets its session continue
 abbrev pub StandsBy : Notice Entry → Phase Entry → Type 0
 StandsBy (Answered b (answer.Begun rv)) to = to ≡ Stands []
 StandsBy (Answered b (answer.Replied r)) to = (calls : List (Call Entry × Reply Entry)) × (to ≡ Stands calls)
@@ -96,7 +96,7 @@ steps_stand before true (Answered b (answer.Begun rv)) to m = absurd m
 steps_stand before true (Answered b (answer.Replied r)) to m = absurd m
 steps_stand before commits n to m = tt
 
--- a want of memory is no answer
+-- a failed allocation is no answer
 abbrev IsUnanswered : Notice Entry → Type 0
 IsUnanswered (Answered b x) = ⊥
 IsUnanswered n = Unit {0}
@@ -147,7 +147,7 @@ sound_replied a (Answered b w) calls call next q to s m goes = s
 sound_replied a (Refused b cause) calls call next q to s m goes = sound_aborts a cause q s
 sound_replied a Quiet calls call next q to s m goes = s
 
--- what a call is told at once, and what its transaction is to do and stands at then
+-- what a call is answered at once, and what its transaction is to do and stands at then
 pub called_at : (a : ℕ) (p : Play) (calls : List (Call Entry × Reply Entry)) (call : Call Entry) → phase (seat_in a p) ≡ Stands calls
     → let e = event.Ask a (request.Call call) in let q = moved a e p in
     (to : Phase Entry) × (phase (seat_in a q) ≡ to) × CallMoves calls call (told e p) to

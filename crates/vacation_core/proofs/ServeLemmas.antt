@@ -1,8 +1,8 @@
 -- Sessions that interleave are their actions, one after another.
 -- By induction on the events: the transaction of each actor follows the session of its action, and each record is a whole session. An event
 -- of one actor leaves the others' seats; a step that commits inserts the record of a transaction that has made all its calls. As it began,
--- no record had a greater number than it began with, and its actor makes no other before it commits; so its record goes behind all of its
--- actor. Serial order of the world and the law of runs of sessions say the rest.
+-- no record had a greater number than it began with, and its actor makes no other before it commits; so its record goes after all of its
+-- actor. Serial order of the world and the law of runs of sessions say what is left.
 use Rattle.std.proofs.Common.{◌≡◌, ◌⊎◌, ℕ, ◌<◌, ◌≤◌, Bool, true, false, cond, eqb, eq-eqb, ne_eqb, List, [], ◌∷◌, ◌++◌, Option, Some, None}
 use Rattle.std.proofs.Common.{inl, inr, refl, sym, ◌∙◌, ap, subst, arith}
 use Rattle.std.proofs.lemmas.Bool.{cases_eq, cases_Bool, cond-true, cond-false}
@@ -75,7 +75,7 @@ others_insert b n q (r ∷ rs) other h =
       | false ↦ (h.0, rest)
     ]
 
--- the record q is made behind those of its actor: a writer's number is above theirs, a reader's at least as great
+-- the record q is made after those of its actor: a writer's number is above theirs, a reader's at least as great
 pub record IsBehind (q : ℕ × Record Entry) (s : ℕ × Record Entry) : Type 0 where
   pub number : s.1.number ≤ q.1.number
   pub above : q.1.writes ≡ true → s.1.number < q.1.number
@@ -104,7 +104,7 @@ writer_behind a n q (r ∷ rs) above h = (
   writer_behind a n q rs above h.1,
 )
 
--- where a record goes in before another, none of its own actor stands behind that
+-- where a record goes in before another, none of its own actor stands after that
 no_own_behind : (a : ℕ) (q : Record Entry) (b : ℕ) (x s : Record Entry) → comes_before (a, q) (b, x) ≡ true
     → comes_before (a, s) (b, x) ≡ false → s.number ≤ q.number → (q.writes ≡ true → s.number < q.number) → ⊥
 no_own_behind a q b x s first after le above =
@@ -117,7 +117,7 @@ no_own_behind a q b x s first after le above =
     by n m k false false true first after le above = grind (arith, nat_tests)
     by n m k false false false first after le above = grind (arith, nat_tests)
 
--- it does not come before one that it is made behind
+-- it does not come before one that it is made after
 behind_not_before : (q r : ℕ × Record Entry) → r.0 ≡ q.0 → IsBehind q r → comes_before q r ≡ true → ⊥
 behind_not_before q r same behind first =
     by q.1.number r.1.number q.0 q.1.writes r.1.writes
@@ -143,7 +143,7 @@ none_of q x (d ∷ ds) (s ∷ rs) first none own =
       | inr isnt ↦ cond-false (eqb s.0 q.0) _ _ (ne_eqb s.0 q.0 isnt) ∙ none_of q x ds rs first none.1 own.1
     ]
 
--- a session goes to the place of its record, behind those of its actor
+-- a session goes to the place of its record, after those of its actor
 pub record Inserted (d : Deal) (q : ℕ × Record Entry) (ds : List Deal) (rs out : List (ℕ × Record Entry)) : Type 0 where
   pub deals : List Deal
   pub sessions : AreSessions deals out

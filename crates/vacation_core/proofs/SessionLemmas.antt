@@ -1,7 +1,7 @@
 -- A session of the client, from its begin to its commit.
--- Each request is answered, and by what it is answered the client goes on (`IsAnswered`). The calls follow the session's program: each is
--- the one that is asked after the replies so far, and what is left of the program goes on with its reply. By the laws of sessions it does
--- not give up, and asks no more calls than a transaction may have.
+-- Each request is answered, and by what it is answered the client continues (`IsAnswered`). The calls follow the session's program: each is
+-- the one that is asked after the replies so far, and what is left of the program continues with its reply. By the laws of sessions it does
+-- not abort, and asks no more calls than a transaction may have.
 use Rattle.std.proofs.Common.{◌≡◌, ℕ, ◌+◌, ◌<◌, Bool, true, false, List, [], ◌∷◌, ◌++◌, length, Some, refl, sym, ◌∙◌, ap, subst, arith}
 use Rattle.std.specs.Prelude.{if◌then◌else◌}
 use Rattle.seq_model.specs.declared.call.Call.{Call}
@@ -178,7 +178,7 @@ module _ (action : Action) (c d : Parts Entry) (replies : List (Reply Entry)) (k
     abbrev made : HasMade begun.tables begun.count action begun.done d replies k
     made = so_far begun.tables begun.count begun.done begun.allowed begun.opened
 
-    -- it doesn't give up
+    -- it doesn't abort
     pub goes_on_so : ask.GiveUp ≡ asked (after (session action) replies) → ⊥
     goes_on_so is =
         let m = made in

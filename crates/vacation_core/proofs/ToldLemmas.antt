@@ -1,4 +1,4 @@
--- What is told of the records is told of all of them, each with what its own session answered.
+-- All records are listed, each with what its own session answered.
 -- Of each actor the sessions that are left begin with those of its records that are left; so the next one is that of its next record.
 use Rattle.std.proofs.Common.{◌≡◌, ℕ, zero, suc, ◌+◌, ◌<◌, eqb, eq-eqb, ne_eqb, List, [], ◌∷◌, ◌++◌, length, drop}
 use Rattle.std.proofs.Common.{inl, inr, refl, sym, ◌∙◌, ap, subst, arith, get_or}
@@ -31,7 +31,7 @@ rest_same x y xs ys e = cc
 none_first : {X : Type 0} → (y : X) (ys : List X) → [] ≡ y ∷ ys → ⊥
 none_first y ys e = cc
 
--- the entry at n, and what comes behind it
+-- the entry at n, and what comes after it
 pub drop_first : {X : Type 0} → (xs : List X) (n : ℕ) (y : X) (ys : List X) → drop n xs ≡ y ∷ ys
     → (slice_get xs n ≡ Some y) × (drop (suc n) xs ≡ ys)
 drop_first [] zero y ys e = absurd (none_first y ys e)
@@ -51,7 +51,7 @@ acts_other a d r ds rs other = cond-false (eqb r.0 a) _ _ (ne_eqb r.0 a other)
 
 -- ---- one record
 
--- the actor of the record is the client at place i, this one, and so many of its sessions were told of
+-- the actor of the record is the client at place i, this one, and so many of its sessions are listed so far
 pub record IsEntryAt (cs : List Client) (ns : List ℕ) (r : ℕ × Record Entry) (i : ℕ) (c : Client) (place : ℕ) : Type 0 where
   pub actor : r.0 ≡ suc i
   pub client : slice_get cs i ≡ Some c
@@ -153,7 +153,7 @@ is_at cs ns r c place h count client told =
       told = same_found ns (r.0 - 1) place within (told within);
     }
 
--- and has a session that is to be told of
+-- and has a session that is to be listed
 pub session_in : (cs : List Client) (ns : List ℕ) (r : ℕ × Record Entry) (i : ℕ) (c : Client) (place : ℕ) → HaveFirst cs ns r
     → IsEntryAt cs ns r i c place → slice_get (sessions_of c) place ≡ None → ⊥
 session_in cs ns r i c place h at none =
@@ -193,7 +193,7 @@ told_one cs ns r i c place s reply at found answers = record {
 
 -- ---- all records
 
--- so many were told of, and what is left of all
+-- so many are listed, and what is left of all
 pub record IsTelling (cs : List Client) (all : List Told) (ns : List ℕ) (left : List (ℕ × Record Entry)) (whole : List Told) : Type 0 where
   pub deals : List Deal
   pub are : AreOwn cs ns deals left

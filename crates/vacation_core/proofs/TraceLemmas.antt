@@ -1,4 +1,4 @@
--- The trace of a running world of clients has what came of its play.
+-- The trace of a running world of clients has the result of its play.
 -- The records of an actor are sessions of the actions that it committed, in its order; and these are the sessions that its client
 -- keeps, the one under way, if it is committed, being the last.
 use Rattle.std.proofs.Common.{◌≡◌, ℕ, zero, suc, ◌+◌, ◌≤◌, false, List, [], ◌∷◌, ◌++◌, length, drop, get_or, refl, sym, ◌∙◌}
@@ -143,7 +143,7 @@ pub trace_of : (v : VacWorld) (p : Play) (t : Trace Entry) → IsPlay v p
 trace_of v p t k traces =
     traces (state_of p.history.tables) (world_in p.history) (reached p.history k.on.lawful) k.on.parts
 
--- its records are told of
+-- its records are listed
 pub own_as : (v : VacWorld) (p : Play) (rs : List (ℕ × Record Entry)) → (k : IsPlay v p) → rs ≡ (world_in p.history).records
     → AreOwn v.clients.items (replicate (length v.clients.items) 0) (serial_of v p k).serial.deals rs
 own_as v p rs k same =

@@ -1,5 +1,5 @@
 -- An event that is fed to the running world is a turn more in the play.
--- It leaves what all other clients keep. What its own client is told of it says where its transaction goes on.
+-- It leaves what all other clients keep. What its own client is answered says where its transaction continues.
 use Rattle.std.proofs.Common.{◌≡◌, ℕ, ◌+◌, ◌<◌, ◌≤◌, true, false, true≢false, List, [], ◌∷◌, ◌++◌, length, inl, inr, refl, sym, ◌∙◌, ap}
 use Rattle.std.proofs.Common.{subst, arith}
 use Rattle.std.specs.Prelude.{if◌then◌else◌, Option, Some, None, slice_get, slice_set}
@@ -119,7 +119,7 @@ others_turned i v u p e action own same others j c apart got =
     client_other p e action (j + 1) c (λ is. suc_apart i j apart (sym own ∙ sym is))
     (others j c apart (ap (λ (cs : List Client). slice_get cs j) (sym same) ∙ got))
 
--- what a client keeps is not changed by what else is told, and by another's fault
+-- what a client keeps is not changed by what else is answered, and by another's fault
 pub client_as : (p q : Play) (b : ℕ) (c : Client) → q.history ≡ p.history → q.faults b ≡ p.faults b → IsClient c b p → IsClient c b q
 client_as p q b c same fault k =
     record {
@@ -263,7 +263,7 @@ move_hearing p a (event.Starve b) c n m same some k =
     (λ at. starve_hearing p a c n at some k) same
 move_hearing p a e c n m same some k = absurd m
 
--- the client at place i is told of a step, or a want of memory, of its session
+-- the client at place i gets the answer to a step, or to a failed allocation, of its session
 pub hears_move : (i : ℕ) (e : Event Entry) (v u : VacWorld) (c : Client) (p : Play) (n : Notice Entry) → i < ACTORS → IsMoveOf (i + 1) e
     → slice_get v.clients.items i ≡ Some c → has_open c ≡ true → Feeds v.world.parts e u.world.parts n
     → u.clients.items ≡ v.clients.items → u.aborted ≡ v.aborted → IsPlay v p → Hears i n u (moved (i + 1) e p)

@@ -1,6 +1,6 @@
--- No call of a session of a play is refused. Between events no transaction stands open: a session that goes on asks as long as each
+-- No call of a session of a play is refused. Between events no transaction stands open: a session that continues asks as long as each
 -- request is answered at once, and ends with one under way. So a refusal that leaves a transaction open is its call's, as NoSuch or
--- TooLong; and what its history has come to is a world of clients, in which no session is told those.
+-- TooLong; and the result of its history is a world of clients, in which no session is answered those.
 use Rattle.std.proofs.Common.{◌≡◌, ℕ, Bool, true, false, true≢false, cond, List, [], ◌∷◌, ◌++◌, Option, None, inl, inr, refl, sym, ◌∙◌, ap}
 use Rattle.std.proofs.Common.{subst}
 use Rattle.std.specs.Prelude.{is_some}
@@ -116,7 +116,7 @@ turn_but a p e action own no_read may f =
       aborted = f.aborted;
     }
 
--- nothing that a client may do next is told NoSuch or TooLong
+-- nothing that a client may do next is answered NoSuch or TooLong
 none_told : (a : ℕ) (p : Play) (e : Event Entry) (action : Action) → whose e ≡ a → May p e action → FindsBut a p
     → RefusesAsMistaken (told e p) → ⊥
 none_told a p e action own may f =
@@ -124,7 +124,7 @@ none_told a p e action own may f =
     let l = f.sound.lawful in
     sessions_find_room h.blocks h.clock h.tables h.actions h.turns a l.allowed l.stripes l.suits l.asks (f.free a) (e, action) own may
 
--- ---- a session goes on
+-- ---- a session continues
 replied_finds : (a : ℕ) (n : Notice Entry) (calls : List (Call Entry × Reply Entry)) (call : Call Entry) (next : Reply Entry → Play)
     (q : Play) (to : Phase Entry) → FindsBut a q → phase (seat_in a q) ≡ to → CallMoves calls call n to → (RefusesAsMistaken n → ⊥)
     → ((r : Reply Entry) → to ≡ Stands (calls ++ (call, r) ∷ []) → Finds (next r)) → Finds (if_replied a n next q)
@@ -231,7 +231,7 @@ step_finds a Ends false (Answered b answer.Aborted) to q h m none f at =
 step_finds a Ends false (Refused b cause) to q h m none f at = refused_find a b cause q Rests (at ∙ m) tt none f
 step_finds a before made n to q h m none f at = absurd m
 
--- ---- a want of memory
+-- ---- a failed allocation
 hears_quiet : (a : ℕ) (n : Notice Entry) (q : Play) → n ≡ Quiet → Finds q → Finds (hears a n q)
 hears_quiet a n q e f = subst (λ (m : Notice Entry). Finds (hears a m q)) (sym e) f
 

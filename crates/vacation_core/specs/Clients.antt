@@ -1,4 +1,4 @@
--- What a client keeps of its sessions, and what it does with what it is told.
+-- What a client keeps of its sessions, and what it does with what it is answered.
 use Rattle.std.specs.Prelude.{Bool, true, false, List, [], ◌∷◌, ◌++◌, Option, Some, None}
 use Rattle.seq_model.specs.declared.call.Reply.{Reply}
 use Rattle.seq_model.specs.declared.refusal.Refusal.{Refusal}
@@ -39,7 +39,7 @@ with_reply r (Some o) = Some (record o { replies = o.replies ++ r ∷ [] })
 abbrev pub joined : Reply Entry → Client → Client
 joined r c = record c { current = with_reply r c.current }
 
--- a call of it was refused, for which it gives its transaction up
+-- a call of it was refused, for which it aborts its transaction
 abbrev pub with_fault : Refusal → Option OpenSession → Option OpenSession
 with_fault cause None = None
 with_fault cause (Some o) = Some (record o { fault = Some cause })
@@ -59,7 +59,7 @@ finished c = record { current = None; done = with_open c.current c.done }
 abbrev pub left : Client → Client
 left c = record c { current = None }
 
--- why it gave its transaction up
+-- why it aborted its transaction
 abbrev pub fault_in : Option OpenSession → Option Refusal
 fault_in None = None
 fault_in (Some o) = o.fault

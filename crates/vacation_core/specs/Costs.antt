@@ -1,4 +1,4 @@
--- On what the calls of a session are, and on how many locations they lie at most.
+-- On what the calls of a session are, and how many locations they take at most.
 use Rattle.std.specs.Prelude.{◌≡◌, ℕ, ◌+◌, ◌≤◌, ◌<◌, List, length}
 use Rattle.tx_sets.specs.declared.access_set.TheConstants.{LOCATION_LIMIT}
 use Rattle.seq_model.specs.declared.call.Call.{Call}
@@ -13,7 +13,7 @@ use Rattle.vac_model.specs.Actions.{IsAllowed}
 use Rattle.client_sessions.specs.declared.entry.Entry.{Entry}
 use Rattle.client_sessions.specs.Sessions.{SessionProgram, session}
 
--- it is on word 0, on one of the five maps, or on one of the three queues behind them
+-- it is on word 0, on one of the five maps, or on one of the three queues after them
 abbrev pub IsOn : Op Entry → ℕ → Type 0
 IsOn Read t = t ≡ 0
 IsOn (Write v) t = t ≡ 0
@@ -31,7 +31,7 @@ Takes (Asks call next) n = (m : ℕ) × (m + weight call.op ≤ n) × IsOn call.
 Takes (Answers a) n = Unit {0}
 Takes GivesUp n = Unit {0}
 
--- A call behind these is on the tables, and with them lies on no more locations than a set may have; nor are there too many of them.
+-- A call after these is on the tables, and with them takes no more locations than a set may have; nor are there too many of them.
 pub record Fits (calls : List (Call Entry × Reply Entry)) (call : Call Entry) : Type 0 where
   pub on : IsOn call.op call.target
   pub small : IsSmall call.op

@@ -11,8 +11,8 @@ use Rattle.vacation_core.specs.Serial.{IsSerialSessions}
 use Rattle.vacation_core.specs.declared.events.VacEvent.{VacEvent}
 use Rattle.vacation_core.specs.Plays.{AreAllowed, Play, played_all, unplayed}
 
--- The turns are those of sessions in serial order, each of a committed one being of the action that its own start began; no session gave
--- up.
+-- The turns are those of sessions in serial order, each of a committed one being of the action that its own start began; no session aborted
+-- on its replies.
 pub record IsSerialPlay (p : Play) : Type 0 where
   pub serial : IsSerialSessions p.history.tables p.history.actions (opening_of p.history) p.history.turns
   pub goes_on : p.given_up ≡ []

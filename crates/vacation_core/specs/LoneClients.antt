@@ -1,4 +1,4 @@
--- A client of a running world that is alone, and what its requests come to.
+-- A client of a running world that is alone, and the results of its requests.
 use Rattle.std.specs.Prelude.{◌≡◌, ℕ, ◌+◌, ◌<◌, ◌≤◌, Bool, true, false, if◌then◌else◌, List, [], ◌∷◌, ◌++◌}
 use Rattle.word_machine.specs.Actor.{clock_limit}
 use Rattle.seq_model.specs.declared.call.Call.{Call}
@@ -70,14 +70,14 @@ abbrev pub begun : ℕ → Request Entry → ℕ
 begun n request.Begin = n + 1
 begun n q = n
 
--- Where a transaction stands once this is told of a request, and whether it has committed: each request is answered, and none refused.
+-- Where a transaction stands after this answer to a request, and whether it has committed: each request is answered, and none refused.
 abbrev pub Leads : List (Call Entry × Reply Entry) → Request Entry → Notice Entry → Phase Entry → (commits : Bool) → Type 0
 Leads calls request.Begin (Answered b (answer.Begun rv)) p false = p ≡ Stands []
 Leads calls (request.Call call) (Answered b (answer.Replied r)) p false = p ≡ Stands (calls ++ (call, r) ∷ [])
 Leads calls request.Commit (Answered b (answer.Committed n)) p true = p ≡ Rests
 Leads calls q n p commits = ⊥
 
--- The client has asked q after these calls, for an action, and was told n last.
+-- The client has asked q after these calls, for an action, and was answered n last.
 pub record Comes (a : ℕ) (tables : Holdings) (k : ℕ) (calls : List (Call Entry × Reply Entry)) (q : Request Entry) (n : Notice Entry)
     (action : Action) (done : List Action) (c : Parts Entry) : Type 0 where
   pub at : Phase Entry
@@ -85,7 +85,8 @@ pub record Comes (a : ℕ) (tables : Holdings) (k : ℕ) (calls : List (Call Ent
   pub leads : Leads calls q n at commits
   pub client : IsClient a tables k at action (if commits then done ++ action ∷ [] else done) c
 
--- In every world where a client may ask q, and of which c are the parts, it was told n of its request, and d are the parts that are left.
+-- In every world where a client may ask q, and of which c are the parts, it was answered n to its request, and d are the parts that are
+-- left.
 abbrev pub IsAnswered : Parts Entry → ℕ → Request Entry → Parts Entry → Notice Entry → Type 0
 IsAnswered c a q d n =
     (tables : Holdings) (k : ℕ) (calls : List (Call Entry × Reply Entry)) (p : Phase Entry) (old action : Action) (done : List Action)

@@ -25,8 +25,8 @@ use Rattle.vacation_core.specs.Histories.{History, action_in, later, world_in}
 use Rattle.vacation_core.specs.declared.events.VacEvent.{VacEvent}
 use Rattle.vacation_core.specs.declared.events.VacEvent.TheVariants.{Start, Step, Starve}
 
--- What has come of events: the turns that the world has taken; why a client's session gave its transaction up last, where a call of it was
--- refused; the sessions that ended without a commit and why, in the order of their ending; and whose sessions gave up by themselves.
+-- The result of events: the turns that the world has taken; why a client's session aborted its transaction last, where a call of it was
+-- refused; the sessions that ended without a commit and why, in the order of their ending; and whose sessions aborted on their replies.
 pub record Play : Type 0 where
   pub history : History
   pub faults : ℕ → Option Refusal
@@ -37,7 +37,7 @@ pub record Play : Type 0 where
 abbrev pub seat_in : ℕ → Play → Seat Entry
 seat_in a p = (world_in p.history).seats a
 
--- what an event of the world tells
+-- what an event of the world answers
 abbrev pub told : Event Entry → Play → Notice Entry
 told e p = (happens (world_in p.history) e).1
 
@@ -45,7 +45,7 @@ told e p = (happens (world_in p.history) e).1
 abbrev pub turned : Event Entry → Action → Play → Play
 turned e action p = record p { history = later p.history ((e, action) ∷ []) }
 
--- the transaction of actor a goes on with an event of its own
+-- the transaction of actor a continues with an event of its own
 abbrev pub moved : ℕ → Event Entry → Play → Play
 moved a e p = turned e (action_in a p.history) p
 
@@ -57,12 +57,12 @@ abbrev pub ends_for : ℕ → Option Refusal → Play → Play
 ends_for a None p = p
 ends_for a (Some cause) p = ends a cause p
 
--- a call was refused, so its session gives its transaction up
+-- a call was refused, so its session aborts its transaction
 abbrev pub aborts : ℕ → Refusal → Play → Play
 aborts a cause p =
     record (moved a (event.Ask a request.Abort) p) { faults = put p.faults a (Some cause) }
 
--- what comes of a call by what is told of it at once: its session goes on with the reply, or gives its transaction up, or waits
+-- the result of a call by what is answered to it at once: its session continues with the reply, or aborts its transaction, or waits
 abbrev pub if_replied : ℕ → Notice Entry → (Reply Entry → Play) → Play → Play
 if_replied a (Answered b (answer.Replied r)) next p = next r
 if_replied a (Refused b cause) next p = aborts a cause p
@@ -84,7 +84,7 @@ abbrev pub at_open : {X : Type 0} → Stage Entry → X → X → X
 at_open Open x y = x
 at_open stage x y = y
 
--- what a client does that is told this
+-- what a client does that is answered this
 abbrev pub hears : ℕ → Notice Entry → Play → Play
 hears a (Answered b (answer.Begun rv)) p = asks_on a (left_of a p) p
 hears a (Answered b (answer.Replied r)) p = asks_on a (left_of a p) p
@@ -94,7 +94,7 @@ hears a n p = p
 
 -- ---- events
 
--- a step of actor a, or a want of memory
+-- a step of actor a, or a failed allocation
 abbrev pub IsMoveOf : ℕ → Event Entry → Type 0
 IsMoveOf a (event.Step b) = b ≡ a
 IsMoveOf a (event.Starve b) = b ≡ a

@@ -1,4 +1,4 @@
--- What sessions that interleave are never told.
+-- What sessions that interleave are never answered.
 use Rattle.std.specs.Prelude.{◌≡◌, ℕ, List}
 use Rattle.replay_log.specs.Collections.{Suit}
 use Rattle.replay_log.specs.Contents.{Block, HaveStripes}
@@ -11,8 +11,8 @@ use Rattle.vac_model.specs.Actions.{IsAllowed}
 use Rattle.vac_model.specs.Holdings.{Holdings}
 use Rattle.client_sessions.specs.Holding.{state_of}
 
--- Clients ask as sessions of allowed actions do, over a state of tables. Then nothing that client a may do next is told NoSuch or TooLong,
--- where it has begun no declared reader.
+-- Clients ask as sessions of allowed actions do, over a state of tables. Then nothing that client a may do next is answered NoSuch or
+-- TooLong, where it has begun no declared reader.
 abbrev pub SessionsFindRoom : Type 0
 SessionsFindRoom =
     (blocks : List Block) (clock : ℕ) (tables : Holdings) (actions : Actions) (turns : List Turn) (a : ℕ)

@@ -1,4 +1,4 @@
--- The running world of clients, and what it has of the play that events have come to.
+-- The running world of clients, and what it has of the play that is the result of events.
 use Rattle.std.specs.Prelude.{◌≡◌, ◌≢◌, ◌⊎◌, ℕ, ◌+◌, ◌<◌, ◌≤◌, Bool, true, false, List, [], ◌∷◌, ◌++◌, Option, Some, None, length}
 use Rattle.std.specs.Prelude.{slice_get}
 use Rattle.seq_model.specs.declared.call.Call.{Call}
@@ -34,7 +34,7 @@ abbrev pub IsOpen : Option OpenSession → Action → Option Refusal → Type 0
 IsOpen None action fault = ⊥
 IsOpen (Some o) action fault = (o.session ≡ action) × (o.fault ≡ fault)
 
--- What a client keeps that stands so between events: its session, and what it has committed. It is told of a commit by the last step.
+-- What a client keeps that stands so between events: its session, and what it has committed. The last step answers it the commit.
 abbrev pub KeepsAt : Phase Entry → Client → Action → Option Refusal → List Action → Type 0
 KeepsAt Rests c action fault done = (c.current ≡ None) × (c.done ≡ done)
 KeepsAt Begins c action fault done = IsOpenWith c.current action fault [] × (c.done ≡ done)
@@ -44,7 +44,7 @@ KeepsAt (Commits calls) c action fault done = IsOpen c.current action fault × (
 KeepsAt Committed c action fault done = IsOpen c.current action fault × (c.done ++ action ∷ [] ≡ done)
 KeepsAt Ends c action fault done = IsOpen c.current action fault × (c.done ≡ done)
 
--- What a client keeps that has just been told n, and stands so now.
+-- What a client keeps that has just been answered n, and stands so now.
 abbrev pub HearsAt : Notice Entry → Phase Entry → Client → Action → Option Refusal → List Action → Type 0
 HearsAt Quiet to c action fault done = KeepsAt to c action fault done
 HearsAt (Answered b (answer.Begun rv)) to c action fault done =
@@ -65,7 +65,7 @@ pub record IsClient (c : Client) (a : ℕ) (p : Play) : Type 0 where
   pub stands : phase (seat_in a p) ≡ at
   pub keeps : KeepsAt at c (action_in a p.history) (p.faults a) (done_in a p.history)
 
--- and once it was told n
+-- and once it was answered n
 pub record IsHearing (n : Notice Entry) (c : Client) (a : ℕ) (p : Play) : Type 0 where
   pub to : Phase Entry
   pub stands : phase (seat_in a p) ≡ to
@@ -77,7 +77,7 @@ pub record IsAsking (calls : List (Call Entry × Reply Entry)) (c : Client) (a :
   pub current : IsOpenWith c.current (action_in a p.history) (p.faults a) (replies_of calls)
   pub done : c.done ≡ done_in a p.history
 
--- The running world is on the play that has come of events. No session has given up.
+-- The running world is on the play that is the result of events. No session has aborted on its replies.
 pub record IsOn (v : VacWorld) (p : Play) : Type 0 where
   pub lawful : IsLawful p.history
   pub goes_on : p.given_up ≡ []
@@ -100,7 +100,7 @@ pub record HasPlay (v : VacWorld) : Type 0 where
   pub play : Play
   pub is : IsPlay v play
 
--- The running world is that of the play, in which the client at place i has just been told n.
+-- The running world is that of the play, in which the client at place i has just been answered n.
 pub record Hears (i : ℕ) (n : Notice Entry) (v : VacWorld) (p : Play) : Type 0 where
   pub on : IsOn v p
   pub others : Others i v p
@@ -122,18 +122,18 @@ pub record IsCalling (calls : List (Call Entry × Reply Entry)) (c : Client) (a 
   pub current : IsOpenWith c.current (action_in a p.history) (p.faults a) (replies_of calls)
   pub done : c.done ≡ done_in a p.history
 
--- a reply is told only where there was room for its call, after so many
+-- a reply is answered only where there was room for its call, after so many
 abbrev pub RepliesWithin : Notice Entry → ℕ → Type 0
 RepliesWithin (Answered b x) made = made < CALL_LIMIT
 RepliesWithin n made = Unit {0}
 
--- It gives its transaction up for this cause, where it has one; and else nothing has happened.
+-- It aborts its transaction for this cause, where it has one; and else nothing has happened.
 abbrev pub Abandons : ℕ → Refusal → Play → Bool → VacWorld → Type 0
 Abandons i cause p true v = ((seat_in (i + 1) p).stage ≡ Open) × IsPlay v (aborts (i + 1) cause p)
 Abandons i cause p false v = (phase (seat_in (i + 1) p) ≡ Rests) × Refusing i v p
 
--- The running world is that of a play in which the client at place i is to ask, and which comes to this by what it asks. It has asked k
--- requests since it was told anything, and there was room for their calls.
+-- The running world is that of a play in which the client at place i is to ask, and the result of what it asks is this play. It has asked k
+-- requests since its last answer, and there was room for their calls.
 pub record AsksOn (i k : ℕ) (v : VacWorld) (to : Play) : Type 0 where
   pub play : Play
   pub calls : List (Call Entry × Reply Entry)
@@ -144,8 +144,8 @@ pub record AsksOn (i k : ℕ) (v : VacWorld) (to : Play) : Type 0 where
   pub made : k ≤ length calls
   pub room : (k ≡ 0) ⊎ (length calls ≤ CALL_LIMIT)
 
--- The running world is that of a play in which the client at place i has asked this call, after so many requests, and was told n; and which
--- comes to this by what it does then.
+-- The running world is that of a play in which the client at place i has asked this call, after so many requests, and was answered n; and
+-- the result of what it does then is this play.
 pub record Called (i k : ℕ) (call : Call Entry) (n : Notice Entry) (v : VacWorld) (to : Play) : Type 0 where
   pub play : Play
   pub calls : List (Call Entry × Reply Entry)
@@ -161,7 +161,7 @@ pub record Called (i k : ℕ) (call : Call Entry) (n : Notice Entry) (v : VacWor
   pub made : k ≤ length calls
   pub room : RepliesWithin n (length calls)
 
--- and it goes on so, or has asked what it was to ask
+-- and it continues so, or has asked what it was to ask
 abbrev pub GoesOn : ℕ → ℕ → Play → Bool → VacWorld → Type 0
 GoesOn i k to true v = AsksOn i (k + 1) v to
 GoesOn i k to false v = IsPlay v to

@@ -45,8 +45,8 @@ actions_of c (d ∷ ds) (r ∷ rs) = if r.0 == c then d.0 ∷ actions_of c ds rs
 actions_of c ds rs = []
 
 -- After these turns from w the records are sessions of these deals, in commit order, those of each actor being of the actions that it
--- committed, in its own order. The deals were done one after another from these tables; where no commit is half done, the world holds
--- what they left, and that is balanced. No open session gives up.
+-- committed, in its own order. The deals were done one after another from these tables; where no commit is half done, the world holds what
+-- they left, and that is balanced. No open session aborts on its replies.
 pub record IsSerialSessions (tables : Holdings) (actions : Actions) (w : World Entry) (turns : List Turn) : Type 0 where
   pub deals : List Deal
   pub sessions : AreSessions deals (run w (events_of turns)).records

@@ -1,4 +1,4 @@
--- What is told of sessions that committed: of the records in commit order, each with what its session answered.
+-- The answers of sessions that committed: of the records in commit order, each with what its session answered.
 use Rattle.std.specs.Prelude.{◌≡◌, ℕ, zero, suc, Bool, List, [], ◌∷◌, ◌++◌, drop, Option, Some, None, get_or, slice_get}
 use Rattle.seq_model.specs.declared.record.Record.{Record}
 use Rattle.vac_model.specs.declared.action.Action.{Action}
@@ -33,7 +33,7 @@ abbrev pub sessions_in : List Client → ℕ → List Action
 sessions_in cs zero = []
 sessions_in cs (suc i) = sessions_found (slice_get cs i)
 
--- how many sessions of actor a were told of
+-- how many sessions of actor a are listed so far
 abbrev pub told_of : List ℕ → ℕ → ℕ
 told_of ns zero = 0
 told_of ns (suc i) = get_or ns i 0
@@ -42,7 +42,7 @@ told_of ns (suc i) = get_or ns i 0
 abbrev pub AreFirst : List Action → List Action → Type 0
 AreFirst xs ys = (rest : List Action) × (xs ++ rest ≡ ys)
 
--- The records are sessions of these deals; and where so many sessions of each client were told of, those that are left of it begin with its
+-- The records are sessions of these deals; and where so many sessions of each client are listed, those that are left of it begin with its
 -- records'.
 pub record AreOwn (cs : List Client) (ns : List ℕ) (ds : List Deal) (rs : List (ℕ × Record Entry)) : Type 0 where
   pub sessions : AreSessions ds rs
@@ -60,7 +60,7 @@ pub record HaveFirst (cs : List Client) (ns : List ℕ) (r : ℕ × Record Entry
   pub records : List (ℕ × Record Entry)
   pub are : AreOwn cs ns (deal ∷ deals) (r ∷ records)
 
--- one record was told of
+-- one record is listed
 pub record IsToldOne (cs : List Client) (before after : List ℕ) (r : ℕ × Record Entry) (one : Told) : Type 0 where
   pub goes : (d : Deal) (ds : List Deal) (rs : List (ℕ × Record Entry)) → AreOwn cs before (d ∷ ds) (r ∷ rs)
       → AreOwn cs after ds rs × (one ≡ told_by d r)

@@ -1,4 +1,4 @@
--- What is told of a play.
+-- The trace of a play.
 use Rattle.std.specs.Prelude.{◌≡◌, []}
 use Rattle.replay_log.specs.Worlds.{half, state}
 use Rattle.vac_model.specs.Balanced.{IsBalanced}
@@ -10,9 +10,9 @@ use Rattle.vacation_core.specs.Plays.{Play}
 use Rattle.vacation_core.specs.Told.{told_all}
 use Rattle.vacation_core.specs.declared.run.VacTrace.{VacTrace}
 
--- The trace has what came of the play. The sessions that committed were answered as their actions are, one after another, in commit order,
+-- The trace has the result of the play. The sessions that committed were answered as their actions are, one after another, in commit order,
 -- each of the action that its own start began; where no commit is half done the tables are what these leave, balanced. What ended else
--- stands in the order of ending, and no session gave up. The tables are what the play's world holds.
+-- stands in the order of ending, and no session aborted on its replies. The tables are what the play's world holds.
 pub record IsVacTrace (p : Play) (t : VacTrace) : Type 0 where
   pub serial : IsSerialSessions p.history.tables p.history.actions (opening_of p.history) p.history.turns
   pub done : t.done ≡ told_all serial.deals (world_in p.history).records

@@ -15,7 +15,7 @@ use Rattle.tx_phases.specs.Phases.{Rests, Stands}
 use Rattle.vacation_core.specs.LoneClients.{AreAll, IsClient, IsNext}
 use Rattle.vacation_core.specs.declared.session.TheConstants.{CLIENT}
 
--- it is at rest, has begun n sessions, the last for this action, and has committed those done
+-- it is idle, has begun n sessions, the last for this action, and has committed those done
 abbrev pub IsAtRest : Holdings → ℕ → Action → List Action → Parts Entry → Type 0
 IsAtRest tables n last done c = IsClient CLIENT tables n Rests last done c
 
@@ -84,7 +84,7 @@ pub record HasBegun (action : Action) (c : Parts Entry) : Type 0 where
   pub allowed : IsAllowed action
   pub opened : IsOpen tables count [] action done c
 
--- it is at rest, and a session more is below the limit of the clock
+-- it is idle, and a session more is below the limit of the clock
 pub record MayRun (action : Action) (c : Parts Entry) : Type 0 where
   pub tables : Holdings
   pub count : ℕ
