@@ -1,4 +1,4 @@
-//! Audits what came of a script.
+//! Audits the result of a script.
 ghost use Rattle.std.specs.Prelude.{◌≡◌, IfErr, OnOk};
 ghost use Rattle.step_world.specs.Traces.{IsSerialTrace};
 ghost use Rattle.session_text.specs.Audits.{HasAuditFault, IsAudited};
@@ -8,7 +8,7 @@ use seq_model::AuditFault;
 use std::alloc::Global;
 use world_table::audit_records;
 
-/// Whether the records of a run's trace are a run of the sequential model from its opening, which leaves what the trace shows.
+/// Whether the records of a run's trace are a run of the sequential model from its opening, which results in what the trace shows.
 ///
 /// A trace with a half-done commit is not audited. Of a trace in serial order, as that of each run of a script is, there is no
 /// fault but out of memory.

@@ -9,7 +9,7 @@ use seq_model::{AuditFault, Memory, Refusal};
 use std::error::Error;
 use std::fmt;
 
-/// Why a text has no output: it is refused, or what came of its run does not hold water. A step script ends by the same causes.
+/// Why a text has no output: it is refused, or the audit of its run or of its tables finds a fault. A step script ends by the same causes.
 #[derive(Drop, Debug)]
 pub enum RunFault {
     /// The text is outside the grammar, or a growth was refused. A step script may also be beyond a limit.

@@ -1,4 +1,4 @@
-//! Receipts are audited, and tables looked through.
+//! Receipts and tables are inspected.
 ghost use Rattle.std.specs.Prelude.{IfErr, OnOk};
 ghost use Rattle.session_text.specs.Findings.{IsFinding, IsSound};
 
@@ -9,9 +9,9 @@ use std::alloc::Global;
 use vac_balance::is_balanced_by_tally;
 use vac_model::Tables;
 
-/// Audits receipts, and looks whether the tables that their sessions leave are balanced.
+/// Audits receipts, and checks whether the tables that their sessions leave are balanced.
 ///
-/// `Audit` where the receipts are no run between the two states, and else `NotBalanced`; memory may be refused at any point.
+/// `Audit` where the receipts are no run between the two states, and else `NotBalanced`; an allocation may fail at any point.
 pub fn inspect(
     alloc: Global,
     opening: &State<Entry>,

@@ -1,12 +1,12 @@
 //! Step scripts and session files are read, run, audited and printed.
 //!
 //! [`run_script`] feeds a script's events to a world, [`audit_run`] audits the trace, and [`print_trace`] prints it. [`output_of`] reads a
-//! session file, has its sessions run one after another on a world, has their receipts audited and the tables looked through
-//! ([`run_sessions`], [`inspect`]), and prints what became of each session and what the tables hold ([`text_of`]). What a session answered
+//! session file, has its sessions run one after another on a world, has their receipts audited and the tables checked
+//! ([`run_sessions`], [`inspect`]), and prints the result of each session and what the tables hold ([`text_of`]). What a session answered
 //! is read off its receipt, the calls with their replies, so the print is made from actions and receipts alone. A [`RunFault`] says why
 //! there is nothing to print.
 //!
-//! Texts are read, drawn from a seed and printed by `text_formats`, whose names are handed on.
+//! Texts are read, drawn from a seed and printed by `text_formats`, whose names are re-exported.
 #![tactic(auto)]
 
 mod audit;

@@ -12,7 +12,7 @@ use std::alloc::Global;
 use text_formats::Line;
 use vac_model::Action;
 
-/// What became of each session, in the order of the actions: the number of its commit, and what it answered. Each receipt is one of
+/// The result of each session, in the order of the actions: the number of its commit, and what it answered. Each receipt is one of
 /// the session of the action at its place.
 pub fn lines_of(
     alloc: Global,
@@ -47,7 +47,7 @@ fn line_for(alloc: Global, action: &Action, receipt: &Record<Entry>) -> Result<L
     }
 }
 
-/// What became of a session that has this receipt: the number of its commit, and what it answered.
+/// The result of a session that has this receipt: the number of its commit, and what it answered.
 pub fn line_of(session: &Session, receipt: &Record<Entry>) -> Result<Line, Memory>
     requires { asked (after (plan_of session.now) (replies_of receipt.now.calls)) ≡ ask.Done }
     ensures { IfOk result (IsLine session.now receipt.now) }

@@ -11,7 +11,7 @@ use std::alloc::Global;
 use text_formats::parse_sessions;
 
 /// What the sessions of a file print: a line for each session, then what the tables hold, and that the receipts were audited and the
-/// tables are balanced. Meanwhile `progress` hears how far they have come.
+/// tables are balanced. Meanwhile `progress` is called with how many have receipts.
 ///
 /// `BadText` names the first line outside the grammar, counted from 1; `Memory` where a growth was refused.
 pub fn output_of<P: Progress>(alloc: Global, text: &[u8], progress: &P) -> Result<Vec<u8>, RunFault>

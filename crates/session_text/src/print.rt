@@ -1,4 +1,4 @@
-//! Prints what came of a script.
+//! Prints the result of a script.
 ghost use Rattle.std.specs.Prelude.{◌≡◌, ◌++◌, IfOk, OnOk, flat_map};
 ghost use Rattle.std.specs.String.{string_bytes};
 ghost use Rattle.session_text.specs.TracePrints.{number_text, pair_text, reply_text, answer_text, record_text, half_text, held_text, words_text};
@@ -10,7 +10,7 @@ use std::alloc::Global;
 use std::collections::btree_map::Iter;
 use std::fmt::Write;
 
-/// The text of what came of a script: a line for each notice, then the records, the half-done commits, and what words
+/// The text of the result of a script: a line for each notice, then the records, the half-done commits, and what words
 /// and collections hold.
 pub fn print_trace(alloc: Global, run: &ScriptRun) -> Result<Vec<u8>, Memory>
     ensures { IfOk result (λ text. text.items ≡ run_text run.now) }

@@ -10,10 +10,10 @@ use vac_model::Tables;
 /// The stripes of each collection on which sessions of a file, or drawn ones, run.
 pub const STRIPES: u32 = 64;
 
-/// What has come of sessions.
+/// The result of sessions.
 #[derive(Drop)]
 pub struct SessionRun {
-    /// What became of each, in their order.
+    /// The result of each, in their order.
     pub lines: Vec<Line>,
     /// The tables that they leave.
     pub tables: Tables,
@@ -28,7 +28,7 @@ pub fn text_of(alloc: Global, run: &SessionRun) -> Result<Vec<u8>, Memory>
     with_ending(bytes)
 }
 
-/// Ends a text with what is only said once the receipts were audited and the tables looked through.
+/// Ends a text with the lines that are printed only once the receipts were audited and the tables checked.
 pub fn with_ending(text: Vec<u8>) -> Result<Vec<u8>, Memory>
     ensures { IfOk result (λ bytes. bytes.items ≡ text.items ++ ending) }
 {

@@ -18,7 +18,7 @@ use std::alloc::Global;
 use step_world::{Trace, World};
 use text_formats::{EventLine, STEP_LIMIT, Script};
 
-/// What came of a script.
+/// The result of a script.
 #[derive(Drop)]
 pub struct ScriptRun {
     /// The notices other than `Quiet`, in their order.
@@ -164,7 +164,7 @@ impl Runner {
         }
     }
 
-    // Whether the event told nothing.
+    // Whether the event answered nothing: its notice is `Quiet`.
     fn happen(&mut self, event: Event<u64>) -> Result<bool, Memory>
         ensures { IfOk result (λ quiet. HasPlayed (Keeps (IsOne event quiet) self.old.waiting.items self.new.waiting.items)
             self.old.world.parts self.old.notices self.new.world.parts self.new.notices) }
@@ -227,7 +227,7 @@ impl Runner {
         self.waiting.get(actor as usize).copied().unwrap_or(false)
     }
 
-    // An event of this actor, a request or not, told nothing or something.
+    // An event of this actor, a request or not, answered nothing (`quiet`) or something.
     fn note(&mut self, actor: u32, asks: bool, quiet: bool)
         ensures world { self.new.world ≡ self.old.world }
         ensures notices { self.new.notices ≡ self.old.notices }

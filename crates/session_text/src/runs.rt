@@ -16,8 +16,8 @@ use std::alloc::Global;
 use vac_model::{Action, Tables};
 use vacation_core::run_in_order_with;
 
-/// Runs the sessions of these actions, one after another, on a world that opens on these tables, and inspects what came of them.
-/// After each of them `progress` hears how many there were.
+/// Runs the sessions of these actions, one after another, on a world that opens on these tables, and inspects their result.
+/// After each of them `progress` is called with how many there were.
 ///
 /// Refused as `Memory` where a growth was refused, and for nothing else: the inspection finds nothing.
 pub fn run_sessions<P: Progress>(
