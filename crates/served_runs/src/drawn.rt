@@ -36,7 +36,7 @@ pub struct Drawn {
     pub tries: u64,
 }
 
-/// What has come of drawn sessions, once their receipts were audited and the tables looked through.
+/// The result of drawn sessions, once their receipts were audited and the tables checked.
 #[derive(Drop)]
 pub struct DrawnRun {
     /// How many sessions have no receipt.
@@ -63,7 +63,7 @@ fn drawn_lists(alloc: Global, drawn: &Drawn) -> Result<Vec<Vec<Action>>, Memory>
 }
 
 /// Draws tables and the sessions of each worker, much as Vacation of STAMP draws them (IISWC 2008), has the workers run them, and inspects
-/// what came of it. Meanwhile `progress` hears how far they have come.
+/// the result. Meanwhile `progress` is called with how many have receipts.
 ///
 /// `Memory` where a growth was refused; nothing else is found.
 pub fn run_drawn<R: Threads + Wait + Clock + Sync, P: Progress + Sync>(
@@ -103,7 +103,7 @@ fn run_opened<R: Threads + Wait + Clock + Sync, P: Progress + Sync>(
     run
 }
 
-/// Has workers run these lists from these tables, and inspects what came of it.
+/// Has workers run these lists from these tables, and inspects the result.
 fn run_lists<R: Threads + Wait + Clock + Sync, P: Progress + Sync>(
     rt: &R,
     alloc: Global,
@@ -165,7 +165,7 @@ fn run_tallied<R: Threads + Wait + Clock + Sync, P: Progress + Sync>(
     Ok(DrawnRun { missed, times })
 }
 
-/// Why sessions were missed, once what came of all was inspected, and how long that took.
+/// Why sessions were missed, once the result of all was inspected, and how long that took.
 fn audited<R: Clock>(
     rt: &R,
     alloc: Global,

@@ -28,7 +28,7 @@ pub const TRIES: u64 = 1_000;
 
 /// What the sessions of a file print where so many workers run them, from 1 to 64: a line for each session, in the file's order, then what
 /// the tables hold, and that the receipts were audited and the tables are balanced. The first session is the first worker's, the next one
-/// the next worker's, and so on in turn. Each has at most 1,000 attempts. Meanwhile `progress` hears how far they have come.
+/// the next worker's, and so on in turn. Each has at most 1,000 attempts. Meanwhile `progress` is called with how many have receipts.
 ///
 /// `BadText` names the first line outside the grammar, counted from 1; `Memory` where a growth was refused; nothing else is found.
 pub fn output_of<R: Threads + Wait + Sync, P: Progress + Sync>(
@@ -94,7 +94,7 @@ fn dealt_sessions(
     deal(alloc, sessions_of(alloc, actions)?, workers)
 }
 
-/// Serves these lists from these tables, and answers what became of their sessions, so many in all, in the order of the deal.
+/// Serves these lists from these tables, and answers the results of their sessions, so many in all, in the order of the deal.
 fn run_lists<R: Threads + Wait + Sync, P: Progress + Sync>(
     rt: &R,
     alloc: Global,

@@ -1,4 +1,4 @@
-//! The receipts of the workers are audited, and the tables looked through.
+//! The receipts of the workers are audited, and the tables checked.
 ghost use Rattle.std.specs.Prelude.{◌≡◌, IfErr, IfOk, OnOk, flat_map};
 ghost use Rattle.session_text.specs.Findings.{IsFinding, IsSound};
 ghost use Rattle.served_runs.specs.Runs as specs;
@@ -25,7 +25,7 @@ fn receipts_of(
     Ok(all)
 }
 
-/// Audits the receipts of a report from this opening, and looks the tables through.
+/// Audits the receipts of a report from this opening, and checks the tables.
 fn look_through(
     alloc: Global,
     opening: &State<Entry>,
@@ -40,7 +40,7 @@ fn look_through(
     inspect(alloc, opening, receipts.as_slice(), state, tables)
 }
 
-/// The tables that workers left, once their receipts were audited from this opening and the tables looked through.
+/// The tables that workers left, once their receipts were audited from this opening and the tables checked.
 pub(crate) fn inspected(
     alloc: Global,
     opening: &State<Entry>,

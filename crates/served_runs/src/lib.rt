@@ -1,7 +1,7 @@
 //! Sessions that workers run: those of a session file, and drawn ones.
 //!
 //! [`output_of`] deals the sessions of a file out to workers, and [`run_drawn`] draws sessions for each. Both have them served on a shared
-//! table, have the receipts audited and the tables looked through, and print what came of it.
+//! table, have the receipts audited and the tables checked, and print the result.
 #![tactic(auto)]
 
 mod drawn;

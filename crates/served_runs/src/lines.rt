@@ -65,7 +65,7 @@ fn next_line<'a>(
     Ok((line_of(session, receipt)?, behind, missed))
 }
 
-/// What became of a worker's sessions, in their order, with the missed jobs of the workers after it.
+/// The results of a worker's sessions, in their order, with the missed jobs of the workers after it.
 fn lines_of_worker<'a>(
     alloc: Global,
     worker: u64,
@@ -92,7 +92,7 @@ fn lines_of_worker<'a>(
     Ok((lines, misses))
 }
 
-/// What became of each session, in the order in which they were dealt out to the workers, so many in all.
+/// The result of each session, in the order in which they were dealt out to the workers, so many in all.
 pub(crate) fn lines_of_report(
     alloc: Global,
     sessions: &[Vec<Session>],

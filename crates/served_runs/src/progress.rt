@@ -1,4 +1,4 @@
-//! How far workers have come.
+//! How many sessions of workers have receipts.
 use crate::tally::milliseconds;
 use client_sessions::Progress;
 use std::fmt;
@@ -7,7 +7,7 @@ use std::time::Duration;
 use tx_engine::Pause;
 
 /// So many sessions of all have their receipts, after this time. As text it says how many a second that is, and when the others have
-/// theirs, if it goes on so.
+/// theirs at this speed.
 #[derive(Clone, Copy, Debug)]
 pub struct Pace {
     pub count: u64,
@@ -39,7 +39,7 @@ impl fmt::Display for Pace {
     }
 }
 
-/// The receipts so far of so many sessions, and who hears of them. Workers are held nowhere.
+/// The number of receipts so far of `all` sessions, and the `Progress` that is called with it. Workers are held nowhere.
 #[derive(Drop)]
 pub(crate) struct Receipts<'a, P> {
     told: &'a P,
