@@ -1,8 +1,8 @@
 -- A request of a seat's actor, on words and on collections.
 --
--- It is what the actor made of itself in a world that events have reached and that is to it as its own world, and so in its own. No gate is
--- taken or put back by it: where the actor is at rest in its transaction it holds none, before and after, and elsewhere it begins one, or
--- stays as it was.
+-- It is what the actor made of itself in a world that events have reached and that is to it as the world with it alone, and so in that one.
+-- No gate is taken or put back by it: where the actor is idle in its transaction it holds none, before and after, and elsewhere it begins
+-- one, or is as it was.
 use Rattle.std.proofs.Common.{◌≡◌, ℕ, ◌<◌, length, List, [], inl, inr, refl, sym, ap, ◌∙◌, subst}
 use Rattle.seq_model.specs.declared.event.Event.{Event}
 use Rattle.seq_model.specs.declared.event.Event.TheVariants.{Ask}
@@ -73,7 +73,7 @@ module _ {V : Type 0} where
       → ((r.stage ≡ stage.Open → HasNoReads r.words) → KeepsIn (laid_in t) r q) → IsRunning (laid_in t) q
   ask_running t s r q ties keeps = (keeps (λ at. no_reads t s r ties at)).running ties.running
 
-  -- at rest in its transaction its seat is what it shows
+  -- idle in its transaction its seat is what it shows
   open_seat : (w : World V) (a : ℕ) (r : TxActor V) → Runs a r w → r.stage ≡ stage.Open
       → w.seats a ≡ record (seat_of r) { stage = worlds.Open }
   open_seat w a r runs rest = runs.0 ∙ at_rest (w.seats a) r r.stage rest
@@ -83,7 +83,7 @@ module _ {V : Type 0} where
       at_rest x q stage.Open e = refl
       at_rest x q st e = absurd (let z : ⊥ = cc in z)
 
-  -- ---- the gates that it holds, by its own world
+  -- ---- the gates that it holds, by the world with it alone
   own_has : (t : TxTable V) (s : table.Seat V) (r : TxActor V) → Ties t s r → (k : ℕ)
       → is_actor (seated.actor s) ((acts (opening_of t) s).boosted.gates k) ≡ has (gates_at r.stage) k
   own_has t s r ties k =
@@ -164,7 +164,7 @@ module _ {V : Type 0} where
       event_own t s u r q (Ask 0 x) ties has law (Ask a x) bs is same calm own copies gates
       (ask_prepared o w r q bs apart gates own.bases own.prepared)
 
-  -- where memory was refused
+  -- where an allocation failed
   refused_call : (t : TxTable V) (s : table.Seat V) (r : TxActor V) (x : Request V) → Ties t s r → r.stage ≡ stage.Open
       → Admits (laid_in t) r x → IsCallAdmitted (acts (opening_of t) s) (seated.actor s) x
   refused_call t s r (request.Call call) ties rest admits =

@@ -1,7 +1,7 @@
 -- The bases that a seat has out, from one world to the next.
 --
--- A step is on one word or one gate, so every other base stands in the own world, and the gates that an actor holds are each another one.
--- The base that comes with a gate is what the own world has then.
+-- A step is on one word or one gate, so every other base stands in the world with this actor alone, and the gates that an actor holds are
+-- each another one. The base that comes with a gate is what that world has then.
 use Rattle.std.proofs.Common.{◌≡◌, ℕ, ◌-◌, Bool, true, false, List, [], ◌∷◌, ◌++◌, Option, Some, None, refl, sym, ap, ◌∙◌, subst}
 use Rattle.std.proofs.Common.{◌<◌, arith, eq-eqb, length}
 use Rattle.std.specs.Prelude.{◌==◌, remove, slice_index, slice_index_or}
@@ -124,7 +124,7 @@ module _ {V : Type 0} where
       base_trans j w v (moved a w n b).0 (sym al.words) (sym al.blocks) (planted_base a w (spot a w) n b j ne)
       (keeps_base (spot a v) j v (moved a w n b).0 (one_spot v a) (λ q. ne (sym at ∙ q)))
 
-  -- the base that came with a gate is what the own world has after the try
+  -- the base that came with a gate is what the world with this actor alone has after the try
   pub taken_shows : (o w : World V) (a k : ℕ) (b : Base V) → w.words ≡ o.words → w.blocks ≡ o.blocks → Tries w a k
       → is_committing (actor_of w a).place ≡ false
       → ShowsBase o.words o.blocks (happens (found_at a w (Gate k) 0 (Some b)) (Step a)).0 k b
@@ -142,7 +142,7 @@ module _ {V : Type 0} where
             ∙ (λ i. slice_index (editions_of b) (l - first_of (en i) (eb i) k))),
       )
 
-  -- the one that is put back as it was is what the own world has after the store
+  -- the one that is put back as it was is what the world with this actor alone has after the store
   pub put_shows : (o w : World V) (a k : ℕ) (b : Base V) → w.words ≡ o.words → w.blocks ≡ o.blocks → Puts w a k
       → is_actor a (w.boosted.gates k) ≡ true → is_committing (actor_of w a).place ≡ false → ShowsBase o.words o.blocks w k b
       → ShowsBase o.words o.blocks (happens (found_at a w (Gate k) 1 None) (Step a)).0 k b

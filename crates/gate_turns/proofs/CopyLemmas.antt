@@ -2,7 +2,7 @@
 --
 -- The base in hand is that of the collection in each world that is to the actor as its own, with its bases: so what the call asks of its
 -- actor is there before the step, and the step is what the actor made of itself (`copy_can`, `copy_tied`). The gate was the only one, so
--- nothing is out afterwards. Where memory is refused once the gate is back, the seat reads for its call by then, and takes that in as one
+-- nothing is out afterwards. Where an allocation fails once the gate is back, the seat reads for its call by then, and takes that in as one
 -- event more (`copy_behind`).
 use Rattle.std.proofs.Common.{◌≡◌, ℕ, ◌<◌, true, true≢false, List, [], ◌∷◌, Some, None, inr, refl, sym, ap, ◌∙◌, subst}
 use Rattle.atomic_table.specs.Table.{Me, rest}
@@ -142,7 +142,7 @@ module _ {V : Type 0} where
             (prepared_none q.copies.items q.stage gates)),
       )
 
-  -- ---- memory is refused once the gate is put back
+  -- ---- an allocation fails once the gate is put back
   loading_gates : (st : Stage V) → is_loading st ≡ true → gates_of st ≡ []
   loading_gates (Loading o es) e = refl
   loading_gates st e = absurd (true≢false (sym e))

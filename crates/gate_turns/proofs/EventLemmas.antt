@@ -1,4 +1,4 @@
--- A request, or a want of memory, and the bases that the seat has out: nothing that is shared changes, and the seat takes no step.
+-- A request, or a failed allocation, and the bases that the seat has out: nothing that is shared changes, and the seat takes no step.
 use Rattle.std.proofs.Common.{◌≡◌, ◌⊎◌, ℕ, Bool, true, false, true≢false, List, [], ◌∷◌, inl, inr, refl, sym, ap, ◌∙◌, subst}
 use Rattle.std.proofs.lemmas.Bool.{cond_both}
 use Rattle.atomic_table.specs.Table.{Me}
@@ -107,7 +107,7 @@ module _ {V : Type 0} where
           prepared = prepared;
         }
 
-  -- ---- a want of memory
+  -- ---- a failed allocation
   ready_or : (s : own.Stage V) → ((ks : List ℕ) × (stage_of s ≡ Ready ks)) ⊎ ((homes : List ℕ) → stage_of s ≡ Ready homes → ⊥)
   ready_or (stage.Ready homes) = inl (homes.items, refl)
   ready_or s = inr (λ ks e. let z : ⊥ = cc in z)

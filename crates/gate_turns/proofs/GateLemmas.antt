@@ -1,8 +1,8 @@
 -- A step on a gate, and the bases that the seat has out.
 --
--- A gate that is found free joins those that the actor holds, and its base those in hand, as the own world has it from then on; one that is
--- found taken changes nothing. A gate that is put back was the first of them, and so was its base. Every other base stands, since the actor
--- holds each gate once. What the actor makes of it, and has of collections then, is told in the world in which the step has happened.
+-- A gate that is found free joins those that the actor holds, and its base those in hand, as in the world with it alone from then on; one
+-- that is found taken changes nothing. A gate that is put back was the first of them, and so was its base. Every other base stands, since
+-- the actor holds each gate once. What the actor makes of it, and has of collections then, is stated in the world where the step happened.
 use Rattle.std.proofs.Common.{◌≡◌, ℕ, Bool, true, false, true≢false, List, [], ◌∷◌, ◌++◌, length, ◌<◌, Option, Some, None, inl, inr, refl}
 use Rattle.std.proofs.Common.{sym, ap, ◌∙◌, subst, arith}
 use Rattle.std.specs.Prelude.{if◌then◌else◌, slice_index_or}
@@ -103,7 +103,7 @@ module _ {V : Type 0} where
       try_allowed (blocks_in t) key.shape.value.clock key.state.value.words key.state.value.held h.events (seated.actor s) k
       (acts (opening_of t) s) h.stripes h.alike tries
 
-  -- a gate that is found taken leaves its base in the own world
+  -- a gate that is found taken leaves its base in the world with this actor alone
   try_leaves : (w : World V) (a k : ℕ) → Tries w a k → is_committing (actor_of w a).place ≡ false
       → OneBase k w (happens (found_at a w (Gate k) 1 None) (Step a)).0
   try_leaves w a k tries calm =
@@ -297,7 +297,7 @@ module _ {V : Type 0} where
   off_put : (r : TxActor V) (k : ℕ) → next_of (stage_of r.stage) ≡ next.PutGate k → IsOnWord (next_of (stage_of r.stage)) → ⊥
   off_put r k due on = subst IsOnWord due on
 
-  -- the bases that are left behind the step
+  -- the bases that are left after the step
   pub left_bases : (t : TxTable V) (s : table.Seat V) (r : TxActor V) (k found : ℕ) (base : Option (Base V)) (ks : List ℕ)
       (cs : List (Base V)) → Ties t s r → gates_at r.stage ≡ k ∷ ks → spot (seated.actor s) (acts (opening_of t) s) ≡ Gate k
       → AreBases (opening_of t) (acts (opening_of t) s) ks cs

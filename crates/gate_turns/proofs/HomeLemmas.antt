@@ -1,8 +1,8 @@
--- Bases that are prepared for their logs, and one that goes home.
+-- Bases that are prepared for their logs, and one that is put back.
 --
--- Making room in a base changes nothing that it holds. The base that goes home was prepared before the first value store, so the log of its
--- actor's calls is folded in without memory; in the own world it is then the base with the changes of the transaction. What the actor makes
--- of it is told in the world in which the step has happened.
+-- Making room in a base changes nothing that it holds. The base that is put back was prepared before the first value store, so the log of
+-- its actor's calls is folded in without memory; in the world with this actor alone it is then the base with the changes of the
+-- transaction. What the actor makes of it is stated in the world in which the step has happened.
 use Rattle.std.proofs.Common.{◌≡◌, ◌≢◌, ℕ, zero, suc, ◌+◌, ◌-◌, ◌<◌, ◌^◌, true, false, true≢false, List, [], ◌∷◌, Some, None, inl, inr}
 use Rattle.std.proofs.Common.{length, refl, sym, ap, ◌∙◌, subst, arith, get_or, ne_eqb, set}
 use Rattle.std.specs.Prelude.{Contains, Err, Ok, OnOk, Result, slice_get, slice_index}
@@ -203,7 +203,7 @@ module _ {V : Type 0} where
       → HasOwn t s r ds → AreAlike ds bs → StepsLaw V → HasOwn t s r bs
   own_alike t s r ds bs due own like steps = refused_commit steps t s r r ds bs due own like refl
 
-  -- ---- the base that goes home next
+  -- ---- the base that is put back next
   pub home_gates : (s : Standing V) (k : ℕ) → next_of (stage_of s) ≡ next.GoHome k → (ks : List ℕ) × (gates_at s ≡ k ∷ ks)
   home_gates s k due = (let at = homing_is s k due in (at.2, ap gates_at at.1 ∙ at.3))
 
@@ -273,7 +273,7 @@ module _ {V : Type 0} where
         log_below logs few (start t s r ties) there me k block.0 (copy_of r.copies.items k) locations b
         (there_reached t s r ties h.events h.alike) block_there (own_there law) is.shows (let c = h.clock in omega arith) ll
 
-    -- it may go home, once the log is folded in
+    -- it may be put back, once the log is folded in
     pub home_may : AreSteps V → (changes : List (Change V)) (locations : List ℕ) (now : Base V)
         → changes ≡ changes_had (copy_of r.copies.items k) → locations ≡ locations_had (copy_of r.copies.items k)
         → shown_of now ≡ after changes (shown_of b) → stripes_of now ≡ stripes_of b → AreRaised locations (editions_of b) (editions_of now)
@@ -300,7 +300,7 @@ module _ {V : Type 0} where
           },
         )
 
-  -- ---- what is left behind the step
+  -- ---- what is left after the step
   prepared_others : (k : ℕ) (before now : List (CopyOf V)) (ks : List ℕ) (bs : List (Base V)) → OthersStand k before now
       → has ks k ≡ false → ArePrepared before ks bs → ArePrepared now ks bs
   prepared_others k before now [] bs same apart h = tt

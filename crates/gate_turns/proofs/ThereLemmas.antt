@@ -1,8 +1,8 @@
--- A world that events have reached, and which is to a seat's actor as its own world is.
+-- A world that events have reached, and which is to a seat's actor as the world with it alone is.
 --
--- The laws on what an actor makes of itself speak of worlds that events have reached. The own world of a seat is none, but events lead to
--- one that is the same to its actor, also in the bases that it has out (`there`); and what a step, or a request, leaves there is the same
--- to it as what it leaves in the own world. So the actor is asked there, and what comes of it is taken back.
+-- The laws on what an actor makes of itself speak of worlds that events have reached. The world with one seat alone is none, but events
+-- lead to one that is the same to its actor, also in the bases that it has out (`there`); and what a step, or a request, leaves there is
+-- the same to it as what it leaves in the world with it alone. So the actor is asked there, and what comes of it is taken back.
 use Rattle.std.proofs.Common.{◌≡◌, ℕ, true, List, Option, sym, ap, ◌∙◌, subst}
 use Rattle.seq_model.specs.Contents.{Contents}
 use Rattle.seq_model.specs.declared.event.Event.{Event}

@@ -1,7 +1,7 @@
--- A step of the words, a want of memory and a load of a call's location, and the bases that the seat has out.
+-- A step of the words, a failed allocation and a load of a call's location, and the bases that the seat has out.
 --
--- None of them is on a gate, so the actor holds the gates that it held, and each base stands; what the actor has of collections is told in
--- the world in which the step has happened. While a call is read for no gate is held.
+-- None of them is on a gate, so the actor holds the gates that it held, and each base stands; what the actor has of collections is stated
+-- in the world in which the step has happened. While a call is read for no gate is held.
 use Rattle.std.proofs.Common.{◌≡◌, ℕ, true, false, true≢false, List, [], Option, None, Result, refl, sym, ap, ◌∙◌, subst}
 use Rattle.word_machine.specs.World.{plan}
 use Rattle.word_machine.specs.Cells.{Cell, cell, learns, word_of}

@@ -47,7 +47,7 @@ module _ {V : Type 0} where
   ArePrepared cs (k ∷ ks) [] = ⊥
   ArePrepared cs (k ∷ ks) (b ∷ bs) = IsPrepared cs k b × ArePrepared cs ks bs
 
-  -- from the first value store on they are prepared, as they go home
+  -- from the first value store on they are prepared, as they are put back
   abbrev pub ArePreparedAt : List (CopyOf V) → Stage V → List (Base V) → Type 0
   ArePreparedAt cs (stage.Storing homes) bs = ArePrepared cs homes.items bs
   ArePreparedAt cs (stage.Homing homes) bs = ArePrepared cs homes.items bs

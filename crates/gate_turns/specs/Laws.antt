@@ -1,4 +1,4 @@
--- What stays of a seat's bases over the turns on words, which know nothing of them.
+-- What is unchanged of a seat's bases over the turns on words, which know nothing of them.
 use Rattle.std.specs.Prelude.{◌≡◌, List, false}
 use Rattle.replay_log.specs.declared.base.Base.{Base}
 use Rattle.actor_words.specs.Dispatch.{is_loading, next_of}
@@ -21,7 +21,7 @@ WordsKeep V =
     → Turned (opening_of t) s r u n → Ties t u q → KeepsCopies r q → next_of (stage_of r.stage) ≡ next.Word
     → is_loading (stage_of r.stage) ≡ false → HasOwn t u q bs
 
--- A want of memory.
+-- A failed allocation.
 abbrev pub StarvesKeep : Type 0 → Type 0
 StarvesKeep V =
     (t : TxTable V) (s u : Seat V) (r q : TxActor V) (n : Told V) (bs : List (Base V)) → Ties t s r → HasOwn t s r bs

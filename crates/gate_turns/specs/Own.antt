@@ -8,9 +8,9 @@ use Rattle.tx_table.specs.declared.table.TxTable.{TxTable}
 use Rattle.tx_table.specs.Seated.{actor, acts, opening_of, out}
 use Rattle.gate_turns.specs.Bases.{AreBases, ArePreparedAt, gates_at, slots_of}
 
--- A seat of the table that runs the actor r, with these bases in hand. In its own world r has of collections what its stage asks for. The
--- seat has out the bases of the gates that r holds, and it is these, as the own world has them; those that are to go home with a log are
--- prepared for it.
+-- A seat of the table that runs the actor r, with these bases in hand. In the world with r alone it has of collections what its stage asks
+-- for. The seat has out the bases of the gates that r holds, and it is these, as they are in that world; those that are to be put back with
+-- a log are prepared for it.
 pub record HasOwn {V : Type 0} (t : TxTable V) (s : Seat V) (r : TxActor V) (bs : List (Base V)) : Type 0 where
   pub copies : HasCopies r (acts (opening_of t) s) (actor s)
   pub out : out s ≡ slots_of (gates_at r.stage)

@@ -1,4 +1,4 @@
--- A request that is given up for want of memory at the store of a call's gate.
+-- A request that is aborted as an allocation fails at the store of a call's gate.
 use Rattle.std.specs.Prelude.{◌≡◌, ◌⊎◌, true, []}
 use Rattle.replay_log.specs.Seats.{World}
 use Rattle.actor_words.specs.Dispatch.{is_loading}
@@ -11,8 +11,8 @@ use Rattle.tx_turns.specs.Asked.{Starved}
 use Rattle.tx_turns.specs.Ties.{Turned, commits}
 
 module _ {V : Type 0} where
-  -- The seat s, which runs r, put the gate of a call back, which told nothing and committed nothing, and read for the call then; so it was
-  -- refused memory, and is u.
+  -- The seat s, which runs r, put the gate of a call back, which answered nothing and committed nothing, and read for the call then; so an
+  -- allocation failed for it, and it is u.
   pub record IsGivenUpBehind (o : World V) (s : Seat V) (r : TxActor V) (u : Seat V) (n : Told V) : Type 0 where
     pub middle : Seat V
     pub turned : Turned o s r middle told.Quiet
@@ -20,6 +20,6 @@ module _ {V : Type 0} where
     pub loads : is_loading ((acts o middle).seats (actor middle)).stage ≡ true
     pub starved : Starved o middle u n
 
-  -- the seat s, which runs r, was refused memory: it took no step, or put the gate of a call back
+  -- an allocation failed for the seat s, which runs r: it took no step, or put the gate of a call back
   abbrev pub IsGivenUp : World V → Seat V → TxActor V → Seat V → Told V → Type 0
   IsGivenUp o s r u n = Starved o s u n ⊎ IsGivenUpBehind o s r u n
