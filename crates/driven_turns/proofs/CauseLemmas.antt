@@ -1,4 +1,4 @@
--- What a step of a call, and one of a commit, can find for which its transaction is given up.
+-- What a step of a call, and one of a commit, can find for which its transaction is aborted.
 --
 -- A call reads words, and a commit locks and checks them: at no place of the one does a word stop what the other asks of it. While the
 -- word of a read is loaded nothing is copied, and no gate is tried; what is copied, and tried, is a collection's.

@@ -38,7 +38,7 @@ use Rattle.gate_turns.specs.Own.{HasOwn}
 use Rattle.driven_turns.proofs.LockLemmas.{locking_led, next_locking}
 use Rattle.driven_turns.specs.Straight.{HasLed, Passes, at_place, is_locking}
 
--- what passes goes on
+-- what passes continues
 passed_goes : (x : machine.Actor) (ls : List ℕ) (word : LockWord) (own : Option ℕ) → Passes x.rv word own
     → goes x (machine.Check ls) ≡ seen_in_check x ls word own
 passed_goes x ls (Free k) own h = sym (cond-true (nat_le k x.rv) (goes x (machine.Check ls)) (goes x machine.Broken) (le-leb k x.rv h))

@@ -1,4 +1,4 @@
--- The step of a begin leaves it a declared reader or none, as it was asked; and one that is a declared reader stays one.
+-- The step of a begin leaves it a declared reader or none, as it was asked; and one that is a declared reader remains one.
 --
 -- A begin is the word machine's load of the clock: open, or idle again at the limit of the clock, its actor is declared just where it was.
 -- Of what is asked of the word machine a begin alone changes that, and no step of it does; no step of an actor asks for a begin, nor does
@@ -30,7 +30,7 @@ begun_like x clock = by (nat_lt clock clock_limit)
     by false = refl
 
 module _ {V : Type 0} where
-  -- what is told of it changes nothing in the machine
+  -- what is answered of it changes nothing in the machine
   begun_machine : (u : World V) (a : ℕ) (x : Seat V) (n : notice.Notice) → actor_of (has_begun u a x n).0 a ≡ actor_of u a
   begun_machine u a x (notice.Begun rv) = refl
   begun_machine u a x (notice.Exhausted clock) = refl
@@ -54,7 +54,7 @@ module _ {V : Type 0} where
       ∙ (ap (λ (y : Actor). y.declared) (begun_machine (acted p (moves a ∷ [])) a (p.seats a) (word_notice p a))
       ∙ (loaded p a (ap (λ (y : Actor). y.place) same ∙ begins) ∙ ap (λ (y : Actor). y.declared) same))
 
--- ---- a declared reader stays one: on words
+-- ---- a declared reader remains one: on words
 abbrev IsReader : ℕ → Words → Type 0
 IsReader a s = (s.actors a).declared ≡ true
 
@@ -91,7 +91,7 @@ stepped_reader s a d = by (s.actors a).place refl
     by machine.Idle e = subst (λ (p : Place). ((world.step s a y p).actors a).declared ≡ true) (sym e) d
     by p e = stays_declared s a (world.Step a) d (λ i. (let f : p ≡ machine.Idle = sym e ∙ i in let z : ⊥ = cc in z))
 
--- ---- by a turn, a want of memory, and what an open transaction is asked
+-- ---- by a turn, a failed allocation, and what an open transaction is asked
 plain_none : (q : word.Request) → IsPlainAsk q → IsNoBegin q
 plain_none word.AskBegin h = h
 plain_none word.AskBeginRead h = h

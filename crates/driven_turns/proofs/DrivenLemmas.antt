@@ -1,7 +1,7 @@
 -- A request is driven: what its turns so far have led to, and one turn more.
 --
--- The step of a turn has happened in a world that events have reached, which was to the actor as its own world. So the laws on such worlds
--- say of it what the request comes to (`courses`), and that a cause is true that is noted there.
+-- The step of a turn has happened in a world that events have reached, which was to the actor as the world with it alone. So the laws on
+-- such worlds say of it what the request results in (`courses`), and that a cause is true that is noted there.
 use Rattle.std.proofs.Common.{◌≡◌, ℕ, ◌≤◌, Bool, true, false, true≢false, List, [], ◌∷◌, ◌++◌, Option, Some, None, inl, inr, refl, sym}
 use Rattle.std.proofs.Common.{ap, ◌∙◌, subst, arith}
 use Rattle.std.specs.Prelude.{is_some}
@@ -87,7 +87,7 @@ module _ {V : Type 0} where
       ap (λ (k : Option (Record V)). (rs ++ as_receipts a k) ++ (a, r) ∷ []) (new r refl)
       ∙ ap (λ (qs : List (ℕ × Record V)). qs ++ (a, r) ∷ []) (append-nil rs)
 
-  -- ---- what is told of one that is given up
+  -- ---- what is answered to one that is aborted
   ending_told : (v u : World V) (a : ℕ) (st : Stage V) (cause : Refusal) → is_ending st ≡ true → IsRefusedAt v a st u cause
       → (v.seats a).cause ≡ Some cause
   ending_told v u a Leaving cause e h = h.0
@@ -113,7 +113,7 @@ module _ {V : Type 0} where
   done_refused true a cause p h = h
   done_refused false a cause p h = h
 
-  -- neither beginning nor at rest
+  -- neither beginning nor idle
   abbrev IsBusy : Phase V → Type 0
   IsBusy Begins = ⊥
   IsBusy Rests = ⊥
@@ -122,7 +122,7 @@ module _ {V : Type 0} where
   apart : (q p : Phase V) → q ≡ p → IsBusy p → (q ≡ Begins → ⊥) × (q ≡ Rests → ⊥)
   apart q p e busy = (λ k. subst IsBusy (sym e ∙ k) busy, λ k. subst IsBusy (sym e ∙ k) busy)
 
-  -- a request under way is no begin unless it was one, and not at rest
+  -- a request under way is no begin unless it was one, and not idle
   under_goes : (s x : Seat V) (d : Option (Record V)) (p : Phase V) → IsUnderWayFrom s p x d → (p ≡ Begins → ⊥)
       → (phase x ≡ Begins → ⊥) × (phase x ≡ Rests → ⊥)
   under_goes s x d Begins h isnt = absurd (isnt refl)
@@ -256,7 +256,7 @@ module _ {V : Type 0} where
           subst (λ (k : Refusal). IsCause v a x.stage after.0 k) one c.2,
         )
 
-    -- one that was noted before stays
+    -- one that was noted before is unchanged
     kept : (cause : Refusal) → phase (seat_in o u) ≡ Ends → standing o z ≡ Ends → (seat_in o z).cause ≡ Some cause
         → (seat_in o u).cause ≡ Some cause
     kept cause up ends is =
@@ -269,7 +269,7 @@ module _ {V : Type 0} where
         (subst (λ (k : Notice V). RefusedBy a (IsRefusedAt v a x.stage after.0) k) (told_is
         ∙ ap (notice_of a) e) (refused_step v a linked)).1
 
-    -- it is told
+    -- it is answered
     told_up : (cause : Refusal) → n ≡ told.Refused cause → phase (seat_in o u) ≡ Ends → (seat_in o u).cause ≡ Some cause
     told_up cause e up =
         ap (λ (k : Seat V). k.cause) (sym x_is)
@@ -339,7 +339,7 @@ module _ {V : Type 0} where
     rises_to : (view u).clock ≤ (view z).clock
     rises_to = (let q = T.rises in let k : (view z).clock ≡ T.clock = ap (λ (k : View V). k.clock) T.takes.turn in omega (arith, q, k))
 
-    -- the number at which it has begun stays
+    -- the number at which it has begun is unchanged
     begun_stays : (standing o s ≡ Begins → ⊥) → (standing o z ≡ Rests → ⊥) → (seat_in o z).rv ≡ (seat_in o s).rv
     begun_stays isnt rest =
         let goes = under_goes (seat_in o s) (seat_in o u) d (phase (seat_in o s)) D.comes isnt in

@@ -1,7 +1,7 @@
--- What a turn adds to the aborted transactions of its actor's own world.
+-- What a turn adds to the aborted transactions of the world with its actor alone.
 --
--- Only the last step of a transaction that is given up adds one, and tells why; there is none after it. It is told nowhere else: a request
--- under way that ends so was being given up (`steps_move`), and every other step of that tells nothing.
+-- Only the last step of a transaction that is aborted adds one, and answers why; there is none after it. It is answered nowhere else: a
+-- request under way that ends so was being aborted (`steps_move`), and every other step of that answers nothing.
 use Rattle.std.proofs.Common.{◌≡◌, ℕ, Bool, true, false, List, [], ◌∷◌, ◌++◌, Option, Some, None, inl, inr, refl, sym, ap, ◌∙◌, subst, true≢false, append-nil}
 use Rattle.word_machine.specs.Notices as told
 use Rattle.word_machine.proofs.Sets.{put-same}
@@ -22,7 +22,7 @@ use Rattle.tx_table.specs.Turns.{found_at, moved, spot, stage_of}
 use Rattle.tx_table.proofs.Turned.{aborted_grow, found_alike, planted_notes}
 
 module _ {V : Type 0} where
-  -- ---- what is told as a transaction ends
+  -- ---- what is answered as a transaction ends
   pub why_told : (a : ℕ) (cause : Option Refusal) → why {V = V} a cause ≡ Quiet → ⊥
   why_told a None e = cc
   why_told a (Some cause) e = cc
@@ -41,7 +41,7 @@ module _ {V : Type 0} where
   back_quiet u a x [] = refl
   back_quiet u a x (k ∷ ks) = refl
 
-  -- of the steps of one that is given up the last one tells why
+  -- of the steps of one that is aborted the last one answers why
   is_last : (v : World V) (a : ℕ) (x : Seat V) (st : Stage V) (cause : Option Refusal) → is_ending st ≡ true
       → (step_at v a x st).1 ≡ why a cause → st ≡ Leaving
   is_last v a x Leaving cause h e = refl
@@ -52,7 +52,7 @@ module _ {V : Type 0} where
       absurd (why_told a cause (sym e ∙ back_quiet (acted v (PutGate a k (λ l. false) ∷ [])) a x ks))
   is_last v a x st cause h e = absurd (true≢false (sym h))
 
-  -- a request that has ended so was being given up
+  -- a request that has ended so was being aborted
   pub ends_from : (p : Phase V) (b : Bool) (a : ℕ) (cause : Option Refusal) (later : Phase V) → StepMoves p b (why a cause) later
       → later ≡ Rests
       → (p ≡ Begins → ⊥) → (p ≡ Rests → ⊥) → p ≡ Ends
@@ -77,7 +77,7 @@ module _ {V : Type 0} where
   ends_from Committed true a (Some cause) later h rests begins idle = absurd h
   ends_from Committed false a (Some cause) later h rests begins idle = absurd h
 
-  -- a request that is under way goes on where nothing is told
+  -- a request that is under way continues where nothing is answered
   abbrev pub IsGoing : Phase V → Type 0
   IsGoing Rests = ⊥
   IsGoing Begins = ⊥
@@ -128,7 +128,7 @@ module _ {V : Type 0} where
       let same : x.cause ≡ cause = why_same a x.cause cause (subst (λ (p : Stage V). (step_at v a x p).1 ≡ why a cause) at e) in
       ap (ended_by a x) at ∙ (λ i. record { actor = a; rv = x.rv; calls = x.calls; cause = same i } ∷ [])
 
-  -- by a turn in the own world
+  -- by a turn in the world with its actor alone
   pub moved_aborted : (a : ℕ) (w : World V) (found : ℕ) (base : Option (Base V))
       → (moved a w found base).0.aborted ≡ w.aborted ++ ended_by a (w.seats a) (stage_of w a)
   moved_aborted a w found base =

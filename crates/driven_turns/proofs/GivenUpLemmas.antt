@@ -1,6 +1,6 @@
--- A request for which memory was wanting.
+-- A request for which an allocation failed.
 --
--- It is being given up in the own world of its seat by then, and what it is told at its end is that want (`is_memory`). So its turns up to
+-- It is being aborted in the world with its seat alone by then, and its answer at its end is that failure (`is_memory`). So its turns up to
 -- there, and those by which its gates and its locks went back, are together the turns of the request: it has no transaction any more, and
 -- made no record.
 use Rattle.std.proofs.Common.{◌≡◌, ◌≢◌, ℕ, true, true≢false, List, [], ◌∷◌, ◌++◌, Option, Some, None, inl, inr, refl, sym, ap, ◌∙◌}
@@ -46,11 +46,11 @@ use Rattle.driven_turns.specs.Requested.{requests_of}
 use Rattle.driven_turns.specs.Driven.{Driven, IsTrue, MayWant, Stops, WantsMemory, seat_in, standing}
 
 module _ {V : Type 0} where
-  -- ---- a transaction that is being given up
+  -- ---- a transaction that is being aborted
   pub under_ends : (x : Seat V) → phase x ≡ Ends → IsUnderWay x x None
   under_ends x on = subst (λ (p : Phase V). IsUnderWayFrom x p x None) (sym on) (on, refl, refl)
 
-  -- it makes no record, and is told why it was given up
+  -- it makes no record, and is answered why it was aborted
   pub none_ends : (o : World V) (s u : table.Seat V) (n : Told V) (d : Option (Record V)) → standing o s ≡ Ends → Driven o s u n d
       → n ≢ told.Quiet
       → (d ≡ None) × (standing o u ≡ Rests) × (notice_of (seated.actor s) n ≡ why (seated.actor s) (seat_in o s).cause)
@@ -68,7 +68,7 @@ module _ {V : Type 0} where
   ending_ends calls (Returning ks) h = refl
   ending_ends calls st h = absurd (true≢false (sym h))
 
-  -- a want of memory at a turn that takes some
+  -- a failed allocation at a turn that takes some
   abbrev IsUp : Seat V → Type 0
   IsUp x = (is_ending x.stage ≡ true) × (x.cause ≡ Some OutOfMemory)
 
@@ -104,7 +104,7 @@ module _ {V : Type 0} where
   halfway_none s x d (Stands calls) h half = absurd h
   halfway_none s x d Committed h half = absurd h
 
-  -- it has ended so for want of memory
+  -- it has ended so as an allocation failed
   halfway_ends : (a : ℕ) (s x : Seat V) (p : Phase V) → IsHalfway p → phase x ≡ Rests → EndsFrom a s p (Refused a OutOfMemory) x None
   halfway_ends a s x (Calls calls call) half rests = (inr rests, refl)
   halfway_ends a s x (Commits calls) half rests = (rests, refl)
@@ -123,7 +123,7 @@ module _ {V : Type 0} where
   no_commit : (p : Phase V) (calls : List (Call V × Reply V)) → p ≡ Rests → p ≡ Commits calls → ⊥
   no_commit p calls rests e = (let f : Rests ≡ Commits calls = sym rests ∙ e in cc)
 
-  -- ---- one that stopped for want of memory
+  -- ---- one that stopped as an allocation failed
   pub stops_by : (o : World V) (s u z : table.Seat V) (said : Told V) (d : Option (Record V)) → Driven o s u told.Quiet d
       → MayWant (seat_in o u).stage → Starved o u z said → Stops o s z
   stops_by o s u z said d D wants starved =
@@ -137,7 +137,7 @@ module _ {V : Type 0} where
         starved = starved;
       }
 
-  -- at a turn, or behind the store of a gate
+  -- at a turn, or after the store of a gate
   pub stops_at : (t : TxTable V) (s u z : table.Seat V) (r : TxActor V) (said : Told V) (d : Option (Record V)) → Ties t u r
       → Driven (opening_of t) s u told.Quiet d → WantsMemory (next_of (stage_of r.stage)) → IsGivenUp (opening_of t) u r z said
       → Stops (opening_of t) s z
@@ -167,7 +167,7 @@ module _ {V : Type 0} where
     pub stopped_ends : standing o u ≡ Ends
     stopped_ends = ending_ends (seat_in o u).calls (seat_in o u).stage up.0
 
-    -- one that is given up already does not stop
+    -- one that is aborted already does not stop
     pub ends_never : standing o s ≡ Ends → ⊥
     ends_never ends = subst IsHalfway ends halfway
 

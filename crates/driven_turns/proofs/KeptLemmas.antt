@@ -1,4 +1,4 @@
--- The number at which a transaction has begun stays with it, and so do its calls, until one more is answered: each function of the
+-- The number at which a transaction has begun remains with it, and so do its calls, until one more is answered: each function of the
 -- definitions seats its actor with them, until nobody is there any more.
 use Rattle.std.proofs.Common.{◌≡◌, ◌⊎◌, ℕ, zero, suc, Bool, true, false, cond, ◌&&◌, eqb, List, [], ◌∷◌, ◌++◌, length, Option, Some, None}
 use Rattle.std.proofs.Common.{inl, inr, refl, sym, ap, ◌∙◌, subst}
@@ -201,7 +201,7 @@ module _ {V : Type 0} where
     requested w x request.Commit seat e = committing w x (actor_of w a).writes e
     requested w x request.Abort seat e = given_up w (record x { cause = None }) [] e
 
-  -- so does a want of memory, where a request is given up for it
+  -- so does a failed allocation, where a request is aborted for it
   starved : (w : World V) (a : ℕ) (st : Stage V) → MayWant st → Keeps (w.seats a) ((starve_at w a (w.seats a) st).0.seats a)
   starved w a st wants = by st wants
     where

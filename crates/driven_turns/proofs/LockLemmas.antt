@@ -80,7 +80,7 @@ module _ {V : Type 0} where
       led_last steps keep t s u r q y m n bs quiet (next_locking r.stage locking) (open_locking r.stage locking) small ties has step heard
       (running (running_moved (laid_in t) r y fits quiet ties.running)) leaves
 
-  -- and any that told nothing
+  -- and any that answered nothing
   pub locking_led : AreSteps V → WordsKeep V → (t : TxTable V) (s u : Seat V) (r : TxActor V) (y : Actor) (bs : List (Base V))
       → is_locking r.stage ≡ true → AreSmall (blocks_in t) → Ties t s r → HasOwn t s r bs
       → StepsWords (opening_of t) s r.words u y (Ok None) → ((j : ℕ) → Fits j r.words → Fits j y)

@@ -1,7 +1,7 @@
--- Which turn is due.
+-- Which turn is next.
 --
--- Where a request is under way its actor is not at rest, and its own world has no stage with nothing left to try, to load, to take home or
--- to put back: so some step is due. One that takes memory is due to a call, or to a commit without a record.
+-- Where a request is under way its actor is not idle, and the world with it alone has no stage with nothing left to try, to load, to take
+-- home or to put back: so some step is next. One that takes memory is next for a call, or for a commit without a record.
 use Rattle.std.proofs.Common.{◌≡◌, ℕ, true, false, true≢false, List, [], ◌∷◌, Option, inl, inr, refl, sym, ◌∙◌}
 use Rattle.word_machine.specs.Actor as machine
 use Rattle.word_machine.specs.Actor.{Place}
@@ -32,7 +32,7 @@ use Rattle.tx_turns.specs.Ties.{Ties, commits_at}
 use Rattle.driven_turns.specs.Driven.{MayWant, WantsMemory, seat_in}
 
 module _ {V : Type 0} where
-  -- some step is due
+  -- some step is next
   due_next : (n : ℕ) (bs : List Block) (x : Seat V) (y : machine.Actor) (z : Copy V) (st : Stage V) (p : Place)
       → StageOk n bs x y z st p → (IsAtRest st → ⊥) → next_of st ≡ next.Nothing → ⊥
   due_next n bs x y z worlds.Idle p ok busy e = busy tt
@@ -47,7 +47,7 @@ module _ {V : Type 0} where
   due_next n bs x y z (worlds.Returning (k ∷ ks)) p ok busy e = cc
   due_next n bs x y z st p ok busy e = let z : ⊥ = cc in z
 
-  -- a request under way is not at rest
+  -- a request under way is not idle
   busy : (p : Phase V) (calls : List (Call V × Reply V)) (st : Stage V) → phase_at calls st ≡ p → (p ≡ Rests → ⊥)
       → ((cs : List (Call V × Reply V)) → p ≡ Stands cs → ⊥) → IsAtRest st → ⊥
   busy p calls worlds.Idle e rests stands at = rests (sym e)

@@ -1,4 +1,4 @@
--- A step on the words that told nothing leaves an actor as its word actor left it, where its stage waits for what is told.
+-- A step on the words that answered nothing leaves an actor as its word actor left it, where its stage waits for the answer.
 use Rattle.std.proofs.Common.{◌≡◌, ℕ, true, true≢false, [], ◌∷◌, length, refl, sym, subst}
 use Rattle.tx_sets.specs.Entries.{Entries}
 use Rattle.word_machine.specs.Notices as notice

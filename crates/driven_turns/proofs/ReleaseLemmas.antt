@@ -44,7 +44,7 @@ use Rattle.gate_turns.specs.Own.{HasOwn}
 use Rattle.driven_turns.proofs.StraightLemmas.{led_last, led_on}
 use Rattle.driven_turns.specs.Straight.{HasLed}
 
--- what is told of a lock behind which others are held, or none
+-- what is answered of a lock after which others are held, or none
 pub told_more : (x : Actor) → 1 < length x.held.items → Ok None ≡ result_of (when_none_left (drop 1 x.held.items) notice.Released)
 told_more x more = ap result_of (sym (more_left x.held.items notice.Released (omega (arith, more)) (λ e. omega (arith, more, e))))
 
@@ -53,7 +53,7 @@ pub told_last : (x : Actor) (a : Option WordAnswer) → length x.held.items ≡ 
 told_last x a one says = says ∙ ap result_of (one_left x.held.items notice.Released one)
 
 module _ {V : Type 0} where
-  -- the store is due
+  -- the store is next
   pub release_due : (t : TxTable V) (s : Seat V) (r : TxActor V) (e : ℕ × ℕ) → r.stage ≡ stage.Releasing → r.words.place ≡ Release
       → 0 < length r.words.held.items → e ≡ get_or r.words.held.items 0 e → Ties t s r
       → Stores (actor s) (acts (opening_of t) s) (LockCell e.0) (2 * r.words.wv)
@@ -75,7 +75,7 @@ module _ {V : Type 0} where
         learns = learns_release x y (2 * x.wv) a place some frees says;
       }
 
-  -- behind it others are held
+  -- after it others are held
   pub release_led : AreSteps V → WordsKeep V → (t : TxTable V) (s u : Seat V) (r : TxActor V) (y : Actor) (e : ℕ × ℕ) (bs : List (Base V))
       → r.stage ≡ stage.Releasing → r.words.place ≡ Release → 1 < length r.words.held.items → e ≡ get_or r.words.held.items 0 e
       → AreSmall (blocks_in t) → Ties t s r → HasOwn t s r bs → StepsBlind (opening_of t) s u

@@ -1,7 +1,7 @@
 -- Where a request is answered no gate is held, and no base is in hand.
 --
--- The gates of an actor are those of its stage in its own world: it has none where there is no transaction, or where it is open. What is
--- asked moves no gate, so there is none in hand as a request begins.
+-- The gates of an actor are those of its stage in the world with it alone: it has none where there is no transaction, or where it is open.
+-- What is asked moves no gate, so there is none in hand as a request begins.
 use Rattle.std.proofs.Common.{◌≡◌, ◌≢◌, ◌⊎◌, ℕ, List, [], ◌∷◌, Option, inl, inr, refl, sym, ap, ◌∙◌, subst}
 use Rattle.seq_model.specs.declared.call.Call.{Call}
 use Rattle.seq_model.specs.declared.call.Reply.{Reply}
@@ -75,7 +75,7 @@ module _ {V : Type 0} where
   calm_gates calls worlds.Open h = refl
   calm_gates calls st h = absurd h
 
-  -- the gates of its actor, by its own world
+  -- the gates of its actor, by the world with it alone
   pub gates_in_own : (t : TxTable V) (s : table.Seat V) (r : TxActor V) → Ties t s r
       → gates_at r.stage ≡ gates_of (seat_in (opening_of t) s).stage
   gates_in_own t s r ties = gates_is r.stage ∙ sym (gates_as (acts (opening_of t) s) (seated.actor s) r ties.runs)

@@ -1,4 +1,4 @@
--- What is told of the turns since some seat is told of those since an earlier one, of which they are the last.
+-- What holds of the turns since some seat holds of those since an earlier one, of which they are the last.
 use Rattle.std.proofs.Common.{◌≡◌, ℕ, List, ◌∷◌, ◌++◌, ap, ◌∙◌, subst}
 use Rattle.std.proofs.lemmas.List.{append_assoc}
 use Rattle.seq_model.specs.declared.event.Event.TheVariants.{Step}

@@ -1,8 +1,8 @@
 -- Numbers, and the clock that a seat knows.
 --
 -- The step that gives a commit its number is one on the clock, which the seat knows from then on; no other step changes the number until
--- the record is made. What an actor's place says of its numbers holds in every world that events have reached, and its own world is one
--- to it. A begin tells the clock that its own step loaded.
+-- the record is made. What an actor's place says of its numbers holds in every world that events have reached, and the world with it alone
+-- is one to it. A begin answers the clock that its own step loaded.
 use Rattle.std.proofs.Common.{◌≡◌, ◌⊎◌, ℕ, zero, suc, ◌+◌, ◌<◌, ◌≤◌, Bool, true, false, true≢false, cond, ◌&&◌, not, eqb, List, [], ◌∷◌}
 use Rattle.std.proofs.Common.{◌++◌, Option, Some, None, inl, inr, refl, sym, ap, ◌∙◌, subst, arith}
 use Rattle.std.specs.Prelude.{is_some, nat_le, nat_lt}
@@ -111,7 +111,7 @@ module _ {V : Type 0} where
       by false = refl
   over u a x (k ∷ ks) = ap phase (put-same u.seats a (at_stage x (Returning (k ∷ ks))))
 
-  -- it is given up, or its word actor stands
+  -- it is aborted, or its word actor stands
   abbrev Stays : ℕ → World V → After V → Type 0
   Stays a u r = (phase (r.0.seats a) ≡ Ends) ⊎ (actor_of r.0 a ≡ actor_of u a)
 
@@ -288,7 +288,7 @@ module _ {V : Type 0} where
       by true e = absurd (let z : ⊥ = cc in z)
       by false e = cc
 
-  -- what it tells is as the clock was, which its seat knows from then on
+  -- what it answers is as the clock was, which its seat knows from then on
   begin_turn : (w : World V) (a n : ℕ) (b : Option (Base V)) (j : ℕ) (m : Notice V) → (w.seats a).stage ≡ Beginning
       → (actor_of w a).place ≡ machine.Begin → (spot a w ≡ Word ClockCell → j ≡ turned a w n) → (moved a w n b).1 ≡ m
       → ((has_begun (acted (found_at a w (Word ClockCell) n b) (moves a ∷ [])) a (w.seats a) (notice.begin_notice n)).1 ≡ m) × (j ≡ n)

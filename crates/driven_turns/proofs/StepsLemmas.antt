@@ -1,7 +1,7 @@
 -- Steps on the words, one after another.
 --
--- A step that told nothing leaves of its actor all but the word actor, where its stage waits for what is told: so it is a turn, and the
--- next step is due as it was. Each turn leads on from those before it, and one that told nothing brings the request nearer to its answer.
+-- A step that answered nothing leaves of its actor all but the word actor, where its stage waits for the answer: so it is a turn, and the
+-- next step is as it was. Each turn leads on from those before it, and one that answered nothing brings the request nearer to its answer.
 use Rattle.std.proofs.Common.{◌≡◌, ℕ, ◌<◌, ◌≤◌, Bool, true, false, true≢false, List, Option, None, Result, refl, sym, ap}
 use Rattle.std.proofs.Common.{◌∙◌, subst, arith}
 use Rattle.word_machine.specs.Notices as notice
@@ -59,7 +59,7 @@ module _ {V : Type 0} where
   still_by (stage.Loading o left) e quiet = absurd (true≢false quiet)
   still_by s e quiet = absurd (true≢false (sym e))
 
-  -- a step that told nothing
+  -- a step that answered nothing
   abbrev pub IsOnward : (t : TxTable V) (s u : table.Seat V) (r : TxActor V) (y : running.Actor) (bs : List (Base V)) → Type 0
   IsOnward t s u r y bs =
       (let q : TxActor V = record r { words = y } in
@@ -121,7 +121,7 @@ module _ {V : Type 0} where
       omega (arith, less, before, now)
 
   -- ---- turns that make no record, from s on
-  -- those that led to s have led to u, where none told anything
+  -- those that led to s have led to u, where none answered anything
   pub record HasCome (o : World V) (s u : table.Seat V) : Type 0 where
     pub driven : (f : table.Seat V) (d : Option (Record V)) → Driven o f s tells.Quiet d → Driven o f u tells.Quiet d
     pub near : left_in o u ≤ left_in o s

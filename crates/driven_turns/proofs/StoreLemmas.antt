@@ -60,7 +60,7 @@ store_fits x i j n h = record {
   place = tt;
 }
 
--- behind a value others are left
+-- after a value others are left
 stored_left : (x : Actor) (i : ℕ) → i + 1 < length x.writes.entries
     → Ok None ≡ result_of (when_none_left (drop (i + 1) (locations x.writes.entries)) notice.Stored)
 stored_left x i low =
@@ -80,7 +80,7 @@ module _ {V : Type 0} where
   pub open_storing : (s : own.Stage V) → is_storing s ≡ true → s ≡ stage.Closing → ⊥
   open_storing s e f = true≢false (sym e ∙ ap is_storing f)
 
-  -- nothing comes of a store that told nothing
+  -- nothing comes of a store that answered nothing
   storing_at : (q : TxActor V) (s : own.Stage V) → is_storing s ≡ true → IsToldWord (at q s) (at q s) told.Quiet notice.Quiet
   storing_at q (stage.Storing homes) e = λ a w may runs.
       let r = at q (stage.Storing homes) in
@@ -88,7 +88,7 @@ module _ {V : Type 0} where
       ((subst (λ (z : worlds.Seat V). z ≡ seat_at z r) (sym (put-same w.seats a x)) refl, runs.1, tt), refl)
   storing_at q s e = absurd (true≢false (sym e))
 
-  -- the store is due
+  -- the store is next
   pub store_due : (t : TxTable V) (s : Seat V) (r : TxActor V) (i : ℕ) (e : ℕ × ℕ) → is_storing r.stage ≡ true
       → i < length r.words.writes.entries → e ≡ get_or r.words.writes.entries i e → Ties t s (at_place r (Store i))
       → Stores (actor s) (acts (opening_of t) s) (ValueCell e.0) e.1
@@ -113,7 +113,7 @@ module _ {V : Type 0} where
         learns = learns_store (record x { place = Store i }) y i e.1 a refl low own says;
       }
 
-  -- behind it others are left
+  -- after it others are left
   pub store_led : AreSteps V → WordsKeep V → (t : TxTable V) (s u : Seat V) (r : TxActor V) (i : ℕ) (e : ℕ × ℕ) (bs : List (Base V))
       → is_storing r.stage ≡ true → i + 1 < length r.words.writes.entries → e ≡ get_or r.words.writes.entries i e
       → AreSmall (blocks_in t) → Ties t s (at_place r (Store i)) → HasOwn t s (at_place r (Store i)) bs → StepsBlind (opening_of t) s u

@@ -1,8 +1,8 @@
 -- Steps on the words that are taken in straight code.
 --
--- What a step on the words makes of an actor is a term, of which the next step asks only that it is due in the own world of the seat: so no
--- value has to hold it. Each step is one lemma here, by what it found; it leads on from those before it (`led_on`), and the last one, of
--- which the actor hears, is as any turn on the words (`led_last`).
+-- What a step on the words makes of an actor is a term, of which the next step asks only that it is next in the world with the seat alone:
+-- so no value has to hold it. Each step is one lemma here, by what it found; it leads on from those before it (`led_on`), and the last one,
+-- of which the actor hears, is as any turn on the words (`led_last`).
 use Rattle.std.proofs.Common.{◌≡◌, ℕ, ◌<◌, ◌≤◌, true, false, true≢false, Bool, cond, eqb, List, Option, Some, None, Result, Ok, Err, OnOk, IfErr, inl, inr, refl, sym, ap, ◌∙◌, subst, arith}
 use Rattle.std.specs.Prelude.{nat_le, if◌then◌else◌}
 use Rattle.std.proofs.lemmas.Bool.{cond-true}
@@ -102,7 +102,7 @@ look_room x l k = record { calls = refl; count = omega arith; writes = refl; rea
 fetch_room : (x : Actor) (l k v : ℕ) → KeepsRoom (record x { place = Fetch l k }) (record x { place = Again l k v })
 fetch_room x l k v = record { calls = refl; count = omega arith; writes = refl; reads = omega arith }
 
--- where the second load was answered, it told the value
+-- where the second load was answered, it answered the value
 told_if : (l v j : ℕ) (x : Option WordAnswer) (b : Bool) → Ok x ≡ result_of (if b then notice.Number v else notice.Moved l (bits (Free j)))
     → notice_told (Ok x) ≡ notice.Number v
 told_if l v j x true e = ap notice_told e
@@ -137,7 +137,7 @@ module _ {V : Type 0} where
   latest_none (Some r) = refl
   latest_none None = refl
 
-  -- what was told, as one knows by then whether it was quiet
+  -- what was answered, as one knows by then whether it was quiet
   pub told_so : (o : World V) (s u : Seat V) (b c : Bool) (n : Told V) (d : Option (Record V)) → b ≡ c
       → Driven o s u (told_in b n) d → Driven o s u (told_in c n) d
   told_so o s u b c n d e = subst (λ (k : Bool). Driven o s u (told_in k n) d) e
@@ -167,7 +167,7 @@ module _ {V : Type 0} where
       → HasLed t u z r n bs → HasLed t s z r n bs
   led_then t s u z r n bs h k = record { ties = k.ties; own = k.own; leads = leads_then (opening_of t) s u z n h k.leads }
 
-  -- a step that told nothing, where the stage of the actor waits for what is told
+  -- a step that answered nothing, where the stage of the actor waits for the answer
   pub led_on : AreSteps V → WordsKeep V → (t : TxTable V) (s u : Seat V) (r : TxActor V) (y : Actor) (bs : List (Base V))
       → is_loading (stage_of r.stage) ≡ false → waits_at r.stage ≡ true → next_of (stage_of r.stage) ≡ next.Word
       → (r.stage ≡ stage.Closing → ⊥) → AreSmall (blocks_in t) → Ties t s r → HasOwn t s r bs
@@ -223,7 +223,7 @@ module _ {V : Type 0} where
   pub at_own_place : (r : TxActor V) (p : Place) → r.words.place ≡ p → r ≡ at_place r p
   at_own_place r p e i = record r { words = record r.words { place = e i } }
 
-  -- its loads are due
+  -- its loads are next
   pub look_due : (t : TxTable V) (s : Seat V) (r : TxActor V) (l : ℕ) → next_of (stage_of r.stage) ≡ next.Word
       → Ties t s (at_place r (Look l)) → Loads (actor s) (acts (opening_of t) s) (LockCell l)
   look_due t s r l on ties =
@@ -339,7 +339,7 @@ module _ {V : Type 0} where
       (open_reading r.stage l e) small ties has (again_steps (opening_of t) s u r.words y l k v found m step is says) heard
       (running (running_moved (laid_in t) (at_place r (Again l k v)) y fits (quiet_reading r.stage l e) ties.running)) leaves
 
-  -- the value that it tells is what the actor reads
+  -- the value that it answers is what the actor reads
   reads_as : (w : World V) (a : ℕ) (x : worlds.Seat V) (p : TxActor V) (l v : ℕ) → p.stage ≡ stage.Reading l
       → after_word w a (seat_at x p) (stage_of p.stage) (notice.Number v) ≡ has_read w a (seat_of p) l (notice.Number v)
   reads_as w a x p l v e =

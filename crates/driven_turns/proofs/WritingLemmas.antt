@@ -71,7 +71,7 @@ module _ {V : Type 0} where
   was_commit Ends false (Refused b cause) q h e = absurd (true≢false (sym e ∙ ap is_commit h))
   was_commit p b n q h e = absurd h
 
-  -- ---- one with writes doesn't come to that load
+  -- ---- one with writes doesn't reach that load
   seated_open : (u : World V) (a : ℕ) (x : Seat V) → is_closing x.stage ≡ false → is_closing ((seated u a x).seats a).stage ≡ false
   seated_open u a x h = ap (λ (y : Seat V). is_closing y.stage) (put-same u.seats a x) ∙ h
 

@@ -1,4 +1,4 @@
--- The turns that a seat takes for a request of its actor, and what the request comes to.
+-- The turns that a seat takes for a request of its actor, and the result of the request.
 use Rattle.std.specs.Prelude.{◌≡◌, ◌≢◌, ◌⊎◌, ℕ, ◌<◌, ◌≤◌, Bool, true, false, not, List, [], ◌∷◌, ◌++◌, Option, Some, None}
 use Rattle.word_machine.specs.Actor.{Actor, Place, Check, clock_limit}
 use Rattle.seq_model.specs.declared.call.Call.{Call}
@@ -44,7 +44,7 @@ IsStampedAt k y p = Unit {0}
 abbrev pub IsStamped : ℕ → Actor → Type 0
 IsStamped k y = IsStampedAt k y y.place
 
--- the turn takes memory: a gate's base comes into hand, a call copies of it, or bases are prepared to go home
+-- the turn takes memory: a gate's base comes into hand, a call copies of it, or bases are prepared to be put back
 abbrev pub WantsMemory : Next → Type 0
 WantsMemory (next.TryGate k) = Unit {0}
 WantsMemory (next.Copy k) = Unit {0}
@@ -58,7 +58,7 @@ IsOnGate next.Word = ⊥
 IsOnGate next.FirstStore = ⊥
 IsOnGate n = Unit {0}
 
--- nothing comes of a step on the words at this stage that told nothing
+-- nothing comes of a step on the words at this stage that answered nothing
 abbrev pub is_still : {V : Type 0} → own.Stage V → Bool
 is_still (stage.Reading l) = true
 is_still (stage.Loading o left) = true
@@ -67,7 +67,7 @@ is_still stage.Releasing = true
 is_still stage.Cancelling = true
 is_still s = false
 
--- what was told: nothing where it was quiet, else what was said
+-- what was answered: nothing where it was quiet, else what was said
 abbrev pub told_in : {V : Type 0} → Bool → Told V → Told V
 told_in true n = told.Quiet
 told_in false n = n
@@ -88,7 +88,7 @@ IsOnCollection Read = ⊥
 IsOnCollection (Write v) = ⊥
 IsOnCollection op = Unit {0}
 
--- for this such a call is given up
+-- for this such a call is aborted
 abbrev pub IsCallCause : {V : Type 0} → Op V → Refusal → Type 0
 IsCallCause op (Moved l word) = IsLoading op
 IsCallCause op (Stale l base word) = IsOnCollection op
@@ -110,7 +110,7 @@ pub record IsNumberOf {V : Type 0} (rv k : ℕ) (r : Record V) : Type 0 where
   pub reader : r.writes ≡ false → r.number ≡ rv
 
 module _ {V : Type 0} where
-  -- what the definitions have of the actor of a seat, in the own world of the seat
+  -- what the definitions have of the actor of a seat, in the world with the seat alone
   abbrev pub seat_in : World V → Seat V → worlds.Seat V
   seat_in o s = (acts o s).seats (actor s)
 
@@ -127,7 +127,7 @@ module _ {V : Type 0} where
   as_receipts a (Some r) = (a, r) ∷ []
 
   -- One of the turns between the seat s and the seat u was a step from the world v, which events have reached, and which was to the actor
-  -- as its own world was by then.
+  -- as the world with it alone was by then.
   pub record IsTurnFrom (o : World V) (s u : Seat V) (v : World V) : Type 0 where
     pub before : List (Turn V)
     pub turn : Turn V
@@ -137,7 +137,7 @@ module _ {V : Type 0} where
     pub reached : run o events ≡ v
     pub alike : Alike (actor s) v (asked_all (actor s) (lone (actor s) o ((view s).turns ++ before)) turn.asks)
 
-  -- one of these turns, from such a world, told this there
+  -- one of these turns, from such a world, answered this there
   abbrev pub HasTold : World V → Seat V → Seat V → Told V → Type 0
   HasTold o s u n = (v : World V) × IsTurnFrom o s u v × ((happens v (Step (actor s))).1 ≡ notice_of (actor s) n)
 
@@ -160,9 +160,9 @@ module _ {V : Type 0} where
   abbrev pub MakesReceipt : ℕ → TxActor V → Option (Record V) → Option (Record V) → Type 0
   MakesReceipt a r before now = (d : Option (Record V)) × (commits a r ≡ as_receipts a d) × (now ≡ latest d before)
 
-  -- What is told of a request that stood so is true: a begin tells the clock that its seat knows by then, and a cause was found by one of
-  -- its own turns, or is want of memory, and is one for which such a request is given up. While nothing is told, a transaction that is
-  -- being given up has noted such a cause. One that was given up before is told the cause that it had.
+  -- What is answered to a request that stood so is true: a begin answers the clock that its seat knows by then, and a cause was found by
+  -- one of its own turns, or is a failed allocation, and is one for which such a request is aborted. While nothing is answered, a
+  -- transaction that is being aborted has noted such a cause. One that was aborted before is answered the cause that it had.
   abbrev pub IsTrue : World V → Seat V → Seat V → Phase V → Told V → Type 0
   IsTrue o s u Begins (told.Answered (answer.Begun rv)) = rv ≡ (view u).clock
   IsTrue o s u Begins (told.Refused cause) = IsExhausted o s u cause
@@ -180,7 +180,7 @@ module _ {V : Type 0} where
   is_closing Closing = true
   is_closing st = false
 
-  -- The record that was made says whether there were writes, and a commit without a record goes on as it stood at this stage.
+  -- The record that was made says whether there were writes, and a commit without a record continues as it stood at this stage.
   abbrev pub IsWritten : Stage V → worlds.Seat V → Option (Record V) → Type 0
   IsWritten at x (Some r) = r.writes ≡ not (is_closing at)
   IsWritten at x None = (calls : List (Call V × Reply V)) → phase x ≡ Commits calls → is_closing x.stage ≡ is_closing at
@@ -194,9 +194,9 @@ module _ {V : Type 0} where
   abbrev pub aborted_for : World V → Seat V → Option Refusal → Ended V
   aborted_for o s cause = record { actor = actor s; rv = (seat_in o s).rv; calls = (seat_in o s).calls; cause = cause }
 
-  -- The turns of a request from s on to u, the last of which tells n, leave the calls of its transaction while nothing is told, and add no
-  -- aborted transaction to those of the own world; nor does a begin, nor turns after which there is a transaction, or one has committed.
-  -- Where the last one tells why the transaction has ended, they add this one.
+  -- The turns of a request from s on to u, the last of which answers n, leave the calls of its transaction while nothing is answered, and
+  -- add no aborted transaction to those of the world with its actor alone; nor does a begin, nor turns after which there is a transaction,
+  -- or one has committed. Where the last one answers why the transaction has ended, they add this one.
   pub record AddsAborted (o : World V) (s u : Seat V) (n : Told V) : Type 0 where
     pub calls : n ≡ told.Quiet → (standing o s ≡ Begins → ⊥) → (seat_in o u).calls ≡ (seat_in o s).calls
     pub quiet : n ≡ told.Quiet → (acts o u).aborted ≡ (acts o s).aborted
@@ -207,9 +207,9 @@ module _ {V : Type 0} where
         → (standing o s ≡ Begins → ⊥)
         → (acts o u).aborted ≡ (acts o s).aborted ++ aborted_for o s cause ∷ []
 
-  -- The seat s took turns and is u, each but the last of which told nothing; the last tells n. It has these turns more, and the receipt
-  -- that they made, if any, and has loaded the clock at none but its turns, and its actor was asked nothing more; the definitions say what
-  -- the request comes to, and what is told is true.
+  -- The seat s took turns and is u, each but the last of which answered nothing; the last answers n. It has these turns more, and the
+  -- receipt that they made, if any, and has loaded the clock at none but its turns, and its actor was asked nothing more; the definitions
+  -- say what the request results in, and what is answered is true.
   pub record Driven (o : World V) (s u : Seat V) (n : Told V) (d : Option (Record V)) : Type 0 where
     pub seat : IsSameSeat s u
     pub more : List (Turn V)
@@ -235,14 +235,14 @@ module _ {V : Type 0} where
   abbrev pub left_in : World V → Seat V → ℕ
   left_in o s = left_of (acts o s) (actor s)
 
-  -- The seat u took turns that made no record, each but the last of which told nothing, and is z; the last tells n. Those that led to u
-  -- lead on to z so. Where the last told nothing either the request is nearer to its answer.
+  -- The seat u took turns that made no record, each but the last of which answered nothing, and is z; the last answers n. Those that led to
+  -- u lead on to z so. Where the last answered nothing either the request is nearer to its answer.
   pub record LeadsOn (o : World V) (u z : Seat V) (n : Told V) : Type 0 where
     pub driven : (s : Seat V) (d : Option (Record V)) → Driven o s u told.Quiet d → Driven o s z n d
     pub nearer : n ≡ told.Quiet → left_in o z < left_in o u
 
-  -- The seat s took turns, which told nothing and made no record, up to one that takes memory, or to the store of a call's gate, behind
-  -- which the call takes some, and there was none: so its request is being given up, as the seat u is.
+  -- The seat s took turns, which answered nothing and made no record, up to one that takes memory, or to the store of a call's gate, after
+  -- which the call takes some, and there was none: so its request is being aborted, as the seat u is.
   pub record Stops (o : World V) (s u : Seat V) : Type 0 where
     pub before : Seat V
     pub driven : Driven o s before told.Quiet None

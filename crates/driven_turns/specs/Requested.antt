@@ -8,7 +8,7 @@ use Rattle.tx_table.specs.Seated.{list_of, view}
 use Rattle.tx_table.specs.declared.view.Turn.{Turn}
 
 module _ {V : Type 0} where
-  -- what these events ask: a step asks nothing, nor does a want of memory
+  -- what these events ask: a step asks nothing, nor does a failed allocation
   abbrev pub requests_asked : List (Event V) → List (Request V)
   requests_asked [] = []
   requests_asked (Ask a q ∷ es) = q ∷ requests_asked es

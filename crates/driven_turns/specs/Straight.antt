@@ -40,17 +40,17 @@ module _ {V : Type 0} where
   abbrev pub at_place : TxActor V → Place → TxActor V
   at_place r p = record r { words = record r.words { place = p } }
 
-  -- The seat s took turns that made no record, and is u now, which runs r; the last of them told n, and none before it told anything.
+  -- The seat s took turns that made no record, and is u now, which runs r; the last answered n, and none before it answered anything.
   pub record HasLed (t : TxTable V) (s u : Seat V) (r : TxActor V) (n : Told V) (bs : List (Base V)) : Type 0 where
     pub ties : Ties t u r
     pub own : HasOwn t u r bs
     pub leads : LeadsOn (opening_of t) s u n
 
-  -- Turns that led to the seat u, told m and made this record, if any, lead on to z so.
+  -- Turns that led to the seat u, answered m and made this record, if any, lead on to z so.
   abbrev pub LeadsFrom : World V → Seat V → Seat V → (m n : Told V) → (before now : Option (Record V)) → Type 0
   LeadsFrom o u z m n before now = (s : Seat V) → Driven o s u m before → Driven o s z n now
 
-  -- and those that told nothing
+  -- and those that answered nothing
   abbrev pub LeadsBy : World V → Seat V → Seat V → Told V → (before now : Option (Record V)) → Type 0
   LeadsBy o u z n before now = LeadsFrom o u z told.Quiet n before now
 
@@ -61,10 +61,10 @@ module _ {V : Type 0} where
   abbrev pub LeadsAll : World V → Seat V → Seat V → Told V → Type 0
   LeadsAll o u z n = LeadsAllFrom o u z told.Quiet n
 
-  -- or they stop there for want of memory
+  -- or they stop there as an allocation fails
   abbrev pub WantsBy : World V → Seat V → Seat V → Option (Record V) → Type 0
   WantsBy o u z before = (s : Seat V) → Driven o s u told.Quiet before → Stops o s z
 
-  -- Turns have led to the seat u that told n and made this record.
+  -- Turns have led to the seat u that answered n and made this record.
   abbrev pub IsLedTo : World V → Seat V → Told V → Option (Record V) → Type 0
   IsLedTo o u n d = (s : Seat V) × Driven o s u n d

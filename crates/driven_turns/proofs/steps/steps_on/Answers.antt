@@ -37,7 +37,7 @@ step_words-told-requires-clause-due g c =
     word_is_next c.args.table.now c.steps.seat c.steps.actor
     (ap (λ (s : Stage _). next_of (stage_of s)) c.steps.invariant.2 ∙ c.requires.due) c.steps.invariant.0
 
--- a step that told nothing, where its stage waits
+-- a step that answered nothing, where its stage waits
 pub steps-preserved : goal.steps-preserved
 steps-preserved g c =
     let t = c.args.table.now in
