@@ -1,5 +1,5 @@
--- A request of a seat's actor: the own world takes it in as the definitions do. It finds nothing, so it is the same to the actor in the
--- world that events have reached, and some events lead to what it leaves.
+-- A request of a seat's actor: the world with the seat alone takes it in as the definitions do. It finds nothing, so it is the same to the
+-- actor in the world that events have reached, and some events lead to what it leaves.
 use Rattle.std.proofs.Common.{◌≡◌, ℕ, ◌+◌, ◌<◌, ◌≤◌, false, List, [], ◌∷◌, ◌++◌, refl, sym, ap, ◌∙◌, subst}
 use Rattle.word_machine.specs.Actor as machine
 use Rattle.word_machine.specs.Cells.{ClockCell}
@@ -48,7 +48,7 @@ module _ {V : Type 0} where
   asked_last a w [] e = refl
   asked_last a w (d ∷ es) e = asked_last a (happens w (turns.own a d)).0 es e
 
-  -- the own world of a seat that has asked, or wanted memory
+  -- the world with a seat alone that has asked, or for which an allocation failed
   pub acts_taken : (o : World V) (s u : table.Seat V) (e : Event V) → HasTaken s e u
       → acts o u ≡ (happens (acts o s) (turns.own (seated.actor s) e)).0
   acts_taken o s u e h =
@@ -83,7 +83,7 @@ module _ {V : Type 0} where
       reached_by o a w (Starve a) (one_step w (Starve a)) (λ v k. (own_event a v w (Starve a) k refl).0) h
       (asked_bases a (Starve b ∷ []) (run o h.events) w h.alike h.bases) (one_step (run o h.events) (Starve a))
 
-  -- the seat is tied to the actor that is its own world's by then
+  -- the seat is tied to the actor of the world with it alone by then
   pub seat_tied : (t : TxTable V) (s u : table.Seat V) (q : TxActor V) (e : Event V) → Owns t s → 0 < (view s).shares
       → IsReached (opening_of t) (seated.actor s) (acts (opening_of t) s) → HasTaken s e u → IsRunning (laid_in t) q
       → Runs (seated.actor s) q (happens (acts (opening_of t) s) (turns.own (seated.actor s) e)).0 → Ties t u q
@@ -103,7 +103,7 @@ module _ {V : Type 0} where
       → IsRunning (laid_in t) q → Runs (seated.actor s) q (happens (acts (opening_of t) s) (turns.own (seated.actor s) e)).0 → Ties t u q
   taken_tied t s u r q e ties has running runs = seat_tied t s u q e ties.owns ties.live ties.reached has running runs
 
-  -- ---- a want of memory
+  -- ---- a failed allocation
   pub starved : (t : TxTable V) (s u : table.Seat V) (r q : TxActor V) (n : Told V) → Ties t s r → HasTaken s (Starve 0) u
       → IsRunning (laid_in t) q → Starves r q n → Ties t u q × Starved (opening_of t) s u n
   starved t s u r q n ties has running starves =
@@ -134,7 +134,7 @@ module _ {V : Type 0} where
         there.1 ∙ sym (ap (λ (z : After V). z.1) e),
       )
 
-  -- of no matter how the locations lie
+  -- of no matter how the locations are laid out
   pub anywhere : (v : BlocksView) (r q : TxActor V) (n : Told V) (f : ℕ → World V → After V) → Does r q n f → Asks v r q n f
   anywhere v r q n f does a w laid runs = does a w runs
 
@@ -143,7 +143,7 @@ module _ {V : Type 0} where
       → ask_at w a (seat_of r) (stage_of r.stage) q ≡ ask_at w a (seat_of r) (stage_of t) q
   at_its_stage r t q e a w = ap (λ (k : own.Stage V). ask_at w a (seat_of r) (stage_of k) q) e
 
-  -- an actor that stays as it was in every world stays tied
+  -- an actor that is as it was in every world remains tied
   pub stays_tied : (t : TxTable V) (s : table.Seat V) (r q : TxActor V) → Ties t s r
       → ((a : ℕ) (w : World V) → Runs a r w → Runs a q w) → IsRunning (laid_in t) q → Ties t s q
   stays_tied t s r q ties stands running = record {
@@ -154,7 +154,7 @@ module _ {V : Type 0} where
     running = running;
   }
 
-  -- a declared reader at rest has read nothing that it keeps
+  -- an idle declared reader has read nothing that it keeps
   pub no_reads : (t : TxTable V) (s : table.Seat V) (r : TxActor V) → Ties t s r → r.stage ≡ stage.Open → HasNoReads r.words
   no_reads t s r ties at d =
       let key = t.whole.shared.key in

@@ -1,5 +1,5 @@
--- What is due to the word actor of a running actor is what the own world of its seat does next: at a stage of the words the step is on the
--- word that the machine plans, and that word becomes what the machine makes of it.
+-- What is next for the word actor of a running actor is what the world with its seat alone does next: at a stage of the words the step is
+-- on the word that the machine plans, and that word becomes what the machine makes of it.
 use Rattle.std.proofs.Common.{◌≡◌, ℕ, ◌+◌, eqb, cond, Some, refl, sym, ap, ◌∙◌}
 use Rattle.word_machine.specs.Actor as machine
 use Rattle.word_machine.specs.Cells.{ClockCell, becomes, word_of}
@@ -70,7 +70,7 @@ module _ {V : Type 0} where
       let is : atomic_action a u s ≡ Some (moves a) = same_action u a s e ∙ word_action u a s e in
       (λ i. spot_by a (same_world u a s e i) (is i))
 
-  -- the own world of s has x as its word actor
+  -- the world with s alone has x as its word actor
   pub next_is : (o : World V) (s : Seat V) (x : Actor) → next_of (stage_of (acts o s) (actor s)) ≡ next.Word
       → actor_of (acts o s) (actor s) ≡ words.actor_of x → IsNext o s x
   next_is o s x e is d h =

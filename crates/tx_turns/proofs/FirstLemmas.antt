@@ -1,7 +1,7 @@
 -- The first value store: its request, and then a step of the words.
 --
--- Where all is locked and checked and the gates of all that was written are held, the request is made in the own world, and in the one
--- where the number found is planted, as in the world that events have reached. The step is then one of the words, at the place behind it.
+-- Where all is locked and checked and the gates of all that was written are held, the request is made in the world with the seat alone
+-- and in the one where the number found is planted, as in the world that events have reached. The step after it is one of the words.
 use Rattle.std.proofs.Common.{◌≡◌, ℕ, Bool, true, false, ◌||◌, List, [], ◌∷◌, Option, Some, None, Result, refl, sym, ap, ◌∙◌, subst}
 use Rattle.tx_sets.specs.Entries.{Entries, locations}
 use Rattle.word_machine.proofs.Invariant.{IsSomeEntry}
@@ -77,7 +77,7 @@ module _ {V : Type 0} where
   abbrev pub ready_in : World V → ℕ → World V
   ready_in w a = acted w (asks a AskStore ∷ [])
 
-  -- all that it has written is held, in the own world of an actor that is ready
+  -- an actor that is ready holds all that it has written, in the world with it alone
   pub own_all_held : (key : Opening V) (a : ℕ) (u : World V) (ks : List ℕ) → IsReached (world_at key) a u → (u.seats a).stage ≡ Ready ks
       → AreHeld u a
   own_all_held key a u ks h at =
@@ -138,7 +138,7 @@ module _ {V : Type 0} where
       ∙ (sym (ap (tells x x.place) is) ∙ sym (step_tells_cell ready a x c asked.1 touches))))
       heard
 
-  -- ---- what is due behind the request
+  -- ---- what is next after the request
   ready_spot : (w : World V) (a : ℕ) (ks : List ℕ) (s : Stage V) → s ≡ Ready ks
       → spot_at a w s ≡ spot_of (word_of (deed_of (ready_in w a) a))
   ready_spot w a ks s e = ap (λ (k : Stage V). spot_at a w k) e
@@ -165,7 +165,7 @@ module _ {V : Type 0} where
   running_asked t b r p ks e f at keeps =
       subst (λ (v : BlocksView). IsRunning v r → IsRunning v p) (laid_as t b e f) (keeps (ap is_loading at)).running
 
-  -- what an actor is behind the request, which its own world allows
+  -- what an actor is after the request, which the world with it alone allows
   pub record IsAsked (t : TxTable V) (s : table.Seat V) (r p : TxActor V) (ks : List ℕ) : Type 0 where
     pub at : stage_of r.stage ≡ Ready ks
     pub own_at : stage_of p.stage ≡ Ready ks
@@ -207,7 +207,7 @@ module _ {V : Type 0} where
         },
       )
 
-  -- the own world does next what is due to the words of p
+  -- the world with the seat alone does next what is next for the words of p
   pub first_next : (t : TxTable V) (s : table.Seat V) (r p : TxActor V) (ks : List ℕ) → IsAsked t s r p ks → IsNext (opening_of t) s p.words
   first_next t s r p ks h d deed =
       let a = seated.actor s in

@@ -1,5 +1,5 @@
 -- What a step of the words makes of its actor in a world where the number that it found is planted: the machine's step there learns that
--- number and tells by it. A store learns nothing, so it is no matter what it found.
+-- number and answers by it. A store learns nothing, so it is no matter what it found.
 use Rattle.std.proofs.Common.{◌≡◌, ℕ, Bool, true, false, not, ◌||◌, List, [], ◌∷◌, Some, None, refl, sym, ap, ◌∙◌, subst}
 use Rattle.std.specs.Prelude.{filter}
 use Rattle.vlock_word.proofs.LockWordLemmas.{bits_unbits}
@@ -72,7 +72,7 @@ is_store (due.LoadLock l) e m n h f P by p = subst P f p
 is_store (due.LoadValue l) e m n h f P by p = subst P f p
 is_store (due.Lock l old) e m n h f P by p = subst P f p
 
--- what it tells is what is learnt and told of the number that it found
+-- what it answers is what is learnt and answered of the number that it found
 pub learns_found : (d : Due) (e : Deed) (x : Actor) (m n : ℕ) → IsDeed d e → Finds d m n → learns e x m ≡ learns e x n
 learns_found d e x m n h f =
     is_store d e m n h f (λ k. learns e x m ≡ learns e x k) (λ s _. store_learns e x m n s) refl

@@ -1,9 +1,9 @@
 -- A turn on the words.
 --
--- The own world of a seat is, to its actor, one that events have reached: so the actor stands at a place that fits its stage, and holds the
--- gates that its stage says. The step on the table found a number, and leaves the own world as the definitions' step does once that number
--- is planted there. In that world the step is the machine's, by what was found (`FoundLemmas`), and then what the stage makes of it, which
--- is what the running actor makes of itself.
+-- The world with one seat alone is, to its actor, one that events have reached: so the actor stands at a place that fits its stage, and
+-- holds the gates that its stage says. The step on the table found a number, and leaves that world as the definitions' step does once that
+-- number is planted there. In that world the step is the machine's, by what was found (`FoundLemmas`), and then what the stage makes of it,
+-- which is what the running actor makes of itself.
 use Rattle.std.proofs.Common.{◌≡◌, ℕ, ◌<◌, ◌≤◌, false, List, [], ◌∷◌, ◌++◌, Option, Some, None, Result, refl, sym, ap, ◌∙◌, subst}
 use Rattle.word_machine.specs.Actor as machine
 use Rattle.word_machine.specs.Actor.{Place}
@@ -136,7 +136,7 @@ module _ {V : Type 0} where
       heard
 
   -- ---- the turn
-  -- the turn of a seat whose step in the own world tells this
+  -- the turn of a seat whose step in the world with it alone answers this
   pub turned_by : (t : TxTable V) (s u : table.Seat V) (r : TxActor V) (n : Told V) (clock found : ℕ) (base : Option (Base V))
       (bases : List (ℕ × Slot V)) → Ties t s r → Takes (opening_of t) s clock found base bases u → (view s).clock ≤ clock
       → (spot (seated.actor s) (acts (opening_of t) s) ≡ Word ClockCell
@@ -157,7 +157,7 @@ module _ {V : Type 0} where
     tells = tells;
   }
 
-  -- what the seat and its actor are after a step that is so in the own world
+  -- what the seat and its actor are after a step that is so in the world with the seat alone
   pub tied : (t : TxTable V) (s u : table.Seat V) (r q : TxActor V) (n : Told V) (clock found : ℕ) (base : Option (Base V))
       (bases : List (ℕ × Slot V)) → Ties t s r → Takes (opening_of t) s clock found base bases u → (view s).clock ≤ clock
       → (spot (seated.actor s) (acts (opening_of t) s) ≡ Word ClockCell
@@ -178,7 +178,7 @@ module _ {V : Type 0} where
     turned_by t s u r n clock found base bases ties takes rises clocks outs turn.1,
   )
 
-  -- the stage of the own world, with what fits it
+  -- the stage of the world with the seat alone, with what fits it
   pub own_stage : (t : TxTable V) (s : table.Seat V) (r : TxActor V) → is_loading (stage_of r.stage) ≡ false → Ties t s r
       → let w = acts (opening_of t) s in (w.seats (seated.actor s)).stage ≡ stage_of r.stage
   own_stage t s r quiet ties = stage_by ((acts (opening_of t) s).seats (seated.actor s)) r quiet ties.runs.0
@@ -198,7 +198,7 @@ module _ {V : Type 0} where
       own_gates t.whole.shared.key (seated.actor s) (acts (opening_of t) s) ties.reached k
       ∙ ap (λ (p : Stage V). has (gates_of p) k) (own_stage t s r quiet ties)
 
-  -- a step of the words is due to r, and it is what the own world does next
+  -- a step of the words is next for r, and it is what the world with its seat alone does next
   pub word_is_due : (t : TxTable V) (s : table.Seat V) (r : TxActor V) → next_of (stage_of r.stage) ≡ next.Word → Ties t s r
       → plan (words.actor_of r.words) (words.actor_of r.words).place ≡ Rests → ⊥
   word_is_due t s r due ties e =
@@ -268,6 +268,6 @@ module _ {V : Type 0} where
       gains ∙ ap (λ (rs : List (ℕ × Record V)). before ++ rs) (ap (λ (k : own.Stage V). commits_at a r k) at
       ∙ (λ i. (a, record { number = sym number i; writes = sym reads i; calls = sym calls i }) ∷ []))
 
-  -- the locations of the table lie as the running table says
+  -- the locations of the table are laid out as the running table says
   pub laid_as : (t : TxTable V) (b : BlocksView) → b.words ≡ seated.words_in t → b.blocks ≡ seated.blocks_in t → b ≡ laid_in t
   laid_as t b e f i = record { words = e i; blocks = f i }

@@ -18,12 +18,12 @@ module _ {V : Type 0} where
   abbrev pub HasAsked : Seat V → Request V → Seat V → Type 0
   HasAsked s q u = HasTaken s (Ask 0 q) u
 
-  -- its request was refused memory, which the definitions tell so in the own world of the seat
+  -- an allocation failed for its request, which the definitions answer so in the world with the seat alone
   pub record Starved (o : World V) (s u : Seat V) (n : Told V) : Type 0 where
     pub taken : HasTaken s (Starve 0) u
     pub own : acts o u ≡ (happens (acts o s) (Starve (actor s))).0
     pub tells : notice_of (actor s) n ≡ (happens (acts o s) (Starve (actor s))).1
 
-  -- the definitions answer the request so, in the own world of the seat
+  -- the definitions answer the request so, in the world with the seat alone
   abbrev pub Answers : World V → Seat V → Request V → Told V → Type 0
   Answers o s q n = notice_of (actor s) n ≡ (happens (acts o s) (Ask (actor s) q)).1

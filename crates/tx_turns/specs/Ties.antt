@@ -28,12 +28,12 @@ IsOnWord next.FirstStore = Unit {0}
 IsOnWord n = ⊥
 
 module _ {V : Type 0} where
-  -- how the locations of a table lie
+  -- how the locations of a table are laid out
   abbrev pub laid_in : TxTable V → BlocksView
   laid_in t = record { words = words_in t; blocks = blocks_in t }
 
-  -- A live seat of the table, and the actor that it runs: in the own world of the seat, which to its actor is one that events have reached
-  -- from the opening, r is the actor.
+  -- A live seat of the table, and the actor that it runs: in the world with this seat alone, which to its actor is one that events have
+  -- reached from the opening, r is the actor.
   pub record Ties (t : TxTable V) (s : Seat V) (r : TxActor V) : Type 0 where
     pub owns : Owns t s
     pub live : 0 < (view s).shares
@@ -50,9 +50,9 @@ module _ {V : Type 0} where
   abbrev pub commits : ℕ → TxActor V → List (ℕ × Record V)
   commits a r = commits_at a r r.stage
 
-  -- The seat s, which runs r, took the turn that was due in its own world, and became u: it found this, knows this clock, which is what a
-  -- step on the clock left there, and has gained what the step commits. A step on a word leaves the bases that it has out. The
-  -- definitions' step tells n.
+  -- The seat s, which runs r, took the turn that was next in the world with it alone, and became u: it found this, knows this clock, which
+  -- is what a step on the clock left there, and has gained what the step commits. A step on a word leaves the bases that it has out. The
+  -- definitions' step answers n.
   pub record Turned (o : World V) (s : Seat V) (r : TxActor V) (u : Seat V) (n : Told V) : Type 0 where
     pub clock : ℕ
     pub found : ℕ

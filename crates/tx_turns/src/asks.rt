@@ -48,7 +48,7 @@ pub fn ask_abort<V: Value>(table: &TxTable<V>, seat: &mut Seat<V>, actor: &mut T
     let _ = actor.asks_to_abort();
 }
 
-/// The request that is under way is refused memory. A begin is refused at once; any other is given up for it, up to its first value store.
+/// An allocation fails for the request under way. A begin is refused at once; any other is aborted for it, up to its first value store.
 pub fn starve<V: Value>(table: &TxTable<V>, seat: &mut Seat<V>, actor: &mut TxActor<V>) -> Told<V>
     requires ties { Ties table.now seat.old actor.old }
     ensures starved { Starved (opening_of table.now) seat.old seat.new result }

@@ -63,7 +63,7 @@ pub fn close<V: Value>(
     (told, receipt)
 }
 
-/// The first value store of a commit: its request, and then the step of the words. Where memory is refused no step is taken, and the
+/// The first value store of a commit: its request, and then the step of the words. Where an allocation fails no step is taken, and the
 /// actor is as it was.
 pub fn store_first<V: Value>(
     table: &TxTable<V>,
@@ -85,7 +85,7 @@ pub fn store_first<V: Value>(
     Ok(actor.stepped(told))
 }
 
-/// The first value store of a commit, with its receipt. Where memory is refused no step is taken, and the actor is as it was.
+/// The first value store of a commit, with its receipt. Where an allocation fails no step is taken, and the actor is as it was.
 pub fn commit<V: Value>(
     alloc: Global,
     table: &TxTable<V>,
