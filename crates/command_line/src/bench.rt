@@ -106,7 +106,7 @@ pub(crate) fn drawn_in(words: &ArgMatches<'_>) -> Drawn
     }
 }
 
-/// How what the run took is asked for.
+/// The form in which the time that the run took is asked for.
 pub(crate) fn form_in(words: &ArgMatches<'_>) -> TimesForm
     ensures { result ≡ form_of (rows_of (found_of words.now)) }
 {
@@ -126,7 +126,7 @@ fn form_named(word: &str) -> TimesForm
     }
 }
 
-/// The word behind `--times` that names no form.
+/// The word after `--times` that names no form.
 pub(crate) fn unknown_form<'a>(words: &ArgMatches<'a>) -> Option<&'a str>
     ensures { form_faults (rows_of (found_of words.now)) ≡ option_map_or (λ _. InvalidValue ∷ []) result [] }
 {

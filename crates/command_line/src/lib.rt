@@ -1,6 +1,6 @@
 //! The program over a reader and two writers: its words, its file, and its exit status.
 //!
-//! `file_of` answers which file the words name, `run_file` goes on with that file as it was opened, and `run_tool` does the work that the
+//! `file_of` answers which file the words name, `run_file` continues with that file as it was opened, and `run_tool` does the work that the
 //! words name on what a reader gives. How words are read is known in `words`, `bench` and `numbers` alone, and what help says in
 //! `texts`; `work` makes of the text, or of drawn sessions, what is to be printed, or why nothing is; `tool` prints it, or the fault,
 //! and answers the status.

@@ -1,4 +1,4 @@
-//! What help says.
+//! The text of help.
 
 /// The name by which usage lines call the program.
 pub(crate) const NAME: &str = "proust_tool";

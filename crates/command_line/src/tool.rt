@@ -77,7 +77,7 @@ pub fn fault<E: Write>(err: &mut E, status: u8, text: &str) -> u8
     status
 }
 
-/// Says that memory was refused.
+/// Writes that an allocation failed.
 pub fn refuse_memory<E: Write>(err: &mut E) -> u8
     ensures status { result ≡ MEMORY }
     ensures told { HasBegun (E.contents err.old) (E.contents err.new) (line_of memory_text) }
@@ -85,7 +85,7 @@ pub fn refuse_memory<E: Write>(err: &mut E) -> u8
     fault(err, MEMORY, "Memory")
 }
 
-/// Says that what was to be printed can't be written.
+/// Writes that what was to be printed can't be written.
 fn refuse_output<E: Write>(err: &mut E) -> u8
     ensures status { result ≡ REFUSED }
     ensures told { HasBegun (E.contents err.old) (E.contents err.new) (line_of unwritten_text) }
@@ -137,15 +137,15 @@ pub fn run_file<
     }
 }
 
-/// Runs the words, without the program's own name, over what the reader gives, and answers the exit status. How far workers have come is
-/// told meanwhile.
+/// Runs the words, without the program's own name, over what the reader gives, and answers the exit status. Meanwhile progress
+/// is called with how many sessions have receipts.
 ///
 /// What it prints goes to `out`, and a fault, one line, to `err`: then nothing goes to `out`. Where a write to `out` fails, `err` says so.
 /// Faults are found in the order words, file, size, text, opening. `sound`: no audit of what was run finds a fault, and all tables
 /// that are left are balanced. `done`: with status 0 the words ask for help or the version, or they and the text are taken and `out` has
 /// grown by what the task that they name prints, once that was audited; what a run took goes to `err` where that is asked for. `unread`,
 /// `drawn`: nothing is read for refused words, nor where sessions are drawn. `told`, `starved`: what `err` grows by, but where a write to
-/// it fails, is the line of the fault, and `out` stays as it was (`memory`); or it is the line that the output can't be written, and `out`
+/// it fails, is the line of the fault, and `out` is unchanged (`memory`); or it is the line that the output can't be written, and `out`
 /// has grown by a beginning of what the task prints, but not by all of it. `unwritten`: with status 1 `out` has changed, by help and the
 /// version too, only where that line was written.
 pub fn run_tool<H: Threads + Wait + Clock + Sync, R: Read, W: Write, E: Write, P: Progress + Sync>(
@@ -240,7 +240,7 @@ fn status_of_write<E: Write>(err: &mut E, written: io::Result<()>) -> u8
     }
 }
 
-/// Says why nothing is printed.
+/// Writes why nothing is printed.
 fn refuse<E: Write>(alloc: Global, err: &mut E, cause: Cause) -> u8
     ensures status { (result ≡ MEMORY) ⊎ (result ≡ status_of cause) }
     ensures told { result ≡ MEMORY → HasBegun (E.contents err.old) (E.contents err.new) (line_of memory_text) }

@@ -98,7 +98,7 @@ pub(crate) fn matches_of<'a>(alloc: Global, words: &'a [String]) -> Result<ArgMa
     }
 }
 
-/// The words, unless one behind `--times` names no form.
+/// The words, unless one after `--times` names no form.
 fn with_known_form<'a>(alloc: Global, matches: ArgMatches<'a>) -> Result<ArgMatches<'a>, Error>
     ensures faults { FailsBy (faults_of_forms (subcommand_rows_of matches.entry)) result }
     ensures same { IfOk result (λ known. known ≡ matches.entry) }

@@ -70,7 +70,7 @@ pub(crate) enum Cause {
     Unreadable,
     /// It is longer than a file may be.
     TooLong,
-    /// Its text has no output, or memory was refused.
+    /// Its text has no output, or an allocation failed.
     Ended(RunFault),
 }
 
