@@ -37,7 +37,7 @@ impl<V: Value> TMap<V> {
         tx.call(Op::Get(key), self.number)
     }
 
-    /// The map holds the value at the key from then on; it is answered what it held there: `Value`, or `Nothing`.
+    /// The map holds the value at the key from then on; the answer is what it held there: `Value`, or `Nothing`.
     pub fn put(&self, tx: &mut Tx<'_, V>, key: u64, value: V) -> Result<Reply<V>, Refusal>
         requires ready { IsReady tx.old.table.now tx.old.seat.now }
         requires since { HasBegunSince tx.old.table.now tx.old.seat.now }
@@ -49,7 +49,7 @@ impl<V: Value> TMap<V> {
         tx.call(Op::Put(key, value), self.number)
     }
 
-    /// The map holds nothing at the key from then on; it is answered what it held there: `Value`, or `Nothing`.
+    /// The map holds nothing at the key from then on; the answer is what it held there: `Value`, or `Nothing`.
     pub fn remove(&self, tx: &mut Tx<'_, V>, key: u64) -> Result<Reply<V>, Refusal>
         requires ready { IsReady tx.old.table.now tx.old.seat.now }
         requires since { HasBegunSince tx.old.table.now tx.old.seat.now }
