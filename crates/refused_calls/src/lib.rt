@@ -17,7 +17,7 @@ use tx_engine::laws::{aborted_transactions_saw_one_state, open_transactions_see_
 use tx_table::TxTable;
 
 /// A call. Where it is refused and has ended its transaction, the table shows it as an aborted one that saw one state; where the
-/// transaction is open still, all that it has been answered so far is what one state answers.
+/// transaction is still open, all its answers so far are those of one state.
 pub fn call<V: Value>(
     table: &TxTable<V>,
     seat: &mut TxSeat<V>,
