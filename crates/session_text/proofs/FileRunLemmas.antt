@@ -1,6 +1,6 @@
 -- The lines of the sessions of a file, and the audit of their receipts.
 --
--- A receipt of a session of an action is one from which its line is told; what the session answers by the replies in it is what its deal
+-- A receipt of a session of an action is one from which its line is made; what the session answers by the replies in it is what its deal
 -- says. The receipts are those of one client in commit order, so records with the client for their actor; what was proved of the audit of
 -- such records says that there is no fault in them, and the tables that their actions leave are balanced: an inspection finds nothing.
 use Rattle.std.proofs.Common.{◌≡◌, ◌∙◌, ap, sym, subst, refl, ℕ, List, [], ◌∷◌}

@@ -1,5 +1,5 @@
 -- Events that lead from the parts of a world to others. What the first of two lists leaves is what the second begins with, and it is the
--- parts of a world that events have reached; so both together lead on, and tell the one after the other.
+-- parts of a world that events have reached; so both together lead on, and answer the one after the other.
 use Rattle.std.proofs.Common.{◌≡◌, ◌∙◌, refl, sym, ap, ap₂, subst, ℕ, ◌+◌, List, [], ◌∷◌, ◌++◌, length-append}
 use Rattle.seq_model.specs.declared.event.Event.{Event}
 use Rattle.seq_model.specs.declared.event.Notice.{Notice}

@@ -15,7 +15,7 @@ use Rattle.session_text.specs.Receipts.{AreLines, AreReceipts, IsLine, IsReceipt
 pub is_done : (a : Action) (r : Record Entry) → IsReceipt a r → asked (after (session a) (replies_of r.calls)) ≡ ask.Done
 is_done a r is = ap asked (follows_after r.calls (session a) (Answers is.0) is.1.whole)
 
--- these lines, and then lines for the rest, are lines for all
+-- these lines, and then lines for what is left, are lines for all
 abbrev pub GoesOn : (actions left : List Action) → (receipts unread : List (Record Entry)) → List Line → Type 0
 GoesOn actions left receipts unread lines = (ls : List Line) → AreLines left unread ls → AreLines actions receipts (lines ++ ls)
 

@@ -24,7 +24,7 @@ after_append ws [] ys (m ∷ ms) ns paired = cc
 after_append ws (x ∷ xs) ys [] ns paired = cc
 after_append ws (x ∷ xs) ys (m ∷ ms) ns paired = after_append (waiting_then ws x (tells_nothing m)) xs ys ms ns (omega arith)
 
--- events of one kind, and behind them events of another
+-- events of one kind, and after them events of another
 pub played_on : {P Q R : List (Event ℕ) → List (Notice ℕ) → Type 0} {c d u : Parts ℕ} {before then after : List (Notice ℕ)}
     {ws vs us : List Bool}
     → ((xs ys : List (Event ℕ)) (ms ns : List (Notice ℕ)) → length ms ≡ length xs → length ns ≡ length ys → vs ≡ waiting_after ws xs ms
@@ -90,7 +90,7 @@ pub one_is : (e : Event ℕ) (quiet : Bool) (xs : List (Event ℕ)) (ms : List (
 one_is e quiet xs ms one = one.1.0
 
 -- ---- steps
--- steps that told nothing
+-- steps that answered nothing
 abbrev pub AreQuietSteps : ℕ → ℕ → List (Event ℕ) → List (Notice ℕ) → Type 0
 AreQuietSteps actor n es told = (es ≡ replicate n (event.Step actor)) × (told ≡ replicate n Quiet)
 
@@ -104,7 +104,7 @@ loud_notice Quiet loud = absurd (loud refl)
 loud_notice (Answered a answer) loud = (refl, refl)
 loud_notice (Refused a cause) loud = (refl, refl)
 
--- a step more that told nothing
+-- a step more that answered nothing
 pub quiet_on : (actor n : ℕ) (xs ys : List (Event ℕ)) (ms ns : List (Notice ℕ))
     → AreQuietSteps actor n xs ms → IsOne (event.Step actor) true ys ns → AreQuietSteps actor (n + 1) (xs ++ ys) (ms ++ ns)
 quiet_on actor n xs ys ms ns quiet one = (
@@ -125,11 +125,11 @@ steps_last actor (suc n) zero (Answered a answer) lt loud = (refl, refl, refl)
 steps_last actor (suc n) zero (Refused a cause) lt loud = (refl, refl, refl)
 steps_last actor (suc n) (suc k) notice lt loud = (refl, steps_last actor n k notice (omega arith) loud)
 
--- all steps told nothing
+-- all steps answered nothing
 pub all_quiet : (actor n k : ℕ) (xs : List (Event ℕ)) (ms : List (Notice ℕ)) → k ≡ n → AreQuietSteps actor k xs ms → AreSteps actor n xs ms
 all_quiet actor n k xs ms same quiet = rw (quiet.0, quiet.1, same) (steps_all actor n)
 
--- the last step told something
+-- the last step answered something
 pub loud_last : (actor n k : ℕ) (xs ys : List (Event ℕ)) (ms ns : List (Notice ℕ)) → k < n
     → AreQuietSteps actor k xs ms → IsOne (event.Step actor) false ys ns → AreSteps actor n (xs ++ ys) (ms ++ ns)
 loud_last actor n k xs ys ms ns lt quiet one = rw (quiet.0, quiet.1, one.1.0, one.1.1.0) (steps_last actor n k one.0 lt one.1.1.1)

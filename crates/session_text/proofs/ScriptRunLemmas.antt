@@ -1,5 +1,5 @@
--- A run of a script: the parts that its world opened with are those of the world that the script's header opens in the definitions. So
--- what was told is what the events tell there, and the trace is that of the world which they lead to.
+-- A run of a script: the parts that its world opened with are those of the world that the script's header opens in the definitions. So what
+-- was answered is what the events answer there, and the trace is that of the world which they lead to.
 use Rattle.std.proofs.Common.{◌≡◌, ◌≢◌, ◌∙◌, refl, sym, ap, ap₂, subst, ℕ, suc, Bool, List, [], ◌∷◌, length, map, inr, All}
 use Rattle.std.specs.Prelude.{IfErr, OnOk, Result, Ok, Err}
 use Rattle.seq_model.specs.declared.event.Notice.{Notice}
@@ -55,7 +55,7 @@ pub world_as : (script : Script) (opening s : Contents ℕ) (ns : List ℕ) (clo
 world_as script opening s ns clock same at is =
     ap₂ (λ (ms : List ℕ) (z : Contents ℕ). world_of ms clock z) same is ∙ ap (λ (n : ℕ). world_of (stripes_of script) n opening) at
 
--- a script has numbers of stripes for its collections, so its world is refused for its limits or for want of memory
+-- a script has numbers of stripes for its collections, so its world is refused for its limits, or as an allocation fails
 pub refused_as : {X : Type 0} → (script : Script) (opening : Contents ℕ) (ns : List ℕ) (clock : ℕ) (r : Result X Refusal)
     → IsOpeningOf script opening → All IsWithinLimits (opening_of script).held → ns ≡ stripes_of script → clock ≡ script.clock
     → IfErr r (λ refusal. IsNoSuchOrTooLong refusal (length ns ≢ length opening.held) (IsWithin ns clock opening))

@@ -1,11 +1,11 @@
--- What an audit says of a run of a script.
+-- What an audit finds in a run of a script.
 use Rattle.std.specs.Prelude.{◌≡◌, []}
 use Rattle.seq_model.specs.declared.auditing.AuditFault.{AuditFault}
 use Rattle.seq_model.specs.Audit.{IsAuditFault, IsRunBetween}
 use Rattle.world_table.specs.Audits.{without_actors}
 use Rattle.session_text.specs.declared.run.ScriptRun.{ScriptRun}
 
--- where no commit is half done, the records are a run from the opening that leaves what the trace shows
+-- where no commit is half done, the records are a run from the opening that results in what the trace shows
 abbrev pub IsAudited : ScriptRun → Type 0
 IsAudited made = made.trace.half ≡ [] → IsRunBetween made.opening (without_actors made.trace.records) made.trace.state
 

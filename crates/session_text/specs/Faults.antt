@@ -7,7 +7,7 @@ use Rattle.text_formats.specs.Sessions.{IsUnreadable}
 use Rattle.session_text.specs.declared.fault.RunFault.{RunFault}
 use Rattle.session_text.specs.declared.fault.RunFault.TheVariants.{Refused, Audit}
 
--- want of memory is no finding of an audit
+-- a failed allocation is no finding of an audit
 abbrev pub audit_fault : AuditFault → RunFault
 audit_fault audit.Memory = Refused OutOfMemory
 audit_fault fault = Audit

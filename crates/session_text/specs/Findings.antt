@@ -17,7 +17,7 @@ pub record IsSound (opening : Contents Entry) (receipts : List (Record Entry)) (
   pub run : IsRunBetween opening receipts last
   pub balanced : IsBalanced tables
 
--- there is a fault in the receipts, or the tables are not balanced, or memory was refused
+-- there is a fault in the receipts, or the tables are not balanced, or an allocation failed
 abbrev pub IsFinding : Contents Entry → List (Record Entry) → Contents Entry → Holdings → RunFault → Type 0
 IsFinding opening receipts last tables Audit =
     (fault : AuditFault) × ((fault ≢ audit.Memory) × IsAuditFault opening receipts last fault)

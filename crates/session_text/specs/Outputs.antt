@@ -7,7 +7,7 @@ use Rattle.session_text.specs.declared.printing.SessionRun.{SessionRun}
 use Rattle.session_text.specs.SessionPrints.{run_text}
 use Rattle.session_text.specs.Runs.{IsSessionRun}
 
--- The text spells tables and actions; the output prints what came of the sessions of these actions, one after another, on these tables.
+-- The text spells tables and actions; the output prints the result of the sessions of these actions, one after another, on these tables.
 pub record IsOutput (text bytes : List ℕ) : Type 0 where
   pub tables : Holdings
   pub actions : List Action

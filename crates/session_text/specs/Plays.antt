@@ -47,7 +47,7 @@ abbrev pub is_request : Event ℕ → Bool
 is_request (event.Ask actor request) = true
 is_request e = false
 
--- a request that told nothing is unanswered, until a step or a want of memory of its actor tells something
+-- a request that answered nothing is unanswered, until a step or a failed allocation of its actor answers something
 abbrev pub noted : List Bool → ℕ → Bool → Bool → List Bool
 noted waiting actor true true = set waiting actor true
 noted waiting actor false false = set waiting actor false
@@ -60,16 +60,16 @@ abbrev pub waiting_after : List Bool → List (Event ℕ) → List (Notice ℕ) 
 waiting_after waiting (e ∷ es) (notice ∷ told) = waiting_after (waiting_then waiting e (tells_nothing notice)) es told
 waiting_after waiting es told = waiting
 
--- ---- the events of a line, and what each of them tells
+-- ---- the events of a line, and what each of them answers
 
--- at most n steps of an actor, up to the first that tells something
+-- at most n steps of an actor, up to the first that answers something
 abbrev pub AreSteps : ℕ → ℕ → List (Event ℕ) → List (Notice ℕ) → Type 0
 AreSteps actor zero [] [] = ⊤
 AreSteps actor (suc n) (e ∷ es) (Quiet ∷ told) = (e ≡ event.Step actor) × AreSteps actor n es told
 AreSteps actor (suc n) (e ∷ es) (notice ∷ told) = (e ≡ event.Step actor) × (es ≡ []) × (told ≡ [])
 AreSteps actor n es told = ⊥
 
--- a request, and where it tells nothing the steps of its actor
+-- a request, and where it answers nothing the steps of its actor
 abbrev pub IsDone : ℕ → Event ℕ → List (Event ℕ) → List (Notice ℕ) → Type 0
 IsDone actor ask (e ∷ es) (Quiet ∷ told) = (e ≡ ask) × AreSteps actor STEP_LIMIT es told
 IsDone actor ask (e ∷ es) (notice ∷ told) = (e ≡ ask) × (es ≡ []) × (told ≡ [])
@@ -127,11 +127,11 @@ pub record HasPlayed (IsKind : List (Event ℕ) → List (Notice ℕ) → Type 0
 abbrev pub Keeps : (List (Event ℕ) → List (Notice ℕ) → Type 0) → List Bool → List Bool → List (Event ℕ) → List (Notice ℕ) → Type 0
 Keeps IsKind before after es told = IsKind es told × (after ≡ waiting_after before es told)
 
--- one event, and whether it told nothing
+-- one event, and whether it answered nothing
 abbrev pub IsOne : Event ℕ → Bool → List (Event ℕ) → List (Notice ℕ) → Type 0
 IsOne e quiet es told = (notice : Notice ℕ) × ((es ≡ e ∷ []) × ((told ≡ notice ∷ []) × (quiet ≡ tells_nothing notice)))
 
--- a run is what came of the events of the script's lines in the world that the script opens: all that was heard, and the trace
+-- a run is the result of the events of the script's lines in the world that the script opens: all that was heard, and the trace
 pub record IsRunOf (script : Script) (made : ScriptRun) : Type 0 where
   pub events : List (Event ℕ)
   pub plays : ArePlays nobody script.lines events (told_by (world_in script made.opening) events)

@@ -1,4 +1,4 @@
--- Receipts of sessions, and what is told of them.
+-- Receipts of sessions, and the lines that are printed for them.
 use Rattle.std.specs.Prelude.{◌≡◌, List, [], ◌∷◌, ⊤}
 use Rattle.seq_model.specs.declared.record.Record.{Record}
 use Rattle.jobs.specs.Programs.{Answers, after, replies_of}
@@ -19,7 +19,7 @@ AreReceipts [] [] = ⊤
 AreReceipts (a ∷ more) (r ∷ rs) = IsReceipt a r × AreReceipts more rs
 AreReceipts _ _ = ⊥
 
--- the line tells the number of the receipt, and what the session answers by the replies in it
+-- the line has the number of the receipt, and what the session answers by the replies in it
 abbrev pub IsLine : Action → Record Entry → Line → Type 0
 IsLine action r (Done number reply) = (number ≡ r.number) × (after (session action) (replies_of r.calls) ≡ Answers reply)
 IsLine action r line = ⊥

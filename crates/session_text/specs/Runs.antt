@@ -1,4 +1,4 @@
--- What comes of the sessions of a file, one after another.
+-- The result of the sessions of a file, one after another.
 use Rattle.std.specs.Prelude.{◌≡◌, List, [], ◌∷◌, map, ⊤}
 use Rattle.seq_model.specs.declared.record.Record.{Record}
 use Rattle.seq_model.specs.Runs.{IsInCommitOrder, IsRun}
@@ -13,14 +13,14 @@ use Rattle.vacation_core.specs.Orders.{of_client}
 use Rattle.session_text.specs.declared.printing.SessionRun.{SessionRun}
 use Rattle.session_text.specs.Findings.{IsSound}
 
--- each line tells the number of a receipt, and what its action was answered
+-- each line has the number of a receipt, and what its action was answered
 abbrev pub AreTold : List Deal → List (Record Entry) → List Line → Type 0
 AreTold [] [] [] = ⊤
 AreTold (d ∷ ds) (r ∷ rs) (l ∷ ls) = (l ≡ Done r.number d.1) × AreTold ds rs ls
 AreTold _ _ _ = ⊥
 
 -- The actions were done one after another from the tables, each as the session of a receipt; the receipts are a run, in their order. The
--- lines tell their numbers and what they were answered, and the tables are what they leave. The receipts were audited, and the tables are
+-- lines have their numbers and what they were answered, and the tables are what they leave. The receipts were audited, and the tables are
 -- balanced.
 pub record IsSessionRun (tables : Holdings) (actions : List Action) (made : SessionRun) : Type 0 where
   pub deals : List Deal

@@ -30,7 +30,7 @@ HasRefusedCollections script TooLong = ¬ All IsWithinLimits (opening_of script)
 HasRefusedCollections script OutOfMemory = ⊤
 HasRefusedCollections script refusal = ⊥
 
--- they are, or its world refuses the opening: TooLong where it is beyond the limits of a world, else for want of memory
+-- they are, or its world refuses the opening: TooLong where it is beyond the limits of a world, else as an allocation fails
 abbrev pub IsRefusedScript : Script → Refusal → Type 0
 IsRefusedScript script refusal =
     HasRefusedCollections script refusal

@@ -38,7 +38,7 @@ answer_text (Replied reply) = reply_text reply
 answer_text (Committed number) = codes "committed " ++ decimal number
 answer_text Aborted = codes "aborted"
 
--- the line of a notice, where it tells something
+-- the line of a notice, where it answers something
 abbrev pub notice_text : Notice ℕ → List ℕ
 notice_text Quiet = []
 notice_text (Answered actor answer) = decimal actor ++ (codes ": " ++ (answer_text answer ++ (10 ∷ [])))
