@@ -1,6 +1,6 @@
--- Lines are told of a report, worker by worker and session by session.
+-- Lines are made of a report, worker by worker and session by session.
 -- What is missed rises by worker and by place, so the next session of a worker is missed exactly where the first of the missed jobs is its
--- own; else the next receipt is its. So the outcomes are read one after another, and each line is told of the outcome of its session.
+-- own; else the next receipt is its. So the outcomes are read one after another, and each line shows the outcome of its session.
 use Rattle.std.proofs.Common.{◌≡◌, ◌∙◌, refl, sym, ap, subst, ℕ, zero, suc, ◌+◌, ◌<◌, List, [], ◌∷◌, ◌++◌, length, get_or, arith, map}
 use Rattle.std.specs.Prelude.{IfOk, Result, Ok, Err}
 use Rattle.std.proofs.lemmas.List.{append_assoc, append-nil}

@@ -1,6 +1,6 @@
--- What comes of a run of workers.
--- Actions that are allowed are so in whatever lists they are dealt out to. What was told of dealt actions, list by list, is told of them in
--- their order, as lines were gathered from the lists in turn. The one fault is want of memory: the receipts that are audited are a run
+-- The result of a run of workers.
+-- Actions that are allowed are so in whatever lists they are dealt out to. The lines of dealt actions, list by list, are their lines in
+-- their order, as lines were gathered from the lists in turn. The one fault is a failed allocation: the receipts that are audited are a run
 -- (`IsServed`), and the tables are balanced.
 use Rattle.std.proofs.Common.{◌≡◌, ◌∙◌, refl, sym, ap, subst, ℕ, zero, suc, ◌+◌, ◌-◌, ◌<◌, List, [], ◌∷◌, ◌++◌, length, get_or, arith, inl}
 use Rattle.std.proofs.Common.{inr, ◌⊎◌}
@@ -116,7 +116,7 @@ drawn_run d tables lists served opening missed same drawn made opens sound count
   missed_are = counted;
 }
 
--- ---- the outcomes that are told
+-- ---- the outcomes that have lines
 own_list : (actions : List Action) (os : List (Outcome Entry)) → AreOwnOutcomes actions os → AreOwn actions os
 own_list [] [] are = tt
 own_list [] (o ∷ os) are = absurd are

@@ -1,4 +1,4 @@
--- What comes of drawn sessions.
+-- The result of drawn sessions.
 use Rattle.std.specs.Prelude.{◌≡◌, ◌≤◌, ◌+◌, ◌<◌, ℕ, List, [], ◌∷◌, ◌++◌, codes, get_or, length}
 use Rattle.std.specs.Fmt.{decimal}
 use Rattle.text_formats.specs.Openings.{opening_of}

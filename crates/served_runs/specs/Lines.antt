@@ -1,4 +1,4 @@
--- What is told of sessions that workers ran.
+-- The lines of sessions that workers ran.
 use Rattle.std.specs.Prelude.{◌≡◌, ◌<◌, ℕ, List, [], ◌∷◌, Ok, Err, get_or, length, ⊤}
 use Rattle.workers.specs.Deals.{every}
 use Rattle.vac_model.specs.declared.action.Action.{Action}
@@ -25,7 +25,7 @@ AreLinesOf [] [] [] = ⊤
 AreLinesOf (a ∷ actions) (o ∷ os) (l ∷ ls) = IsLineOf a o l × AreLinesOf actions os ls
 AreLinesOf _ _ _ = ⊥
 
--- There is a line for each action. These were dealt out to so many workers, and the lines of those of a worker are told of its outcomes.
+-- There is a line for each action. These were dealt out to so many workers, and the lines of those of a worker show its outcomes.
 pub record AreToldOf (workers : ℕ) (actions : List Action) (outcomes : List (List (Outcome Entry))) (lines : List Line) : Type 0 where
   pub many : length lines ≡ length actions
   pub each : (k : ℕ) → k < workers → AreLinesOf (every workers k actions) (get_or outcomes k []) (every workers k lines)

@@ -1,4 +1,4 @@
--- What comes of the sessions of a file where workers run them.
+-- The result of the sessions of a file where workers run them.
 use Rattle.std.specs.Prelude.{◌≡◌, ℕ, List, flat_map}
 use Rattle.workers.specs.Deals.{AreDealt}
 use Rattle.seq_model.specs.declared.record.Record.{Record}
@@ -29,7 +29,7 @@ pub record IsInspected (tables : Holdings) (lists : List (List Action)) (tries :
   pub made : IsServed tables STRIPES lists tries served
   pub sound : IsSound (state_of tables) (receipts_of served) served.state served.tables
 
--- The actions were dealt out to so many workers, which have served them; the lines tell what became of each, and the tables are what they
+-- The actions were dealt out to so many workers, which have served them; the lines have the result of each, and the tables are what they
 -- leave.
 pub record IsServedRun (workers : ℕ) (tables : Holdings) (actions : List Action) (run : SessionRun) : Type 0 where
   pub lists : List (List Action)
@@ -39,7 +39,7 @@ pub record IsServedRun (workers : ℕ) (tables : Holdings) (actions : List Actio
   pub told : AreToldOf workers actions inspected.made.outcomes run.lines.items
   pub left : run.tables ≡ served.tables
 
--- The text spells tables and actions; the output prints what came of the sessions of these actions by so many workers.
+-- The text spells tables and actions; the output prints the result of the sessions of these actions by so many workers.
 pub record IsServedOutput (workers : ℕ) (text bytes : List ℕ) : Type 0 where
   pub tables : Holdings
   pub actions : List Action
@@ -48,7 +48,7 @@ pub record IsServedOutput (workers : ℕ) (text bytes : List ℕ) : Type 0 where
   pub made : IsServedRun workers tables actions run
   pub written : bytes ≡ run_text run
 
--- why nothing comes of sessions that are served: memory was refused, and nothing else
+-- why sessions that are served have no result: an allocation failed, and nothing else
 abbrev pub IsWantOfMemory : RunFault → Type 0
 IsWantOfMemory (Refused refusal) = refusal ≡ OutOfMemory
 IsWantOfMemory fault = ⊥

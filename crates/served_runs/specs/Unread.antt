@@ -1,4 +1,4 @@
--- What is still to be told of the sessions of workers: their outcomes, as receipts and missed jobs.
+-- The outcomes of the sessions of workers that have no line yet, as receipts and missed jobs.
 use Rattle.std.specs.Prelude.{◌≡◌, ◌<◌, ℕ, List, [], ◌∷◌, ◌++◌, Ok, Err, length, map, ⊤}
 use Rattle.workers.specs.Deals.{AreDealt}
 use Rattle.seq_model.specs.declared.record.Record.{Record}
@@ -28,7 +28,7 @@ AreOwn [] [] = ⊤
 AreOwn (a ∷ actions) (o ∷ os) = IsOwn a o × AreOwn actions os
 AreOwn _ _ = ⊥
 
--- the first of these missed jobs is one of a worker behind this one
+-- the first of these missed jobs is one of a worker after this one
 abbrev pub IsBeyond : ℕ → List (ℕ × ℕ × LastAbort) → Type 0
 IsBeyond worker [] = ⊤
 IsBeyond worker (job ∷ jobs) = worker < job.0
@@ -47,7 +47,7 @@ pub record AreUnread (worker place : ℕ) (actions : List Action) (os : List (Ou
   pub missed_are : missed ≡ missed_in worker place os ++ later
   pub beyond : IsBeyond worker later
 
--- The next one of a worker's sessions is that of this action and has this outcome, and those are the outcomes of the sessions behind it.
+-- The next one of a worker's sessions is that of this action and has this outcome, and those are the outcomes of the sessions after it.
 pub record IsNext (worker place : ℕ) (action : Action) (o : Outcome Entry) (os : List (Outcome Entry)) (later : List (ℕ × ℕ × LastAbort))
     (receipts : List (Record Entry)) (missed : List (ℕ × ℕ × LastAbort)) : Type 0 where
   pub own : IsOwn action o
@@ -99,7 +99,7 @@ pub record IsTold (lists : List (List Action)) (outcomes : List (List (Outcome E
   pub gathered : AreDealt (length lists) lines queues
   pub each : AreAllLines lists outcomes queues
 
--- Workers have served these lists from the tables, and what they reported was audited; the lines tell the outcomes of so many sessions that
+-- Workers have served these lists from the tables, and what they reported was audited; the lines show the outcomes of so many sessions that
 -- were dealt out to the lists, and the tables are what they leave.
 pub record IsToldRun (tables : Holdings) (lists : List (List Action)) (total : ℕ) (run : SessionRun) : Type 0 where
   pub served : Served
