@@ -1,6 +1,6 @@
--- What is said of a fault, and what is printed. Bytes are written piece by piece: what has been written is always a beginning of them,
--- and the next piece makes it a longer one; a line that was begun behind a whole text is a beginning of both. Want of memory
--- is why nothing is printed, whatever is known of the file.
+-- What is written of a fault, and what is printed. Bytes are written piece by piece: what has been written is always a beginning of them,
+-- and the next piece makes it a longer one; a line that was begun after a whole text is a beginning of both. A failed allocation is why
+-- nothing is printed, whatever is known of the file.
 use Rattle.std.proofs.Common.{◌∙◌, refl, sym, ap, ℕ, ◌+◌, ◌-◌, ◌≡◌, ◌<◌, subst, List, [], ◌∷◌, ◌++◌, length, take, take_all, drop}
 use Rattle.std.proofs.Common.{length-drop, take-append-drop, append_assoc, Option, Some, None, arith}
 use Rattle.std.proofs.Math.Seq.{take-add}

@@ -34,7 +34,7 @@ use Rattle.command_line.specs.Words.{AreTaken, AskForInformation, task_named}
 
 -- ---- what is printed of a text
 
--- a text spells a script, and this run is what came of its lines from its opening, with a trace in serial order
+-- a text spells a script, and this run is the result of its lines from its opening, with a trace in serial order
 pub record HasRun (text : List ℕ) (run : ScriptRun) : Type 0 where
   pub script : Script
   pub spelled : IsScriptText text script
@@ -49,7 +49,7 @@ pub record IsOutput (text bytes : List ℕ) : Type 0 where
   pub audited : IsAudited run
   pub printed : bytes ≡ run_text run
 
--- why it is refused: a line is outside the grammar, memory was refused, or it spells a script that is refused
+-- why it is refused: a line is outside the grammar, an allocation failed, or it spells a script that is refused
 abbrev pub IsRefusedText : List ℕ → Refusal → Type 0
 IsRefusedText text (BadText line) = IsBadLine text line
 IsRefusedText text OutOfMemory = ⊤
@@ -86,7 +86,7 @@ abbrev pub IsOnDrawn : Task → Type 0
 IsOnDrawn (OnFile work) = ⊥
 IsOnDrawn (OnDrawn drawn times) = ⊤
 
--- what the run takes is to be told
+-- what the run takes is to be printed
 abbrev pub IsAsked : TimesForm → Type 0
 IsAsked Unasked = ⊥
 IsAsked form = ⊤
@@ -136,7 +136,7 @@ HasWorked words known old new =
     AskForInformation words
     ⊎ (IsRead words known × ((bytes : List ℕ) × (IsKnownOutput (task_named words) known bytes × Appends old new bytes)))
 
--- ---- what is said of a fault
+-- ---- what is written of a fault
 
 -- one line
 abbrev pub line_of : List ℕ → List ℕ
@@ -177,7 +177,7 @@ pub record HasBegun (old new : Option (List ℕ)) (line : List ℕ) : Type 0 whe
   pub whole : line ≡ begun ++ left
   pub grown : Appends old new begun
 
--- why nothing is printed is said; it is the cause of this status
+-- why nothing is printed is written; it is the cause of this status
 pub record HasToldFault (task : Task) (status : ℕ) (known old new : Option (List ℕ)) : Type 0 where
   pub cause : Cause
   pub is_cause : IsCause task known cause
@@ -189,7 +189,7 @@ pub record HasBrokenOff (old new : Option (List ℕ)) (text : List ℕ) : Type 0
   pub begun : HasBegun old new text
   pub some_left : begun.left ≢ []
 
--- status 1 where no fault of the words, the file or the text is told: the task has an output, and a write of it failed
+-- status 1 where no fault of the words, the file or the text is written: the task has an output, and a write of it failed
 pub record HasStopped (words : List Text) (known old new : Option (List ℕ)) : Type 0 where
   pub read : IsRead words known
   pub bytes : List ℕ

@@ -1,4 +1,4 @@
--- Options whose values are numbers: what is told of them to `clap`, and what is read of its rows.
+-- Options whose values are numbers: how they are declared to `clap`, and what is read of its rows.
 use Rattle.std.specs.Prelude.{◌^◌, ℕ, List, [], ◌∷◌, Some, if◌then◌else◌, nat_lt}
 use Rattle.std.specs.Option.{option_map_or}
 use Rattle.std.specs.Str.Parse.{digits_value, without_leading_plus}
