@@ -30,7 +30,7 @@ pub fn run_pair<R: Threads + Sync>(
     first
 }
 
-// Where memory was refused, each seat commits a write after it.
+// Where an allocation failed, each seat commits a write after it.
 fn run_both<R: Threads + Sync>(
     rt: &R,
     page: &mut Page,
@@ -70,7 +70,7 @@ fn answer_rows<R: Threads + Sync>(
     }
 }
 
-// In how many threads the rows are answered, in which order, and the rows behind what says so.
+// In how many threads the rows are answered, in which order, and the rows after what says so.
 fn threads_of(rows: &str) -> (u64, Order, &str) {
     match rows.split_once('\n') {
         Some(("at once", rows)) => (2, Order::LastIsFirst, rows),

@@ -1,6 +1,6 @@
 //! Sessions that workers serve on a shared table.
 //!
-//! Behind a row `sessions 2 64 1000 2` stands a session file, whose sessions are dealt in turn to two workers, on a table with 64 stripes
+//! After a row `sessions 2 64 1000 2` stands a session file, whose sessions are dealt in turn to two workers, on a table with 64 stripes
 //! for each collection. Each is attempted at most 1000 times, and two workers meet: each is held before its commit until all stand there,
 //! and all after it have their receipts. `0`: none is held. What comes of them is the receipts of each worker, what the
 //! tables hold, as it is printed after a session file, and what the audit of all receipts says. Where a session runs out of memory the

@@ -1,6 +1,6 @@
 //! Workers, and attempts of a job up to a receipt.
 //!
-//! The rows are jobs: `1 runs 1 do read 0; 1 do write 0 1` one that asks these calls, `1 gives up` one that gives up at once,
+//! The rows are jobs: `1 runs 1 do read 0; 1 do write 0 1` one that asks these calls, `1 gives up` one that aborts at once,
 //! `1 wants memory` one that has none.
 //!
 //! - `workers 1 2 on words 0 0`: the number before a job is that of a worker, to whose list it is given; `2 rests` is a worker without

@@ -198,7 +198,7 @@ fn print_line(text: &mut String, receipt: &Record<Rationed>) -> Result<(), Memor
     Ok(())
 }
 
-// Where memory was refused, the seat commits a write after it.
+// Where an allocation failed, the seat commits a write after it.
 fn go_on(
     table: &TxTable<Rationed>,
     seat: &mut TxSeat<Rationed>,

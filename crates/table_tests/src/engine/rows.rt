@@ -74,7 +74,7 @@ pub fn answer_own(
     }
 }
 
-/// Answers the row if it is one of this seat; unless memory was wanted before: then no other seat is to wait for this one.
+/// Answers the row if it is one of this seat; unless an allocation failed before: then no other seat is to wait for this one.
 fn answer_at(
     page: &mut Page,
     table: &TxTable<u64>,
@@ -200,7 +200,7 @@ fn run_borrowed(
     seat.abort(table);
 }
 
-// How the calls of a transaction are made, and the words behind what says so.
+// How the calls of a transaction are made, and the words after what says so.
 fn style_of(words: &str) -> (Style, &str) {
     match words.split_once(' ') {
         Some(("typed", words)) => (Style::Typed, words),

@@ -241,7 +241,7 @@ fn answer_half<R: Threads>(
     seat.join(table, other);
 }
 
-// Where memory was refused, the seat that was split off commits a write before it is joined again.
+// Where an allocation failed, the seat that was split off commits a write before it is joined again.
 fn answer_quarters<R: Threads>(
     rt: &R,
     page: &mut Page,

@@ -150,7 +150,7 @@ fn answer_served(
     end(text, printed, audited, is_wanted, is_held_in_vain)
 }
 
-// Where memory was refused to a worker, others are held in vain.
+// Where an allocation failed for a worker, others are held in vain.
 fn end(
     text: &mut String,
     printed: Result<(), Refusal>,

@@ -10,7 +10,7 @@ use text_formats::{EventLine, Script};
 pub enum Listed {
     /// It asks the calls of these lines, one after another, whatever it is replied, and then is done.
     Asks(Script),
-    /// It gives up at once.
+    /// It aborts at once.
     GivesUp,
     /// It has no memory for what it would ask first.
     WantsMemory,

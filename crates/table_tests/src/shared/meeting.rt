@@ -7,18 +7,18 @@ use tx_engine::Pause;
 /// A worker is held for at most so many turns.
 const TURNS: u64 = 10_000_000;
 
-/// In which order workers go on.
+/// In which order workers continue.
 #[derive(Clone, Copy)]
 pub enum Order {
     /// Before a commit the first is held until all others have a receipt.
     FirstIsLast,
     /// Before a commit each is held until all after it have a receipt.
     LastIsFirst,
-    /// Each row of a worker is held until all rows above it are answered, or the one that is under way lets it by.
+    /// Each row of a worker is held until all rows above it are answered, or the one that is under way lets it pass.
     RowByRow,
 }
 
-/// So many workers that are held before their commits until all stand there, and then as their order has it. None is held once one of
+/// So many workers that are held before their commits until all stand there, and then as their order says. None is held once one of
 /// them has left.
 #[derive(Drop)]
 pub struct Meeting {
@@ -99,7 +99,7 @@ impl Meeting {
         }
     }
 
-    // What a worker did before it left is seen by the look after that.
+    // What a worker did before it left is seen by the load after that.
     fn is_reached(&self, count: &AtomicU64, least: u64) -> bool {
         for _ in 0..TURNS {
             let has_left = self.has_left.load(Ordering::SeqCst);

@@ -10,8 +10,8 @@ use tx_table::Block;
 /// There is room for so many receipts of one table before it opens.
 const ROOM: usize = 96;
 
-/// What is printed of a table's rows, and the receipts so far. `Memory`, or another fault, is kept to the end, so that the rows go
-/// on after it.
+/// What is printed of a table's rows, and the receipts so far. `Memory`, or another fault, is kept to the end, so that the rows
+/// continue after it.
 #[derive(Drop)]
 pub struct Page {
     pub text: String,
@@ -33,7 +33,7 @@ impl Page {
         *self.text.allocator()
     }
 
-    /// Whether memory was wanted, and nothing worse has happened.
+    /// Whether an allocation failed, and nothing worse has happened.
     pub fn wants_memory(&self) -> bool {
         matches!(self.fault, Some(Refusal::Memory))
     }
@@ -79,7 +79,7 @@ impl Page {
         self.note(is_printed);
     }
 
-    /// A number goes behind these words.
+    /// A number is put after these words.
     pub fn say_number(&mut self, words: &str, number: u64) {
         self.begin_part();
         let is_printed = write!(self.text, "{words}{number}").is_ok();
@@ -140,7 +140,7 @@ impl Page {
         }
     }
 
-    /// Where memory was wanted, those who meet are held in vain.
+    /// Where an allocation failed, those who meet are held in vain.
     pub fn hear_meeting(&mut self, meeting: Meeting) {
         let is_missed = meeting.is_missed();
         drop(meeting);
@@ -165,7 +165,7 @@ impl Page {
         }
     }
 
-    /// Another page goes behind this one.
+    /// Another page is put after this one.
     pub fn append(&mut self, other: Page) {
         let Page {
             text,

@@ -7,7 +7,7 @@ use seq_model::Refusal;
 use text_formats::number;
 use tx_table::{Block, Closed, TxTable};
 
-/// Answers each row `the words`, how many there are, and `the block 0`, where this collection lies.
+/// Answers each row `the words`, how many there are, and `the block 0`, where this collection is stored.
 pub fn say_places(page: &mut Page, table: &TxTable<u64>, rows: &str) {
     for row in rows.lines() {
         if let Some(asked) = row.strip_prefix("the ") {

@@ -31,7 +31,7 @@ pub fn commit_write(
     }
 }
 
-/// Where memory was wanted, the seat commits a write after it. Other seats may be at work.
+/// Where an allocation failed, the seat commits a write after it. Other seats may be at work.
 pub fn commit_after(page: &mut Page, table: &TxTable<u64>, seat: &mut TxSeat<u64>)
     requires ready { IsReady table.now seat.old }
     ensures ready { IsReady table.now seat.new }

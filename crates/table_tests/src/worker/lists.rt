@@ -4,8 +4,8 @@ use seq_model::{Memory, Refusal};
 use std::alloc::Global;
 use text_formats::number;
 
-/// How often a job is attempted at most, how many workers meet, and in which order they go on. Of a crowd none meets, and no numbers are
-/// told: they depend on how its workers stand in each other's way.
+/// How often a job is attempted at most, how many workers meet, and in which order they continue. Of a crowd none meets, and no numbers
+/// are printed: they depend on how its workers stand in each other's way.
 #[derive(Clone, Copy)]
 pub struct Limits {
     pub tries: u64,
@@ -79,7 +79,7 @@ fn add_job(lists: &mut Vec<Vec<Listed>>, words: &str) -> Result<(), Refusal> {
     Ok(())
 }
 
-/// How many jobs want memory.
+/// How many jobs have no memory.
 pub fn wants_of(rows: &str) -> u64 {
     let mut count = 0u64;
     for row in rows.lines() {

@@ -8,8 +8,8 @@ use tx_engine::TxSeat;
 use tx_table::TxTable;
 use workers::{LastAbort, NoPause, retry};
 
-/// The jobs of these rows, one after another, each in up to so many attempts; the run fails where there are none. Where memory was refused,
-/// the seat commits a write after it.
+/// The jobs of these rows, one after another, each in up to so many attempts; the run fails where there are none. Where an allocation
+/// failed, the seat commits a write after it.
 pub fn retry_rows(
     page: &mut Page,
     tries: u64,

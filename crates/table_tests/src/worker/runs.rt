@@ -80,7 +80,7 @@ fn run_seat<R: Threads + Wait + Sync>(
     go_on(page, table, seat, is_refused)
 }
 
-// Whether any job ran out of memory. That is `Memory` of the run unless the jobs wanted it.
+// Whether any job ran out of memory. That is `Memory` of the run unless the jobs were to have none.
 fn hear(page: &mut Page, report: Result<Report<u64>, Memory>, limits: Limits, wants: u64) -> bool {
     match report {
         Ok(report) => hear_report(page, report, limits, wants),
@@ -104,7 +104,7 @@ fn hear_report(page: &mut Page, report: Report<u64>, limits: Limits, wants: u64)
     refused > 0
 }
 
-// Where memory was refused, the seat commits a write after it.
+// Where an allocation failed, the seat commits a write after it.
 fn go_on(
     page: &mut Page,
     table: &TxTable<u64>,
