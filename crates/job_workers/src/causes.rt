@@ -11,7 +11,7 @@ use std::fmt;
 pub enum LastAbort {
     /// This refused its last attempt.
     Refused(Refusal),
-    /// The job itself gave up, which ended its transaction.
+    /// The job itself aborted its transaction.
     GivenUp,
     /// No thread could be started for its list.
     NotStarted,

@@ -51,7 +51,7 @@ fn give_back<V: Value, J: Job<V>>(
 }
 
 /// A seat with so many shares, for the second half. It says what the halves need of `TxSeat::split`, and no more: the proofs of functions
-/// that call each other would not come to an end over all of it.
+/// that call each other would not end over all of it.
 fn split_off<V: Value>(table: &TxTable<V>, seat: &mut TxSeat<V>, shares: u64) -> TxSeat<V>
     requires ready { IsReady table.now seat.old }
     requires some { 1 ≤ shares }
@@ -64,7 +64,7 @@ fn split_off<V: Value>(table: &TxTable<V>, seat: &mut TxSeat<V>, shares: u64) ->
     seat.split(table, shares)
 }
 
-/// The seat of the second half is joined again, as `split_off` has it of `TxSeat::join`.
+/// The seat of the second half is joined again. Like `split_off`, it says what the halves need of `TxSeat::join`.
 fn join_again<V: Value>(table: &TxTable<V>, seat: &mut TxSeat<V>, other: TxSeat<V>)
     requires ready { IsReady table.now seat.old }
     requires other { IsReady table.now other }

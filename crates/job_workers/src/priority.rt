@@ -2,7 +2,7 @@
 //!
 //! A job that reads much may be aborted again and again by others, which read little and commit beside it. So a job that had some attempts
 //! in vain gets *priority*, where no other has it: the other workers wait before their next attempts. No promise depends on it. One job at
-//! a time has priority, and a worker that has waited long enough for one goes on, and waits for that job no more.
+//! a time has priority, and a worker that has waited long enough for one continues, and waits for that job no more.
 use seq_model::ACTOR_LIMIT;
 use std::hint::spin_loop;
 use std::sync::atomic::{AtomicU64, Ordering};
@@ -11,10 +11,10 @@ use std::thread::yield_now;
 /// A job gets priority after so many attempts.
 const ATTEMPTS: u64 = 4;
 
-/// A worker looks at most so often whether another job still has priority.
+/// A worker checks at most so often whether another job still has priority.
 const LOOKS: u64 = 10_000;
 
-/// After so many looks it yields between two of them where it spun before: the job that has priority may wait for a core.
+/// After so many checks it yields between two of them where it spun before: the job that has priority may wait for a core.
 const SPINS: u64 = 200;
 
 /// The job that has priority, by a number that no other job has; 0 where none has it.
@@ -75,7 +75,7 @@ impl Priority {
     }
 }
 
-/// Waits between two looks.
+/// Waits between two checks.
 fn look_later(looks: u64) {
     if looks < SPINS {
         for _ in 0..8 {

@@ -47,7 +47,7 @@ fn wait(attempts: u64) {
     }
 }
 
-/// The attempts of a job, as `retry` has them, with its priority among the jobs of other workers.
+/// The attempts of a job, see `retry`, with its priority among the jobs of other workers.
 pub(crate) fn retry_in<V: Value, J: Job<V>, P: Pause>(
     table: &TxTable<V>,
     seat: &mut TxSeat<V>,
@@ -91,7 +91,8 @@ pub(crate) fn retry_in<V: Value, J: Job<V>, P: Pause>(
 /// seat from then on.
 ///
 /// `Refused` as the last attempt was: after an attempt that others stood in the way of comes the next, any other refusal is the last.
-/// `GivenUp` where the job gave up; never `NotStarted`. The seat gains no receipt then. In the end it has no transaction.
+/// `GivenUp` where the job itself aborted its transaction; never `NotStarted`. The seat gains no receipt then. In the end it has no
+/// transaction.
 pub fn retry<V: Value, J: Job<V>, P: Pause>(
     table: &TxTable<V>,
     seat: &mut TxSeat<V>,
