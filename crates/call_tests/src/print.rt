@@ -36,7 +36,7 @@ fn print_changes_of(
     print_changes(text, changes.as_slice())
 }
 
-/// Prints changes, each behind a comma.
+/// Prints changes, each after a comma.
 pub fn print_changes(text: &mut String, changes: &[Change<u64>]) -> Result<(), Memory> {
     for change in changes {
         print_change(text, change)?;

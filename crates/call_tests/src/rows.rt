@@ -5,9 +5,9 @@ use seq_model::{Memory, Refusal};
 use std::alloc::Global;
 use std::fmt::Write;
 
-/// The rows, each with its answer. How many have one is said at the end. An empty row and one that begins with `#` have none. A call, and what opens a collection, are
-/// lines of a step script, of which several stand in one row with `; ` between; the script's clock is the index of a queue's first
-/// item. What is refused is answered by the refusal.
+/// The rows, each with its answer. How many have one is said at the end. An empty row and one that begins with `#` have none. A call, and
+/// what opens a collection, are lines of a step script, of which several stand in one row with `; ` between; the script's clock is the
+/// index of a queue's first item. What is refused is answered by the refusal.
 ///
 /// - `clock 5; queue 2 8` opens a collection, which takes the place of the one before.
 /// - `1 call 0 peek` is looked at: its reply, what it reads and writes, and its changes. `1 do call 0 dequeue` is made, too, on
