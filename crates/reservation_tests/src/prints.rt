@@ -12,7 +12,7 @@ pub fn say(text: &mut String, answer: &str) -> Result<(), Refusal> {
     Ok(())
 }
 
-/// Prints a number behind its name.
+/// Prints a number after its name.
 pub fn print_named(text: &mut String, name: &str, number: u64) -> Result<(), Refusal> {
     write!(text, "{name} {number}")?;
     Ok(())
@@ -26,7 +26,7 @@ fn lines_of(text: &String, lines: &[Line], tables: &Tables) -> Result<String, Re
     }
 }
 
-/// Prints what came of sessions behind the line of the row, the last line without its line feed.
+/// Prints what came of sessions after the line of the row, the last line without its line feed.
 pub fn print_lines(text: &mut String, lines: &[Line], tables: &Tables) -> Result<(), Refusal> {
     let printed = lines_of(text, lines, tables)?;
     text.push('\n')?;

@@ -10,7 +10,8 @@ use std::fmt::Write;
 use std::mem;
 use vac_model::{ActionRefusal, Tables};
 
-/// The rows, each with its answer. How many have one is said at the end. An empty row and one that begins with `#` have none. What is refused is answered by the refusal.
+/// The rows, each with its answer. How many have one is said at the end. An empty row and one that begins with `#` have none. What is
+/// refused is answered by the refusal.
 ///
 /// - `empty` opens tables that hold nothing, in the place of those before. `next 9` opens tables with one car of one unit, where 9 is
 ///   the next ticket; `line 1 0` such in whose queue of cars these tickets stand, for which nobody waits; `opening SEED OPTIONS` those
@@ -19,7 +20,7 @@ use vac_model::{ActionRefusal, Tables};
 ///   `asks UNITS COUNT` is a reservation that asks for so many units of car 1, so many times; `adds UNITS PRICE`, `takes UNITS 0` and
 ///   `drops COUNT 0` are updates that add room 1, take units of it, or drop flight 1 so many times. They are made only where they
 ///   are not allowed.
-/// - `left`: what the tables hold, as behind the sessions of a session file; then the tickets, how many were taken off the queue of
+/// - `left`: what the tables hold, as after the sessions of a session file; then the tickets, how many were taken off the queue of
 ///   each kind, the next ticket, and what both tests of balance say. `rebuilt`: the same of tables of these tables' parts.
 /// - `places 9 8`: what a customer with nine bookings and eight waits is answered for a unit that is free, and for one that is not.
 /// - `copy 1 0`: whether a customer with one booking is the same as a copy with none more.
