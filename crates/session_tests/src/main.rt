@@ -3,7 +3,7 @@
 //!
 //! They are sections of the file `stdin`, each closed by `----`: rows of text. The result of a section is printed after its name; what
 //! all must print stands in the file `stdout`. So the crate is proved once, however many sections there are. What a row may say is
-//! told at [`sections::answer_all`].
+//! stated at [`sections::answer_all`].
 #![tactic(auto)]
 
 mod print;
