@@ -24,7 +24,7 @@ pub fn ending_of(text: &str) -> (&str, End) {
     }
 }
 
-/// The bytes that a text spells: `\xff` is a byte by its two digits, and a line behind `\times 9 ` stands so many times.
+/// The bytes that a text spells: `\xff` is a byte by its two digits, and a line after `\times 9 ` stands so many times.
 pub fn bytes_of(alloc: Global, text: &str) -> Result<Vec<u8>, AllocError> {
     let mut bytes = Vec::new(alloc);
     for line in text.split_inclusive('\n') {

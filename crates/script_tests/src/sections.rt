@@ -20,10 +20,10 @@ const TIMES: u64 = 99;
 
 /// The sections, each by its name and what came of it. What is made of one stands at the end of its name.
 ///
-/// - Behind ` | ` stand the words by which the program is run over the text, and `step -` where nothing stands there. With ` > full` it
-///   writes to what takes nothing; with ` > races`, where workers race for the same items, how many sessions were missed isn't told. What
+/// - After ` | ` stand the words by which the program is run over the text, and `step -` where nothing stands there. With ` > full` it
+///   writes to what takes nothing; with ` > races`, where workers race for the same items, how many sessions were missed isn't shown. What
 ///   it printed is shown, a line that came more than 99 times with its number; then its fault, its status where that is not 0, and of what
-///   a run took the first word and the last line, or the names of its values. In the text `\xff` is a byte, and a line behind
+///   a run took the first word and the last line, or the names of its values. In the text `\xff` is a byte, and a line after
 ///   `\times 9 ` stands so many times; a text that ends with `\fails` can't be read further, and one with `\endless` has no end.
 /// - ` = script`: the text is a script, of which each line is printed as it was read.
 /// - ` = world`: the text is a script, whose events are fed to a world, as `worlds` reads it. What came of them is printed.

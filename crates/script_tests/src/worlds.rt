@@ -5,7 +5,7 @@ use std::alloc::Global;
 use step_world::{World, run_world};
 use text_formats::{EventLine, Script, parse_steps};
 
-/// Prints what has come of the events of a script, of which `A REQUEST` is a request, `A step K` is K steps, whatever they tell, and
+/// Prints what has come of the events of a script, of which `A REQUEST` is a request, `A step K` is K steps, whatever they answer, and
 /// `A starve` runs the actor out of memory: by `run_world`, and of a world that is fed them, by `trace` and then by `into_trace`.
 pub fn print_worlds(text: &mut String, lines: &str) -> Result<(), Refusal> {
     let script = parse_steps(*text.allocator(), lines.as_bytes())?;
