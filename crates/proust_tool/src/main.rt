@@ -13,7 +13,7 @@ use std::thread::Threads;
 use std::time::{Clock, Duration};
 use std::{env, io};
 
-/// So many milliseconds lie at least between two writes of the line.
+/// There are at least so many milliseconds between two writes of the line.
 const APART: u64 = 500;
 
 /// The clock is looked at after so many sessions.
@@ -91,7 +91,7 @@ fn main(rt: HostRuntime) -> ExitCode {
     ExitCode::from(status)
 }
 
-// The words behind the program's own name.
+// The words after the program's own name.
 fn words_of(rt: &HostRuntime) -> io::Result<Vec<String>> {
     let words = env::args(rt)?.skip(1).collect(rt.alloc())?;
     Ok(words)
