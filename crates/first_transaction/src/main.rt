@@ -26,7 +26,7 @@ fn main(rt: HostRuntime) -> io::Result<()> {
     }
 }
 
-/// What the two commits are told, and what the words hold then.
+/// What the two commits are answered, and what the words hold then.
 fn report(alloc: Global) -> Result<String, Refusal> {
     let (first, second, trace) = overlap(alloc)?;
     let mut text = String::new(alloc);
@@ -47,7 +47,7 @@ fn overlap(alloc: Global) -> Result<(Notice<u64>, Notice<u64>, Trace<u64>), Refu
     Ok((first, second, trace))
 }
 
-/// Both transactions, and what their commits are told.
+/// Both transactions, and what their commits are answered.
 fn both(world: &mut World<u64>) -> Result<(Notice<u64>, Notice<u64>), Memory>
     ensures { OnOk result (IsFrom two_ones world.old.parts → IsFrom two_ones world.new.parts) }
 {
@@ -75,7 +75,7 @@ fn open(alloc: Global) -> Result<World<u64>, Refusal>
     World::open(alloc, &shape, state)
 }
 
-/// Asks, and goes on by steps until the request is answered or refused.
+/// Asks, and continues by steps until the request is answered or refused.
 fn ask(world: &mut World<u64>, actor: u32, request: Request<u64>) -> Result<Notice<u64>, Memory>
     ensures { OnOk result (IsFrom two_ones world.old.parts → IsFrom two_ones world.new.parts) }
 {
