@@ -40,7 +40,7 @@ fn run<R: Runtime + AllocGlobal + Threads + Wait + Sync>(
     Ok((Outcomes::all(each.as_slice()), seconds))
 }
 
-// As the seat of this thread has it.
+// The same seed as at the seat of this thread.
 fn seed_of(thread: usize) -> u64 {
     (thread as u64).saturating_add(1)
 }

@@ -1,6 +1,6 @@
 //! Benchmarks of each layer, by name: `measure NAME` prints what one took, and `measure` alone lists the names ([`NAMES`]).
 //!
-//! Behind some names may stand numbers, which ask for one row alone:
+//! After some names may stand numbers, which ask for one row alone:
 //!
 //! - `engine KIND WRITES THREADS TRANSACTIONS`: of transactions on words (KIND 0), a map (1), a map whose number of keys is read (2), a
 //!   priority queue (3) or a queue (4), of whose calls WRITES of ten change something, in 1, 2 or 4 threads;

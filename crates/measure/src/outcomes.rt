@@ -1,4 +1,4 @@
-//! How many transactions came to what.
+//! How many transactions had which outcome.
 use seq_model::Refusal;
 
 /// How many transactions were committed, and how many were refused, by cause.

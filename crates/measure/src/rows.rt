@@ -7,7 +7,7 @@ use std::sync::Wait;
 use std::thread::Threads;
 use text_formats::Options;
 
-/// How many sessions a round has for each item of a kind, as STAMP has it: so customers have few bookings, however few items there are.
+/// How many sessions a round has for each item of a kind, like STAMP: so customers have few bookings, however few items there are.
 const SESSIONS_AN_ITEM: u32 = 4;
 
 /// Prints how many sessions a second are served of each mix, with many items and with few, of one client, two and four.

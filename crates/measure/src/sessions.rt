@@ -16,9 +16,9 @@ pub const STRIPES: u32 = 64;
 /// How many queries a session has, how many percent of the ids are named, and how many percent of the sessions are reservations.
 #[derive(Clone, Copy)]
 pub enum Mix {
-    /// Few conflicts, as STAMP's `vacation-low` has it: 2, 90 and 98.
+    /// Few conflicts, like STAMP's `vacation-low`: 2, 90 and 98.
     Low,
-    /// More of them, as its `vacation-high` has it: 4, 60 and 90.
+    /// More of them, like its `vacation-high`: 4, 60 and 90.
     High,
     /// Long sessions: 10, 90 and 90.
     Long,
