@@ -129,7 +129,7 @@ module _ {V J : Type 0} where
       omega (arith, length-append (missed_of l) (missed_of r), sum_by-append (λ (w : ℕ × List J). length w.1) (works l) (works r))
 
 module _ {V J : Type 0} (asks : J → List (Reply V) → Ask V → Type 0) (t : TxTable V) (tries : ℕ) where
-  -- ---- a tree and its report, with that of the lists behind it
+  -- ---- a tree and its report, with that of the lists after it
   reports_left : (tree : Tree V J) (took : Took V) (ws : List (ℕ × List J)) (rs : List (List (Record V))) (ms : List (ℕ × ℕ × LastAbort))
       (rest : Took V) → AreLeft tree → All (λ (e : ℕ × List (Turn V)). e.1 ≡ []) took → Reports asks t tries [] ws rs ms rest
       → Reports asks t tries [] (works tree ++ ws) (lists_of tree ++ rs) (missed_of tree ++ ms) (took ++ rest)
@@ -217,7 +217,7 @@ module _ {V J : Type 0} (asks : J → List (Reply V) → Ask V → Type 0) (t : 
       ⊎_elim (few_missed_of r b [] turns of_second) (λ (k : AreLeft r × (turns ≡ []) × (of_second ≡ [])). few_left r k.0) second in
       omega (arith, length-append (missed_of l) (missed_of r), sum_by-append (λ (w : ℕ × List J). length w.1) (works l) (works r))
 
-  -- the actor of the first list went on
+  -- the actor of the first list continued
   goes_on : (tree : Tree V J) (a : ℕ) (before after more : List (Turn V)) (others : Took V)
       → AreDone asks t tries tree a before after others
       → AreDone asks t tries tree a before (after ++ more) others

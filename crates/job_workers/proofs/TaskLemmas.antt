@@ -97,7 +97,7 @@ module _ {V : Type 0} where
   none_more receipts after none more = more ∙ (append-nil receipts ∙ none)
 
 module _ {J : Type 0} where
-  -- the first jobs and the one behind them
+  -- the first jobs and the one after them
   next_job : (jobs : List J) (n : ℕ) (job : J) → n < length jobs → job ≡ get_or jobs n job → take (n + 1) jobs ≡ take n jobs ++ job ∷ []
   next_job jobs n job lt at = take_more jobs n job lt ∙ ap (λ (j : J). take n jobs ++ j ∷ []) (sym at)
 
@@ -191,7 +191,7 @@ module _ {V J : Type 0} (asks : J → List (Reply V) → Ask V → Type 0) (t : 
       → AreTriedBy asks t tries a before after jobs os → length os ≡ length jobs
   many_by a before after jobs os h = many_tried jobs os h.first h.last h.tried
 
-  -- the actor went on
+  -- the actor continued
   pub longer : (a : ℕ) (before after more : List (Turn V)) (task : Task V J) → IsDone asks t tries a before after task
       → IsDone asks t tries a before (after ++ more) task
   longer a before after more task h =

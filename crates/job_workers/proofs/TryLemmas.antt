@@ -66,7 +66,7 @@ module _ {V : Type 0} (asks : List (Reply V) → Ask V → Type 0) (t : TxTable 
         gains = inr (gains_one n s m u one.0 rests one.1 h.gains);
       }
 
-  -- and the next one came to this
+  -- and this was the result of the next one
   comes_after : (n : ℕ) (s m u : Seat V) (r : Result (Attempt V) Refusal) → InVain n s m → AttemptsTo asks (opening_of t) m u r
       → ComesAfter asks t n s m u r
   comes_after n s m u r h comes =

@@ -81,8 +81,8 @@ module _ {V J : Type 0} (asks : J → List (Reply V) → Ask V → Type 0) (t : 
       × Reports [] ws others later rest
 
   -- Each job of each list has one receipt, of an attempt of that job, in the order of its list, or stands once among those that were
-  -- missed, with what so many attempts of it came to. The attempts of the first list are turns of the seat's own actor, which led it from s
-  -- to u; those of each other list are turns of an actor whose seat was joined into it.
+  -- missed, with the result of so many attempts of it. The attempts of the first list are turns of the seat's own actor, which led it from
+  -- s to u; those of each other list are turns of an actor whose seat was joined into it.
   pub record IsReportOf (s u : TxSeat V) (lists : List (List J)) (report : Report V) : Type 0 where
     pub others : Took V
     pub joined : GetsJoined s u others

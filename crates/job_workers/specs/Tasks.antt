@@ -52,7 +52,7 @@ module _ {V : Type 0} where
     pub same : actor u.seat ≡ actor s.seat
     pub joined : (view u.seat).joined ≡ (view s.seat).joined ++ others
 
-  -- What at most so many attempts of a job came to. They led the seat from s to u, which is ready for others, without a transaction.
+  -- What at most so many attempts of a job resulted in. They led the seat from s to u, which is ready for others, without a transaction.
   pub record IsTried (asks : List (Reply V) → Ask V → Type 0) (t : TxTable V) (tries : ℕ) (s u : TxSeat V) (o : Outcome V) : Type 0 where
     pub ready : IsReady t u
     pub rests : standing (opening_of t) u.seat ≡ Rests

@@ -34,8 +34,8 @@ module _ {V : Type 0} (asks : List (Reply V) → Ask V → Type 0) (t : TxTable 
   AreInVain s (cause ∷ causes) u =
       (m : Seat V) × AreInVain s causes m × AttemptsTo asks (opening_of t) m u (Err cause) × IsTransient cause
 
-  -- So many attempts were in vain, and led from s to m; there the next one came to this, and led to u. Where there were some, the aborted
-  -- transactions of the own world of m are those of that of s, then the one that was open at s, if one was, and then one for each attempt.
+  -- So many attempts were in vain, and led from s to m; there the next one had this result, and led to u. Where there were some, the
+  -- aborted transactions of the world with m alone are those of that with s, then the one open at s, if any, then one for each attempt.
   pub record ComesAfter (n : ℕ) (s m u : Seat V) (r : Result (Attempt V) Refusal) : Type 0 where
     pub causes : List Refusal
     pub many : length causes ≡ n
@@ -65,14 +65,14 @@ module _ {V : Type 0} (asks : List (Reply V) → Ask V → Type 0) (t : TxTable 
     pub at : Seat V
     pub last : ComesAfter before s at u (Err cause)
 
-  -- In the last attempt the job gave up.
+  -- In the last attempt the job aborted its transaction.
   pub record GivesUpLast (tries : ℕ) (s u : Seat V) : Type 0 where
     pub before : ℕ
     pub few : before < tries
     pub at : Seat V
     pub last : ComesAfter before s at u (Ok GivenUp)
 
-  -- the last of at most so many attempts ended so: it was refused, or its job gave up; one was made
+  -- the last of at most so many attempts ended so: it was refused, or its job aborted; one was made
   abbrev pub EndsInVain : ℕ → Seat V → Seat V → LastAbort → Type 0
   EndsInVain tries s u (last.Refused cause) = IsRefusedLast tries s u cause
   EndsInVain tries s u last.GivenUp = GivesUpLast tries s u

@@ -91,8 +91,7 @@ pub(crate) fn retry_in<V: Value, J: Job<V>, P: Pause>(
 /// seat from then on.
 ///
 /// `Refused` as the last attempt was: after an attempt that others stood in the way of comes the next, any other refusal is the last.
-/// `GivenUp` where the job itself aborted its transaction; never `NotStarted`. The seat gains no receipt then. In the end it has no
-/// transaction.
+/// `GivenUp` where the job aborted its transaction; never `NotStarted`. The seat gains no receipt then. In the end it has no transaction.
 pub fn retry<V: Value, J: Job<V>, P: Pause>(
     table: &TxTable<V>,
     seat: &mut TxSeat<V>,

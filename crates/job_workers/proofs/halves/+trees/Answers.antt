@@ -100,7 +100,7 @@ run_tree-returns-in-Both g t c =
       );
     }
 
--- A closure is called where what it asks of its captures holds: it stands before the bounds on types there, and behind them here.
+-- A closure is called where what it asks of its captures holds: it stands before the bounds on types there, and after them here.
 pub fn::both::fn::scope::spawn_with+FnOnce::call_once-spawn_with-requires :
     goal.fn::both::fn::scope::spawn_with+FnOnce::call_once-spawn_with-requires
 fn::both::fn::scope::spawn_with+FnOnce::call_once-spawn_with-requires g t c κs within =
