@@ -1,7 +1,7 @@
 -- Receipts of a run are audited without a fault, in whatever order they are handed in.
 --
 -- An audit takes records by number, at one number the writer first: so by a key that rises (`key`). In commit order the key of a writer is
--- below those behind it. So what stands before a record there, and behind it or beside it in the order of the audit, has its number and is
+-- below those after it. So what stands before a record there, and after it or beside it in the order of the audit, has its number and is
 -- a reader, and so is the record, or nothing stands before it: taken out of its place and put first it finds the same state, and leaves it
 -- to the others (`taken_out`). Record by record one order becomes the other (`permuted`).
 use Rattle.std.proofs.Common.{◌≡◌, ℕ, suc, ◌+◌, ◌*◌, ◌<◌, ◌≤◌, Bool, true, false, cond, List, [], ◌∷◌, ◌++◌, take, drop}

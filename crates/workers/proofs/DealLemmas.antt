@@ -1,5 +1,5 @@
 -- Items are dealt out, or gathered, one after another.
--- How long a list waits for its next item tells whether the next one is its own: each item shortens the wait by one, and the list that got
+-- How long a list waits for its next item shows whether the next one is its own: each item shortens the wait by one, and the list that got
 -- one waits for all others (`waits_on`). So one item more is one more for the list whose turn it is, and leaves the others as they were.
 use Rattle.std.proofs.Common.{◌≡◌, ◌≢◌, ◌∙◌, refl, sym, ap, subst, ℕ, zero, suc, ◌+◌, ◌-◌, ◌<◌, ◌≤◌, ◌⊎◌, inl, inr, List, [], ◌∷◌, ◌++◌}
 use Rattle.std.proofs.Common.{length, get_or, set, arith}

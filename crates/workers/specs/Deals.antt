@@ -8,14 +8,14 @@ use Rattle.std.specs.declared.collections.vec_deque.VecDeque.{VecDeque}
 abbrev pub IsNext : ℕ → ℕ → ℕ → Type 0
 IsNext n turn next = ((turn + 1 < n) × (next ≡ turn + 1)) ⊎ ((turn + 1 ≡ n) × (next ≡ 0))
 
--- how many of so many items stand behind the first k, every n-th being counted
+-- how many of so many items stand after the first k, every n-th being counted
 abbrev pub shares : ℕ → ℕ → ℕ → ℕ
 shares n k zero = 0
 shares n zero (suc more) = suc (shares n (n - 1) more)
 shares n (suc k) (suc more) = shares n k more
 
 module _ {A : Type 0} where
-  -- behind the first k items every n-th one
+  -- after the first k items every n-th one
   abbrev pub every : ℕ → ℕ → List A → List A
   every n k [] = []
   every n zero (x ∷ xs) = x ∷ every n (n - 1) xs

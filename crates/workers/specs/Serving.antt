@@ -89,14 +89,14 @@ pub record AreRun (tables : Holdings) (receipts : List (Action × Record Entry))
   pub left : s ≡ after_run order (state_of tables)
 
 -- The table was closed with this seat, and s is what it held then: what the receipts of the seat leave. They are all records of a world
--- that events have reached, in which the seat's actor, and each actor whose seat was joined into it, is as its turns have it.
+-- that events have reached, in which the seat's actor, and each actor whose seat was joined into it, is as its turns left it.
 pub record ClosesWith (table : TxTable Entry) (seat : TxSeat Entry) (s : Contents Entry) : Type 0 where
   pub closed : Closed Entry
   pub left : IsLeftBy (contents_in table) (view seat.seat).receipts closed
   pub shows : ShowsWorld (opening_of table) (actor seat.seat) (view seat.seat) (row_of closed) (map some (homes_of closed))
   pub state : s ≡ held_by closed
 
--- the same, as it is known between the close and what is told of it
+-- the same, as it is known between the close and what is stated of it
 unfoldable pub IsClosedWith : TxTable Entry → TxSeat Entry → Contents Entry → Type 0
 IsClosedWith table seat s = ClosesWith table seat s
 
@@ -117,7 +117,7 @@ pub record RanAndClosed (table : TxTable Entry) (tries : ℕ) (lists : List (Lis
 unfoldable pub WereRun : TxTable Entry → ℕ → List (List Action) → Report Entry → Contents Entry → Type 0
 WereRun table tries lists report s = RanAndClosed table tries lists report s
 
--- Each action of each list has one receipt, or stands among the missed with what so many attempts of it came to, on a table that opened on
+-- Each action of each list has one receipt, or stands among the missed with the result of so many attempts of it, on a table that opened on
 -- these tables, with clock 0 and so many stripes for each of the five maps and three queues. The receipts are a run of their actions in
 -- commit order, and for an audit, which is given them one worker's after another's; and the tables are what they leave, balanced.
 pub record IsServed (tables : Holdings) (stripes : ℕ) (lists : List (List Action)) (tries : ℕ) (served : Served) : Type 0 where
