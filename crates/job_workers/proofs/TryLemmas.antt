@@ -46,12 +46,14 @@ module _ {V : Type 0} (asks : List (Reply V) → Ask V → Type 0) (t : TxTable 
       → ((n ≡ 0) × (m ≡ s)) ⊎ GainsEach n s m → GainsEach (n + 1) s u
   gains_one n s m u e rests one (inl none) =
       let zero = none.0 in
-      (rests, e ∷ [], omega (arith, zero), subst (λ (k : Seat V). Aborts (opening_of t) k u (e ∷ [])) none.1 one)
+      (rests, (e ∷ [], omega (arith, zero), subst (λ (k : Seat V). Aborts (opening_of t) k u (e ∷ [])) none.1 one))
   gains_one n s m u e rests one (inr each) = (
     rests,
-    each.1.0 ++ e ∷ [],
-    length-append each.1.0 (e ∷ []) ∙ ap (λ (k : ℕ). k + 1) each.1.1.0,
-    aborts_then (opening_of t) s m u each.1.0 (e ∷ []) each.1.1.1 (one.1 each.0),
+    (
+      each.1.0 ++ e ∷ [],
+      length-append each.1.0 (e ∷ []) ∙ ap (λ (k : ℕ). k + 1) each.1.1,
+      aborts_then (opening_of t) s m u each.1.0 (e ∷ []) each.1.2 (one.1 each.0),
+    ),
   )
 
   pub one_more : (n : ℕ) (s m u : Seat V) (cause : Refusal) → InVain n s m → IsTransient cause
