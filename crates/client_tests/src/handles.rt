@@ -1,147 +1,123 @@
-//! Handles that a store doesn't have: their calls are refused, and the transaction goes on.
-use crate::bodies::held;
-use crate::stores::{Handles, handles_beyond, handles_of, open};
+//! The stores, and the handles by which rows call them: their own, and some that they don't have.
+use crate::numbers::Number;
 use std::alloc::Global;
-use std::fmt::Write;
 use wolimevar::{
-    Bag, Body, Counts, Entries, Layout, Map, PriorityQueue, Queue, QueueItems, Refusal, Scope,
-    Store, Transaction, Word,
+    Bag, Counts, Layout, Map, Memory, PriorityQueue, Queue, QueueItems, Refusal, Store, Word,
 };
 
-/// A handle of any kind.
-#[derive(Clone, Copy)]
-enum Handle {
-    Word(Word),
-    Map(Map<u64>),
-    Bag(Bag),
-    PriorityQueue(PriorityQueue),
-    Queue(Queue),
+/// The most copies of an element.
+const COPIES: u64 = 4_294_967_295;
+
+/// Words, a collection of each kind, and two in which 7 has the most copies that it can have.
+#[derive(Drop)]
+#[derive_where(Clone, Copy)]
+pub struct Handles<V> {
+    pub words: [Word; 3],
+    pub map: Map<V>,
+    pub bag: Bag,
+    pub least: PriorityQueue,
+    pub queue: Queue,
+    pub full_bag: Bag,
+    pub full_least: PriorityQueue,
 }
 
-impl Handle {
-    /// What refuses a change by this handle.
-    fn change<S: Scope<u64>>(self, tx: &mut Transaction<'_, u64, S>) -> Option<Refusal> {
-        match self {
-            Handle::Word(word) => word.write(tx, 9).err(),
-            Handle::Map(map) => map.put(tx, 1, 9).err(),
-            Handle::Bag(bag) => bag.add(tx, 9).err(),
-            Handle::PriorityQueue(queue) => queue.insert(tx, 9).err(),
-            Handle::Queue(queue) => queue.enqueue(tx, 9).err(),
+/// The handles of a store, and those of another store, beyond the layout, and of another kind.
+#[derive(Drop)]
+pub struct All<V> {
+    pub own: Handles<V>,
+    pub other: Handles<V>,
+    pub beyond: Handles<V>,
+    pub reversed: Handles<V>,
+}
+
+impl<V> All<V> {
+    /// The handles that a word names, and which of them: `other.map` is the map of another store, and `map` the store's own.
+    pub fn named<'a>(&'a self, word: &'a str) -> (&'a Handles<V>, &'a str) {
+        match word.split_once('.') {
+            Some(("other", name)) => (&self.other, name),
+            Some(("beyond", name)) => (&self.beyond, name),
+            Some(("reversed", name)) => (&self.reversed, name),
+            _ => (&self.own, word),
         }
     }
 }
 
-/// A word is increased, a change made by a handle, and the word increased again. It gives what refused the change.
-#[derive(Drop)]
-struct Trial(Word, Handle);
-
-impl Body<u64> for Trial {
-    type Out = Option<Refusal>;
-
-    type Error = Refusal;
-
-    fn run<S: Scope<u64>>(&self, tx: &mut Transaction<'_, u64, S>) -> Result<Self::Out, Refusal> {
-        let before = self.0.read(tx)?;
-        self.0.write(tx, before.saturating_add(1))?;
-        let refused = self.1.change(tx);
-        let between = self.0.read(tx)?;
-        self.0.write(tx, between.saturating_add(1))?;
-        Ok(refused)
-    }
+fn full(alloc: Global) -> Result<Counts, Memory> {
+    let mut counts = Counts::new(alloc);
+    counts.set_copies(7, COPIES)?;
+    Ok(counts)
 }
 
-fn all(handles: Handles) -> [Handle; 5] {
-    [
-        Handle::Word(handles.beside),
-        Handle::Map(handles.map),
-        Handle::Bag(handles.bag),
-        Handle::PriorityQueue(handles.least),
-        Handle::Queue(handles.queue),
-    ]
+fn words<V: Number>(layout: &mut Layout<V>) -> Result<[Word; 3], Refusal> {
+    Ok([layout.word(0)?, layout.word(0)?, layout.word(3)?])
 }
 
-fn lay_out_reversed(alloc: Global, layout: &mut Layout<u64>) -> Result<[Handle; 4], Refusal> {
-    Ok([
-        Handle::Queue(layout.queue(1, QueueItems::new(alloc))?),
-        Handle::PriorityQueue(layout.priority_queue(1, Counts::new(alloc))?),
-        Handle::Bag(layout.bag(1, Counts::new(alloc))?),
-        Handle::Map(layout.map(1, Entries::new(alloc))?),
-    ])
+fn lay_out<V: Number>(alloc: Global, layout: &mut Layout<V>) -> Result<Handles<V>, Refusal> {
+    Ok(Handles {
+        words: words(layout)?,
+        map: layout.map(2, V::entries(alloc)?)?,
+        bag: layout.bag(2, Counts::new(alloc))?,
+        least: layout.priority_queue(2, Counts::new(alloc))?,
+        queue: layout.queue(1, QueueItems::new(alloc))?,
+        full_bag: layout.bag(1, full(alloc)?)?,
+        full_least: layout.priority_queue(1, full(alloc)?)?,
+    })
 }
 
-/// A handle of each kind of collection, in the other order.
-fn reversed(alloc: Global) -> Result<[Handle; 4], Refusal> {
-    let mut layout = Layout::new(alloc);
-    let handles = lay_out_reversed(alloc, &mut layout);
+/// In another order, so that each collection has the number of one of another kind.
+fn lay_out_reversed<V: Number>(
+    alloc: Global,
+    layout: &mut Layout<V>,
+) -> Result<Handles<V>, Refusal> {
+    Ok(Handles {
+        words: words(layout)?,
+        queue: layout.queue(1, QueueItems::new(alloc))?,
+        least: layout.priority_queue(1, Counts::new(alloc))?,
+        bag: layout.bag(1, Counts::new(alloc))?,
+        map: layout.map(1, V::entries(alloc)?)?,
+        full_least: layout.priority_queue(1, full(alloc)?)?,
+        full_bag: layout.bag(1, full(alloc)?)?,
+    })
+}
+
+fn lay_out_twice<V: Number>(alloc: Global, layout: &mut Layout<V>) -> Result<Handles<V>, Refusal> {
+    lay_out(alloc, layout)?;
+    lay_out(alloc, layout)
+}
+
+/// How a layout is laid out.
+#[derive(Clone, Copy)]
+enum Order {
+    Own,
+    Reversed,
+    Twice,
+}
+
+/// Handles of a store of this number, which is never opened.
+fn handles_of<V: Number>(alloc: Global, number: u32, order: Order) -> Result<Handles<V>, Refusal> {
+    let mut layout = Layout::numbered(alloc, number);
+    let handles = match order {
+        Order::Own => lay_out(alloc, &mut layout),
+        Order::Reversed => lay_out_reversed(alloc, &mut layout),
+        Order::Twice => lay_out_twice(alloc, &mut layout),
+    };
     drop(layout);
     handles
 }
 
-fn refused(store: &mut Store<u64>, word: Word, handle: Handle) -> Result<Option<Refusal>, Refusal> {
-    let (refused, _) = store.atomically(1, &Trial(word, handle))?;
-    Ok(refused)
+/// All handles for a store of this number.
+pub fn all_of<V: Number>(alloc: Global, number: u32) -> Result<All<V>, Refusal> {
+    Ok(All {
+        own: handles_of(alloc, number, Order::Own)?,
+        other: handles_of(alloc, number.saturating_add(1), Order::Own)?,
+        beyond: handles_of(alloc, number, Order::Twice)?,
+        reversed: handles_of(alloc, number, Order::Reversed)?,
+    })
 }
 
-/// What changes by these handles answer, and what the word holds then, two more for each transaction.
-fn say(
-    text: &mut String,
-    store: &mut Store<u64>,
-    name: &str,
-    word: Word,
-    handles: &[Handle],
-) -> Result<(), Refusal> {
-    write!(text, "{name} =")?;
-    for handle in handles {
-        match refused(store, word, *handle)? {
-            Some(refusal) => write!(text, " {refusal}")?,
-            None => write!(text, " Ok")?,
-        }
-    }
-    writeln!(text, ", word {}", held(store, word)?)?;
-    Ok(())
-}
-
-pub fn test(
-    alloc: Global,
-    text: &mut String,
-    store: &mut Store<u64>,
-    own: Handles,
-) -> Result<(), Refusal> {
-    let word = own.tried;
-    say(text, store, "own handles", word, &all(own))?;
-    say(
-        text,
-        store,
-        "handles of another kind",
-        word,
-        &reversed(alloc)?,
-    )?;
-    say(
-        text,
-        store,
-        "handles beyond the layout",
-        word,
-        &all(handles_beyond(alloc)?),
-    )?;
-    say(
-        text,
-        store,
-        "handles of another store",
-        word,
-        &all(handles_of(alloc, 1)?),
-    )
-}
-
-/// Handles of the first store at another one.
-pub fn test_another(alloc: Global, text: &mut String, others: Handles) -> Result<(), Refusal> {
-    let (mut store, own) = open(alloc, 1)?;
-    let said = say(
-        text,
-        &mut store,
-        "handles of the first store",
-        own.tried,
-        &all(others),
-    );
-    drop(store);
-    said
+/// A store of this number.
+pub fn open<V: Number>(alloc: Global, number: u32) -> Result<Store<V>, Refusal> {
+    let mut layout = Layout::numbered(alloc, number);
+    lay_out(alloc, &mut layout)?;
+    layout.open()
 }

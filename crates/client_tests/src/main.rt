@@ -1,60 +1,41 @@
-//! Tests of `wolimevar`, above all on what it refuses: handles, layouts, bodies, values and sessions. Each section prints one line, and
-//! what all must print stands in the file `stdout`.
+//! Tests of `wolimevar`, above all on what it refuses: handles, layouts, bodies, values and sessions.
 //!
-//! Most sections run on one store, which `main` opens and lends to them: [`stores`] says what it holds.
+//! They are rows of text in the file `stdin`, one test a row, each of which is printed with its answer; what all must answer stands in the
+//! file `stdout`. So the crate is proved once, however many rows there are. [`rows::answer_all`] lists what a row may be.
 #![tactic(auto)]
 
-mod aborts;
-mod bodies;
-mod copies;
-mod ends;
+mod contents;
 mod handles;
-mod limits;
+mod layouts;
 mod numbers;
 mod refusals;
+mod rows;
+mod scripts;
 mod sessions;
-mod stores;
+mod steps;
 mod values;
 
-use std::alloc::Global;
+use rows::answer_all;
+use std::io;
+use std::process::ExitCode;
 use std::thread::Threads;
-use stores::{Handles, open};
-use wolimevar::{Refusal, Store};
 
-/// The sections on one store.
-fn test_store<R: Threads + Sync>(
-    rt: &R,
-    alloc: Global,
-    text: &mut String,
-    store: &mut Store<u64>,
-    handles: Handles,
-) -> Result<(), Refusal> {
-    ends::test_calls(text, store, handles)?;
-    numbers::test(rt, alloc, text, store, handles)?;
-    handles::test(alloc, text, store, handles)?;
-    limits::test_calls(text, store, handles)?;
-    aborts::test(alloc, text, store, handles)?;
-    sessions::test(rt, alloc, text, store, handles)
-}
+/// The status of a run that could not read its rows or print its answers.
+const FAILED: u8 = 1;
 
-/// All sections, up to one that fails.
-fn test<R: Threads + Sync>(rt: &R, alloc: Global, text: &mut String) -> Result<(), Refusal> {
-    let (mut store, handles) = open(alloc, 0)?;
-    let tested = test_store(rt, alloc, text, &mut store, handles);
-    let closed = ends::test_closed(alloc, text, store.close(), handles);
-    tested?;
-    closed?;
-    handles::test_another(alloc, text, handles)?;
-    limits::test(alloc, text)?;
-    copies::test(rt, alloc, text)?;
-    values::test(alloc, text)?;
-    refusals::test(text)
-}
-
-fn main(rt: HostRuntime) -> std::io::Result<()> {
-    let mut text = String::new(rt.alloc());
-    if let Err(refusal) = test(&rt, rt.alloc(), &mut text) {
-        println!(rt; "failed: {refusal}")?;
+fn main(rt: HostRuntime) -> ExitCode {
+    match run(&rt, &rt) {
+        Ok(()) => ExitCode::from(0),
+        Err(_) => ExitCode::from(FAILED),
     }
-    print!(rt; "{text}")
+}
+
+// The handle on threads is the runtime, too. All is answered before anything is printed.
+fn run<H: Threads + Sync>(threads: &H, rt: &HostRuntime) -> io::Result<()> {
+    let rows = io::read_to_string(rt.alloc(), rt.stdin())?;
+    let mut text = String::new(rt.alloc());
+    match answer_all(threads, rt.alloc(), &mut text, rows.as_str()) {
+        Ok(()) => rt.print(text.as_str()),
+        Err(_) => Err(io::Error::from(io::ErrorKind::OutOfMemory)),
+    }
 }

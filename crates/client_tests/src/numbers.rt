@@ -1,75 +1,65 @@
-//! Numbers of commits, which a store or a client learns.
-use crate::bodies::commit_one;
-use crate::stores::Handles;
+//! The values that the maps of these stores hold, each spelled by a number.
 use std::alloc::Global;
-use std::fmt::Write;
-use std::thread::Threads;
-use wolimevar::{Client, Refusal, Scope, Session, Store};
+use wolimevar::{Entries, Memory, Value};
 
-/// What refuses two numbers, and the last number then.
-type Learnt = ([Option<Refusal>; 2], u64);
+/// A value that a number spells.
+pub trait Number: Value {
+    fn of(number: u64) -> Self;
 
-/// A client learns two numbers.
+    fn number(&self) -> u64;
+
+    /// What the map of a store holds at first.
+    fn entries(alloc: Global) -> Result<Entries<Self>, Memory>;
+}
+
+impl Number for u64 {
+    fn of(number: u64) -> u64 {
+        number
+    }
+
+    fn number(&self) -> u64 {
+        *self
+    }
+
+    fn entries(alloc: Global) -> Result<Entries<u64>, Memory> {
+        Ok(Entries::new(alloc))
+    }
+}
+
+/// A number that can't be copied where it is 13.
 #[derive(Drop)]
-struct Learner([u64; 2]);
-
-impl Session<u64> for Learner {
-    type Out = Learnt;
-
-    fn serve<S: Scope<u64>>(self, client: &mut Client<'_, u64, S>) -> Learnt {
-        let first = client.learn(self.0[0]).err();
-        let second = client.learn(self.0[1]).err();
-        ([first, second], client.last_number())
-    }
+pub struct Brittle {
+    number: u64,
 }
 
-fn say(text: &mut String, who: &str, learnt: Learnt) -> Result<(), Refusal> {
-    write!(text, "{who} learns =")?;
-    for refused in learnt.0 {
-        match refused {
-            Some(refusal) => write!(text, " {refusal},")?,
-            None => write!(text, " learnt,")?,
+impl Value for Brittle {
+    fn try_copy(&self) -> Result<Brittle, Memory> {
+        if self.number == 13 {
+            return Err(Memory);
         }
+        Ok(Brittle {
+            number: self.number,
+        })
     }
-    writeln!(text, " last number {}", learnt.1)?;
-    Ok(())
-}
 
-fn say_all(text: &mut String, outs: &[Learnt]) -> Result<(), Refusal> {
-    for learnt in outs {
-        say(text, "a client", *learnt)?;
+    fn same(&self, other: &Brittle) -> bool {
+        self.number == other.number
     }
-    Ok(())
 }
 
-/// What two clients learn, each in a thread.
-fn run_both<R: Threads + Sync>(
-    rt: &R,
-    alloc: Global,
-    store: &mut Store<u64>,
-    last: u64,
-) -> Result<Vec<Learnt>, Refusal> {
-    let beyond = last.saturating_add(1);
-    let both = vec![in alloc; Learner([beyond, 1]), Learner([last, beyond])]?;
-    store.run(rt, both)
-}
+impl Number for Brittle {
+    fn of(number: u64) -> Brittle {
+        Brittle { number }
+    }
 
-pub fn test<R: Threads + Sync>(
-    rt: &R,
-    alloc: Global,
-    text: &mut String,
-    store: &mut Store<u64>,
-    handles: Handles,
-) -> Result<(), Refusal> {
-    let first = commit_one(store, handles.numbered)?;
-    let last = commit_one(store, handles.numbered)?;
-    let refused = [
-        store.learn(first).err(),
-        store.learn(last.saturating_add(1)).err(),
-    ];
-    say(text, "a store", (refused, store.last_number()))?;
-    let outs = run_both(rt, alloc, store, last)?;
-    let said = say_all(text, outs.as_slice());
-    drop(outs);
-    said
+    fn number(&self) -> u64 {
+        self.number
+    }
+
+    fn entries(alloc: Global) -> Result<Entries<Brittle>, Memory> {
+        let mut entries = Entries::new(alloc);
+        entries.insert(1, Brittle { number: 13 })?;
+        entries.insert(2, Brittle { number: 5 })?;
+        Ok(entries)
+    }
 }

@@ -1,6 +1,7 @@
-//! Which refusals are conflicts, and what each explains.
+//! Which refusals are conflicts, and what each explains; and how failures are printed.
+use std::alloc::AllocError;
 use std::fmt::Write;
-use wolimevar::Refusal;
+use wolimevar::{Failure, Refusal};
 
 const REFUSALS: [Refusal; 13] = [
     Refusal::Moved {
@@ -31,7 +32,8 @@ const REFUSALS: [Refusal; 13] = [
     Refusal::BadText { line: 1 },
 ];
 
-pub fn test(text: &mut String) -> Result<(), Refusal> {
+/// Prints each with its kind and what it explains.
+pub fn print_explained(text: &mut String) -> Result<(), AllocError> {
     for refusal in &REFUSALS {
         let kind = if refusal.is_conflict() {
             "conflict"
@@ -41,4 +43,14 @@ pub fn test(text: &mut String) -> Result<(), Refusal> {
         writeln!(text, "{refusal} = {kind}, {}", refusal.explain())?;
     }
     Ok(())
+}
+
+/// Prints a failure of each kind, for a user and for a programmer.
+pub fn print_failures(text: &mut String) -> Result<(), AllocError> {
+    let refused: Failure<u64> = Failure::Refused(Refusal::NoSuch);
+    let aborted: Failure<u64> = Failure::Aborted(7);
+    writeln!(
+        text,
+        "failures = {refused} {refused:?}, {aborted} {aborted:?}"
+    )
 }

@@ -1,89 +1,168 @@
-//! Sessions on threads: too many of them, as many as there can be, and two that wait for each other.
-use crate::bodies::{Increase, Read, TRIES, held};
-use crate::stores::Handles;
-use std::alloc::Global;
+//! Sessions that a row spells, each in a thread of its own.
+use crate::handles::All;
+use crate::numbers::Number;
+use crate::scripts::{Ran, Script, print_ran, run_at_client};
+use crate::steps::number_of;
+use std::alloc::{AllocError, Global};
 use std::fmt::Write;
 use std::thread::{Threads, yield_now};
-use wolimevar::{Client, Memory, Refusal, Scope, Session, Store, Word};
+use wolimevar::{Client, Refusal, Scope, Session, Store, Tally};
 
-/// Increases a word, and then waits until it holds so many. It gives whether it came to that.
-#[derive(Clone, Copy)]
-struct Guest {
-    word: Word,
-    waits_for: u64,
+/// How often a client looks at most while it waits.
+const LOOKS: u64 = 10_000_000;
+
+/// What a client does, part by part: a row of its own, `learn N`, `tally`, `quietly STEPS`, which prints only what refused them, or
+/// `wait N STEP`, up to where the step answers N or more.
+#[derive(Drop)]
+#[derive_where(Clone, Copy)]
+struct Guest<'a, V> {
+    alloc: Global,
+    all: &'a All<V>,
+    parts: &'a str,
 }
 
-impl Session<u64> for Guest {
-    type Out = bool;
+impl<V: Number> Session<V> for Guest<'_, V> {
+    type Out = Result<String, AllocError>;
 
-    fn serve<S: Scope<u64>>(self, client: &mut Client<'_, u64, S>) -> bool {
-        if client.atomically(TRIES, &Increase(self.word)).is_err() {
-            return false;
-        }
-        for _ in 0..10_000_000u64 {
-            match client.look(TRIES, &Read(self.word)) {
-                Ok((held, _)) if held >= self.waits_for => return true,
-                Ok(_) => yield_now(),
-                Err(_) => return false,
-            }
-        }
-        false
+    fn serve<S: Scope<V>>(self, client: &mut Client<'_, V, S>) -> Result<String, AllocError> {
+        let mut text = String::new(self.alloc);
+        self.serve_all(&mut text, client)?;
+        Ok(text)
     }
 }
 
-fn guests(alloc: Global, guest: Guest, count: u64) -> Result<Vec<Guest>, Memory> {
-    let mut guests = Vec::new(alloc);
+impl<V: Number> Guest<'_, V> {
+    fn serve_all<S: Scope<V>>(
+        &self,
+        text: &mut String,
+        client: &mut Client<'_, V, S>,
+    ) -> Result<(), AllocError> {
+        for part in self.parts.split(" / ") {
+            let before = text.len();
+            self.serve_part(text, client, part)?;
+            if text.len() > before {
+                text.push_str(" / ")?;
+            }
+        }
+        Ok(())
+    }
+
+    fn serve_part<S: Scope<V>>(
+        &self,
+        text: &mut String,
+        client: &mut Client<'_, V, S>,
+        part: &str,
+    ) -> Result<(), AllocError> {
+        let (verb, rest) = part.split_once(' ').unwrap_or((part, ""));
+        match verb {
+            "learn" => {
+                let learnt = client.learn(number_of(rest));
+                print_learnt(text, learnt, client.last_number())
+            }
+            "tally" => print_tally(text, client.tally()),
+            "wait" => self.wait(text, client, rest),
+            "quietly" => match self.ran(client, "do", rest) {
+                Ok(_) => Ok(()),
+                ended => print_ran(text, &ended),
+            },
+            _ => print_ran(text, &self.ran(client, verb, rest)),
+        }
+    }
+
+    fn ran<S: Scope<V>>(&self, client: &mut Client<'_, V, S>, verb: &str, steps: &str) -> Ran {
+        let script = Script {
+            alloc: self.alloc,
+            all: self.all,
+            steps,
+        };
+        run_at_client(client, verb, &script)
+    }
+
+    fn wait<S: Scope<V>>(
+        &self,
+        text: &mut String,
+        client: &mut Client<'_, V, S>,
+        waited: &str,
+    ) -> Result<(), AllocError> {
+        let (number, step) = waited.split_once(' ').unwrap_or((waited, ""));
+        for _ in 0..LOOKS {
+            if self.shows(client, step, number_of(number)) {
+                return Ok(());
+            }
+            yield_now();
+        }
+        text.push_str("waited in vain")
+    }
+
+    fn shows<S: Scope<V>>(&self, client: &mut Client<'_, V, S>, step: &str, number: u64) -> bool {
+        match self.ran(client, "look", step) {
+            Ok((replies, _, _)) => number_of(replies.trim()) >= number,
+            Err(_) => false,
+        }
+    }
+}
+
+/// Prints what a client or a store answers to a number that it is to learn, and the last number that it knows then.
+pub fn print_learnt(
+    text: &mut String,
+    learnt: Result<(), Refusal>,
+    last: u64,
+) -> Result<(), AllocError> {
+    match learnt {
+        Ok(()) => write!(text, "learnt, last number {last}"),
+        Err(refusal) => write!(text, "{refusal}, last number {last}"),
+    }
+}
+
+/// Prints how attempts ended, counted.
+pub fn print_tally(text: &mut String, tally: Tally) -> Result<(), AllocError> {
+    let (committed, aborted, others) = (tally.committed, tally.aborted, tally.others);
+    let (attempts, refusals) = (tally.attempts(), tally.refusals());
+    write!(
+        text,
+        "{attempts} attempts, {committed} committed, {aborted} aborted, {refusals} refused, {others} by no conflict"
+    )
+}
+
+fn guests<'a, V: Number>(guest: Guest<'a, V>, count: u64) -> Result<Vec<Guest<'a, V>>, AllocError> {
+    let mut guests = Vec::new(guest.alloc);
     for _ in 0..count {
         guests.push(guest)?;
     }
     Ok(guests)
 }
 
-/// How many of these sessions ended well.
-fn serve<R: Threads + Sync>(
+/// Runs so many sessions, and prints what they print, and how many print nothing.
+pub fn answer_clients<R: Threads + Sync, V: Number + Send + Sync>(
     rt: &R,
-    store: &mut Store<u64>,
-    guests: Vec<Guest>,
-) -> Result<usize, Refusal> {
-    let outs = store.run(rt, guests)?;
-    Ok(outs.iter().filter(|well| **well).count())
-}
-
-/// So many sessions: how many of them ended well, and what the word holds then.
-fn say<R: Threads + Sync>(
-    rt: &R,
-    alloc: Global,
     text: &mut String,
-    store: &mut Store<u64>,
-    guest: Guest,
-    count: u64,
-) -> Result<(), Refusal> {
-    let served = serve(rt, store, guests(alloc, guest, count)?);
-    match served {
-        Ok(well) => write!(text, "{count} sessions = {well} well")?,
-        Err(refusal) => write!(text, "{count} sessions = {refusal}")?,
+    store: &mut Store<V>,
+    script: &Script<'_, V>,
+) -> Result<(), AllocError> {
+    let (count, parts) = script.steps.split_once(' ').unwrap_or((script.steps, ""));
+    let guest = Guest {
+        alloc: script.alloc,
+        all: script.all,
+        parts,
+    };
+    match store.run(rt, guests(guest, number_of(count))?) {
+        Ok(outs) => {
+            let printed = print_outs(text, outs.as_slice());
+            drop(outs);
+            printed
+        }
+        Err(refusal) => write!(text, "{refusal}"),
     }
-    writeln!(text, ", word {}", held(store, guest.word)?)?;
-    Ok(())
 }
 
-pub fn test<R: Threads + Sync>(
-    rt: &R,
-    alloc: Global,
-    text: &mut String,
-    store: &mut Store<u64>,
-    handles: Handles,
-) -> Result<(), Refusal> {
-    let alone = Guest {
-        word: handles.met,
-        waits_for: 0,
-    };
-    let meeting = Guest {
-        word: handles.met,
-        waits_for: 2,
-    };
-    say(rt, alloc, text, store, alone, 64)?;
-    say(rt, alloc, text, store, meeting, 2)?;
-    say(rt, alloc, text, store, alone, 0)?;
-    say(rt, alloc, text, store, alone, 63)
+fn print_outs(text: &mut String, outs: &[Result<String, AllocError>]) -> Result<(), AllocError> {
+    let mut well = 0u64;
+    for out in outs {
+        match out {
+            Ok(printed) if printed.is_empty() => well = well.saturating_add(1),
+            Ok(printed) => text.push_str(printed.as_str())?,
+            Err(_) => text.push_str("Memory / ")?,
+        }
+    }
+    write!(text, "{well} well")
 }

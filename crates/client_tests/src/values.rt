@@ -5,7 +5,7 @@ use wolimevar::{
     Body, Entries, Layout, Map, Refusal, Scope, Shared, Store, Text, Transaction, Value,
 };
 
-/// A value is put, and got again: whether it is the same.
+/// A value is put, and got again.
 #[derive(Drop)]
 struct GiveBack<V> {
     map: Map<V>,
@@ -13,14 +13,13 @@ struct GiveBack<V> {
 }
 
 impl<V: Value> Body<V> for GiveBack<V> {
-    type Out = bool;
+    type Out = Option<V>;
 
     type Error = Refusal;
 
-    fn run<S: Scope<V>>(&self, tx: &mut Transaction<'_, V, S>) -> Result<bool, Refusal> {
+    fn run<S: Scope<V>>(&self, tx: &mut Transaction<'_, V, S>) -> Result<Option<V>, Refusal> {
         self.map.put(tx, 1, self.value.try_copy()?)?;
-        let found = self.map.get(tx, 1)?;
-        Ok(found.is_some_and(|found| found.same(&self.value)))
+        self.map.get(tx, 1)
     }
 }
 
@@ -31,41 +30,51 @@ fn open<V: Value>(alloc: Global) -> Result<(Store<V>, Map<V>), Refusal> {
     Ok((store, map))
 }
 
-fn run<V: Value>(store: &mut Store<V>, map: Map<V>, value: V) -> Result<bool, Refusal> {
-    let (gave, _) = store.atomically(1, &GiveBack { map, value })?;
-    Ok(gave)
+fn given<V: Value>(store: &mut Store<V>, body: &GiveBack<V>) -> Result<Option<V>, Refusal> {
+    let (given, _) = store.atomically(1, body)?;
+    Ok(given)
 }
 
-/// Whether a map gives the value back.
-fn gives_back<V: Value>(alloc: Global, value: V) -> Result<bool, Refusal> {
+/// What a map gives back of the value, if that is the same.
+fn gives_back<V: Value>(alloc: Global, value: V) -> Result<Option<V>, Refusal> {
     let (mut store, map) = open(alloc)?;
-    let gave = run(&mut store, map, value);
+    let body = GiveBack { map, value };
+    let given = given(&mut store, &body);
     drop(store);
-    gave
+    Ok(given?.filter(|given| given.same(&body.value)))
 }
 
-/// A text that is shared.
-fn shared_text(alloc: Global) -> Result<Shared<Text>, Refusal> {
-    let text = Text::from(format!(in alloc; "shared by {}", 2)?);
-    Ok(Shared::new(alloc, text)?)
+fn print_same<V: Value>(text: &mut String, value: V) -> Result<(), Refusal> {
+    let alloc = *text.allocator();
+    let gives_back = gives_back(alloc, value)?.is_some();
+    Ok(writeln!(text, "{gives_back}")?)
 }
 
-fn say(text: &mut String, name: &str, gives_back: bool) -> Result<(), Refusal> {
-    writeln!(text, "{name} = {gives_back}")?;
-    Ok(())
+fn print_text(text: &mut String) -> Result<(), Refusal> {
+    let alloc = *text.allocator();
+    let given = gives_back(alloc, Text::of(alloc, "Ada")?)?;
+    let given = given.as_ref().map_or("", |given| given.as_str());
+    Ok(writeln!(text, "{given}")?)
 }
 
-pub fn test(alloc: Global, text: &mut String) -> Result<(), Refusal> {
-    say(text, "u64", gives_back(alloc, 7u64)?)?;
-    say(text, "u32", gives_back(alloc, 7u32)?)?;
-    say(text, "bool", gives_back(alloc, true)?)?;
-    say(text, "()", gives_back(alloc, ())?)?;
-    say(text, "(u64, bool)", gives_back(alloc, (7u64, false))?)?;
-    say(text, "Option<u32>", gives_back(alloc, Some(7u32))?)?;
-    say(text, "Text", gives_back(alloc, Text::of(alloc, "Ada")?)?)?;
-    say(
-        text,
-        "Shared<Text>",
-        gives_back(alloc, shared_text(alloc)?)?,
-    )
+fn print_shared(text: &mut String) -> Result<(), Refusal> {
+    let alloc = *text.allocator();
+    let shared = Text::from(format!(in alloc; "shared by {}", 2)?);
+    let given = gives_back(alloc, Shared::new(alloc, shared)?)?;
+    let given = given.as_ref().map_or("", |given| given.get().as_str());
+    Ok(writeln!(text, "{given}")?)
+}
+
+/// Prints whether a map of values of this type gives back what was put, and of texts what it gave.
+pub fn print_given(text: &mut String, name: &str) -> Result<(), Refusal> {
+    match name {
+        "u64" => print_same(text, 7u64),
+        "u32" => print_same(text, 7u32),
+        "bool" => print_same(text, true),
+        "()" => print_same(text, ()),
+        "(u64, bool)" => print_same(text, (7u64, false)),
+        "Option<u32>" => print_same(text, Some(7u32)),
+        "Text" => print_text(text),
+        _ => print_shared(text),
+    }
 }

@@ -1,0 +1,57 @@
+//! What a closed store holds, read by handle.
+use crate::handles::{All, Handles};
+use crate::numbers::Number;
+use std::alloc::AllocError;
+use std::fmt::Write;
+use wolimevar::{Contents, Memory};
+
+/// Prints what these handles find: the first word, key 2 of the map, the copies of 3, the least element and the first item.
+fn print_found<V: Number>(
+    text: &mut String,
+    name: &str,
+    contents: &Contents<V>,
+    handles: &Handles<V>,
+) -> Result<(), AllocError> {
+    let word = contents.word(handles.words[0]);
+    let value = contents
+        .map(handles.map)
+        .and_then(|entries| entries.get(2))
+        .map(|value| value.number());
+    let copies = contents.bag(handles.bag).map(|counts| counts.copies(3));
+    let least = contents
+        .priority_queue(handles.least)
+        .and_then(|counts| counts.least());
+    let first = contents
+        .queue(handles.queue)
+        .and_then(|items| items.first());
+    writeln!(
+        text,
+        "{name} = {word:?} {value:?} {copies:?} {least:?} {first:?}"
+    )
+}
+
+fn print_all<V: Number>(
+    text: &mut String,
+    contents: &Contents<V>,
+    all: &All<V>,
+) -> Result<(), AllocError> {
+    print_found(text, "contents", contents, &all.own)?;
+    print_found(text, "contents beyond the layout", contents, &all.beyond)?;
+    print_found(text, "contents of another store", contents, &all.other)
+}
+
+/// Prints what a store held as it was closed.
+pub fn print_closed<V: Number>(
+    text: &mut String,
+    closed: Result<Contents<V>, Memory>,
+    all: &All<V>,
+) -> Result<(), AllocError> {
+    match closed {
+        Ok(contents) => {
+            let printed = print_all(text, &contents, all);
+            drop(contents);
+            printed
+        }
+        Err(Memory) => writeln!(text, "contents = refused Memory"),
+    }
+}

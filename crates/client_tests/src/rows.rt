@@ -1,0 +1,162 @@
+//! The rows, and the answer to each.
+use crate::contents::print_closed;
+use crate::handles::{All, all_of, open};
+use crate::layouts::opens;
+use crate::numbers::{Brittle, Number};
+use crate::refusals::{print_explained, print_failures};
+use crate::scripts::{Script, print_ran, run_at_store};
+use crate::sessions::{answer_clients, print_learnt, print_tally};
+use crate::steps::number_of;
+use crate::values::print_given;
+use std::alloc::{AllocError, Global};
+use std::fmt::Write;
+use std::thread::Threads;
+use wolimevar::{Refusal, Store, Tally};
+
+/// Prints each row with its answer, and in the end how many there were. The rows stand in parts, between which a line is empty; a row that
+/// begins with `#` is none.
+///
+/// A part on a store begins with a row that opens it: `store N`, of maps of numbers, or `brittle N`, whose map holds values that can't all
+/// be copied, N being the store's number. At the end of the part the store is closed, and what it held is printed.
+///
+/// - `do STEPS`, `look STEPS` and `once STEPS` run a transaction, `once` with no attempt asked for. STEPS, between which stands `; `, are
+///   calls: a handle (`map`, `bag`, `least`, `queue`, `full_bag`, `full_least`, or a word, `a`, `b` or `c`; with `other.` before it that
+///   of another store, with `beyond.` one beyond the layout, with `reversed.` one of another kind), what is done, and numbers. After ` ?`
+///   what refuses a call ends the body. `until refused CALL` is taken as often as it is answered, and `abort N` aborts.
+/// - `clients N PART / PART` has so many sessions do these parts, see [`crate::sessions`].
+/// - `learn N` learns a number, and `tally` counts how the store's attempts ended.
+///
+/// Elsewhere stand `layout KIND N`, `value TYPE`, `tally` of no attempts, `failures`, and `explain`.
+pub fn answer_all<R: Threads + Sync>(
+    rt: &R,
+    alloc: Global,
+    text: &mut String,
+    rows: &str,
+) -> Result<(), AllocError> {
+    let mut count = 0u64;
+    for part in rows.split("\n\n") {
+        let (first, rest) = part.split_once('\n').unwrap_or((part, ""));
+        count = count.saturating_add(count_of(part));
+        match answer_part(rt, alloc, text, first, rest) {
+            Ok(()) => {}
+            Err(Refusal::Memory) => return Err(AllocError),
+            Err(refusal) => writeln!(text, "failed: {refusal}")?,
+        }
+    }
+    writeln!(text, "rows {count}")
+}
+
+fn is_row(row: &str) -> bool {
+    !matches!(row.as_bytes(), [] | [b'#', ..])
+}
+
+fn count_of(part: &str) -> u64 {
+    part.lines().filter(|row| is_row(row)).count() as u64
+}
+
+fn answer_part<R: Threads + Sync>(
+    rt: &R,
+    alloc: Global,
+    text: &mut String,
+    first: &str,
+    rows: &str,
+) -> Result<(), Refusal> {
+    writeln!(text, "{first}")?;
+    match first.split_once(' ') {
+        Some(("store", number)) => answer_at::<R, u64>(rt, alloc, text, number, rows),
+        Some(("brittle", number)) => answer_at::<R, Brittle>(rt, alloc, text, number, rows),
+        _ => answer_rows_alone(alloc, text, rows),
+    }
+}
+
+/// The rows of a part on a store of this number.
+fn answer_at<R: Threads + Sync, V: Number + Send + Sync>(
+    rt: &R,
+    alloc: Global,
+    text: &mut String,
+    number: &str,
+    rows: &str,
+) -> Result<(), Refusal> {
+    let number = u32::try_from(number_of(number)).unwrap_or(0);
+    let all: All<V> = all_of(alloc, number)?;
+    let mut store = open(alloc, number)?;
+    let answered = answer_rows(rt, alloc, text, &mut store, &all, rows);
+    let closed = print_closed(text, store.close(), &all);
+    answered?;
+    Ok(closed?)
+}
+
+fn answer_rows<R: Threads + Sync, V: Number + Send + Sync>(
+    rt: &R,
+    alloc: Global,
+    text: &mut String,
+    store: &mut Store<V>,
+    all: &All<V>,
+    rows: &str,
+) -> Result<(), AllocError> {
+    for row in rows.lines() {
+        if is_row(row) {
+            write!(text, "{row} = ")?;
+            answer(rt, alloc, text, store, all, row)?;
+            text.push('\n')?;
+        }
+    }
+    Ok(())
+}
+
+fn answer<R: Threads + Sync, V: Number + Send + Sync>(
+    rt: &R,
+    alloc: Global,
+    text: &mut String,
+    store: &mut Store<V>,
+    all: &All<V>,
+    row: &str,
+) -> Result<(), AllocError> {
+    let (verb, steps) = row.split_once(' ').unwrap_or((row, ""));
+    let script = Script { alloc, all, steps };
+    match verb {
+        "clients" => answer_clients(rt, text, store, &script),
+        "learn" => {
+            let learnt = store.learn(number_of(steps));
+            print_learnt(text, learnt, store.last_number())
+        }
+        "tally" => print_tally(text, store.tally()),
+        _ => print_ran(text, &run_at_store(store, verb, &script)),
+    }
+}
+
+fn answer_rows_alone(alloc: Global, text: &mut String, rows: &str) -> Result<(), Refusal> {
+    for row in rows.lines() {
+        if is_row(row) {
+            answer_alone(alloc, text, row)?;
+        }
+    }
+    Ok(())
+}
+
+fn answer_alone(alloc: Global, text: &mut String, row: &str) -> Result<(), Refusal> {
+    match row.split_once(' ') {
+        Some(("layout", asked)) => match opens(alloc, asked) {
+            Ok(()) => writeln!(text, "{row} = opens")?,
+            Err(refusal) => writeln!(text, "{row} = {refusal}")?,
+        },
+        Some((_, name)) => {
+            write!(text, "{row} = ")?;
+            print_given(text, name)?;
+        }
+        None => answer_word(text, row)?,
+    }
+    Ok(())
+}
+
+fn answer_word(text: &mut String, row: &str) -> Result<(), AllocError> {
+    match row {
+        "tally" => {
+            text.push_str("tally = ")?;
+            print_tally(text, Tally::new())?;
+            text.push('\n')
+        }
+        "failures" => print_failures(text),
+        _ => print_explained(text),
+    }
+}

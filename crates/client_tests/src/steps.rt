@@ -1,0 +1,246 @@
+//! The steps of a transaction, as a row spells them: calls, each with its reply or with what refuses it.
+use crate::handles::All;
+use crate::numbers::Number;
+use std::alloc::AllocError;
+use std::fmt;
+use std::fmt::Write;
+use wolimevar::{Bag, Full, Map, PriorityQueue, Queue, Refusal, Scope, Transaction, Word};
+
+/// How often a step after `until` is taken at most.
+const TIMES: u64 = 5_000;
+
+/// Why a body ends early.
+#[derive(Clone, Copy)]
+pub enum Ended {
+    /// It aborts, with this number.
+    By(u64),
+    Refused(Refusal),
+}
+
+impl From<Refusal> for Ended {
+    fn from(refusal: Refusal) -> Ended {
+        Ended::Refused(refusal)
+    }
+}
+
+impl From<AllocError> for Ended {
+    fn from(_error: AllocError) -> Ended {
+        Ended::Refused(Refusal::Memory)
+    }
+}
+
+impl fmt::Display for Ended {
+    fn fmt<W: fmt::Write>(&self, f: &mut fmt::Formatter<W>) -> fmt::Result {
+        match self {
+            Ended::By(number) => write!(f, "{number}"),
+            Ended::Refused(refusal) => write!(f, "{refusal}"),
+        }
+    }
+}
+
+/// What a call answers.
+#[derive(Clone, Copy)]
+enum Reply {
+    Done,
+    Nothing,
+    Number(u64),
+    Full,
+}
+
+impl fmt::Display for Reply {
+    fn fmt<W: fmt::Write>(&self, f: &mut fmt::Formatter<W>) -> fmt::Result {
+        match self {
+            Reply::Done => f.write_str("Ok"),
+            Reply::Nothing => f.write_str("none"),
+            Reply::Number(number) => write!(f, "{number}"),
+            Reply::Full => f.write_str("Full"),
+        }
+    }
+}
+
+fn found(number: Option<u64>) -> Reply {
+    match number {
+        Some(number) => Reply::Number(number),
+        None => Reply::Nothing,
+    }
+}
+
+fn held<V: Number>(value: Option<V>) -> Reply {
+    found(value.map(|value| value.number()))
+}
+
+fn room(room: Result<(), Full>) -> Reply {
+    match room {
+        Ok(()) => Reply::Done,
+        Err(Full) => Reply::Full,
+    }
+}
+
+fn taken(was_there: bool) -> Reply {
+    if was_there {
+        Reply::Done
+    } else {
+        Reply::Nothing
+    }
+}
+
+/// The number that a word spells, or 0.
+pub fn number_of(word: &str) -> u64 {
+    match word.parse::<u64>() {
+        Ok(number) => number,
+        Err(_) => 0,
+    }
+}
+
+fn on_word<V: Number, S: Scope<V>>(
+    tx: &mut Transaction<'_, V, S>,
+    word: Word,
+    op: &str,
+    number: u64,
+) -> Result<Reply, Refusal> {
+    match op {
+        "read" => Ok(Reply::Number(word.read(tx)?)),
+        "write" => word.write(tx, number).map(|_| Reply::Done),
+        _ => {
+            let before = word.read(tx)?;
+            word.write(tx, before.saturating_add(1))
+                .map(|_| Reply::Done)
+        }
+    }
+}
+
+fn on_map<V: Number, S: Scope<V>>(
+    tx: &mut Transaction<'_, V, S>,
+    map: Map<V>,
+    op: &str,
+    key: u64,
+    number: u64,
+) -> Result<Reply, Refusal> {
+    match op {
+        "put" => map.put(tx, key, V::of(number)).map(held),
+        "get" => map.get(tx, key).map(held),
+        "remove" => map.remove(tx, key).map(held),
+        _ => map.len(tx).map(Reply::Number),
+    }
+}
+
+fn on_bag<V: Number, S: Scope<V>>(
+    tx: &mut Transaction<'_, V, S>,
+    bag: Bag,
+    op: &str,
+    element: u64,
+) -> Result<Reply, Refusal> {
+    match op {
+        "add" => bag.add(tx, element).map(room),
+        "take" => bag.take(tx, element).map(taken),
+        _ => bag.count(tx, element).map(Reply::Number),
+    }
+}
+
+fn on_least<V: Number, S: Scope<V>>(
+    tx: &mut Transaction<'_, V, S>,
+    queue: PriorityQueue,
+    op: &str,
+    element: u64,
+) -> Result<Reply, Refusal> {
+    match op {
+        "insert" => queue.insert(tx, element).map(room),
+        "take" => queue.take_least(tx).map(found),
+        _ => queue.least(tx).map(found),
+    }
+}
+
+fn on_queue<V: Number, S: Scope<V>>(
+    tx: &mut Transaction<'_, V, S>,
+    queue: Queue,
+    op: &str,
+    item: u64,
+) -> Result<Reply, Refusal> {
+    match op {
+        "enqueue" => queue.enqueue(tx, item).map(room),
+        "dequeue" => queue.dequeue(tx).map(found),
+        "peek" => queue.peek(tx).map(found),
+        _ => queue.len(tx).map(Reply::Number),
+    }
+}
+
+/// Makes the call that a step spells: a handle, what is done, and up to two numbers.
+fn make<V: Number, S: Scope<V>>(
+    tx: &mut Transaction<'_, V, S>,
+    all: &All<V>,
+    step: &str,
+) -> Result<Reply, Refusal> {
+    let (handle, call) = step.split_once(' ').unwrap_or((step, ""));
+    let (handles, name) = all.named(handle);
+    let (op, numbers) = call.split_once(' ').unwrap_or((call, ""));
+    let (first, second) = numbers.split_once(' ').unwrap_or((numbers, ""));
+    let (first, second) = (number_of(first), number_of(second));
+    match name {
+        "map" => on_map(tx, handles.map, op, first, second),
+        "bag" => on_bag(tx, handles.bag, op, first),
+        "full_bag" => on_bag(tx, handles.full_bag, op, first),
+        "least" => on_least(tx, handles.least, op, first),
+        "full_least" => on_least(tx, handles.full_least, op, first),
+        "queue" => on_queue(tx, handles.queue, op, first),
+        _ => on_word(tx, word_of(handles.words, name), op, first),
+    }
+}
+
+fn word_of(words: [Word; 3], name: &str) -> Word {
+    match name {
+        "a" => words[0],
+        "b" => words[1],
+        _ => words[2],
+    }
+}
+
+/// Takes a step as often as it is answered: how often that was, and what refused it then.
+fn repeat<V: Number, S: Scope<V>>(
+    text: &mut String,
+    tx: &mut Transaction<'_, V, S>,
+    all: &All<V>,
+    step: &str,
+) -> Result<(), AllocError> {
+    for count in 0..TIMES {
+        if let Err(refusal) = make(tx, all, step) {
+            return write!(text, "{count} times, then {refusal} ");
+        }
+    }
+    write!(text, "{TIMES} times ")
+}
+
+/// Takes a step. Where it ends in `?`, what refuses it ends the body.
+fn take<V: Number, S: Scope<V>>(
+    text: &mut String,
+    tx: &mut Transaction<'_, V, S>,
+    all: &All<V>,
+    step: &str,
+) -> Result<(), Ended> {
+    if let Some(number) = step.strip_prefix("abort ") {
+        return Err(Ended::By(number_of(number)));
+    }
+    if let Some(step) = step.strip_prefix("until refused ") {
+        return Ok(repeat(text, tx, all, step)?);
+    }
+    if let Some(step) = step.strip_suffix(" ?") {
+        let reply = make(tx, all, step)?;
+        return Ok(write!(text, "{reply} ")?);
+    }
+    match make(tx, all, step) {
+        Ok(reply) => Ok(write!(text, "{reply} ")?),
+        Err(refusal) => Ok(write!(text, "{refusal} ")?),
+    }
+}
+
+/// Takes all steps.
+pub fn take_all<V: Number, S: Scope<V>>(
+    text: &mut String,
+    tx: &mut Transaction<'_, V, S>,
+    all: &All<V>,
+    steps: &str,
+) -> Result<(), Ended> {
+    for step in steps.split("; ") {
+        take(text, tx, all, step)?;
+    }
+    Ok(())
+}
