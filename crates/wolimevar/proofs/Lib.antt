@@ -6,3 +6,4 @@ pub mod CloseLemmas
 pub mod ClientLemmas
 pub mod StoreLemmas
 pub mod SessionLemmas
+pub mod LenderLemmas

@@ -4,6 +4,10 @@ pub mod Frames
 pub mod Ends
 pub mod Tallies
 pub mod Clients
+pub mod Runners
+pub mod Backs
+pub mod Homes
 pub mod Stores
 pub mod StoreSeats
 pub mod Sessions
+pub mod Lenders

@@ -6,11 +6,12 @@ ghost use Rattle.tx_engine.specs.Ready.{IsReady};
 ghost use Rattle.wolimevar.specs.Asked.{HasAsked};
 ghost use Rattle.wolimevar.specs.Ends.{IsAbortBy};
 ghost use Rattle.wolimevar.specs.Frames.{AreBy, ComesBack};
+ghost use Rattle.wolimevar.specs.Runners.{HasRun};
 ghost use Rattle.wolimevar.specs.Tallies.{AreCounted};
 
-use crate::attempts::retry;
 use crate::body::Body;
 use crate::failures::Failure;
+use crate::runner::Runner;
 use crate::scope::Scope;
 use crate::tally::Tally;
 use seq_model::{Refusal, Value};
@@ -25,11 +26,7 @@ use tx_table::TxTable;
 #[derive(Drop)]
 pub struct Client<'t, V, S: Scope<V>> {
     pub(crate) table: &'t TxTable<V>,
-    /// The number of its store.
-    pub(crate) store: u32,
-    /// It is `None` only while a transaction runs.
-    pub(crate) seat: Option<TxSeat<V>>,
-    pub(crate) tally: Tally,
+    pub(crate) runner: Runner<V>,
     pub(crate) scope: PhantomData<S>,
 }
 
@@ -40,9 +37,9 @@ impl<'t, V, S: Scope<V>> Model for Client<'t, V, S> {
 
     ghost use Rattle.wolimevar.specs.Clients.{IsAtClient, shown_at};
 
-    ghost view = { λ a. shown_at a.seat a.tally };
+    ghost view = { λ a. shown_at a.runner.seat a.runner.tally };
 
-    ghost invariant = { λ a. IsAtClient S.frame a.table.now a.seat };
+    ghost invariant = { λ a. IsAtClient S.frame a.table.now a.runner.seat };
 }
 
 impl<'t, V: Value, S: Scope<V>> Client<'t, V, S> {
@@ -54,9 +51,7 @@ impl<'t, V: Value, S: Scope<V>> Client<'t, V, S> {
     {
         Client {
             table,
-            store,
-            seat: Some(seat),
-            tally: Tally::new(),
+            runner: Runner::of(store, seat),
             scope: PhantomData,
         }
     }
@@ -68,11 +63,14 @@ impl<'t, V: Value, S: Scope<V>> Client<'t, V, S> {
     {
         let Client {
             table: _,
+            runner,
+            scope: _,
+        } = self;
+        let Runner {
             store: _,
             seat,
             tally: _,
-            scope: _,
-        } = self;
+        } = runner;
         match seat {
             Some(seat) => seat,
             None => unreachable!(),
@@ -129,34 +127,17 @@ impl<'t, V: Value, S: Scope<V>> Client<'t, V, S> {
         body: &B,
         declared: bool,
     ) -> Result<(B::Out, Receipt<V>), Failure<B::Error>>
-        ensures same { self.new.actor ≡ self.old.actor }
-        ensures one { IfOk result (λ done. self.new.receipts ≡ self.old.receipts ++ (self.old.actor, done.1) ∷ []) }
-        ensures made { IfOk result (λ done. B.makes body.now done.0 done.1.calls) }
-        ensures last { IfOk result (λ done. (self.old.last ≤ done.1.number) × (self.new.last ≡ done.1.number)) }
-        ensures none { OnErr result ((self.new.receipts ≡ self.old.receipts) × (self.new.last ≡ self.old.last)) }
-        ensures aborts { IfErr result (IsAbortBy (B.aborts body.now)) }
-        ensures asks { HasAsked declared self.old.asked self.new.asked }
-        ensures counted { AreCounted tries self.old.tally self.new.tally result }
-        ensures reads { IfOk result (λ done. declared ≡ true → done.1.writes ≡ false) }
+        ensures ran { HasRun (B.makes body.now) (B.aborts body.now) declared tries self.old self.new result }
     {
-        match self.seat.take() {
-            Some(seat) => {
-                let (seat, tally, ended) = retry(
-                    self.table, self.store, seat, self.tally, body, declared, tries,
-                );
-                self.seat = Some(seat);
-                self.tally = tally;
-                ended
-            }
-            None => unreachable!(),
-        }
+        self.runner
+            .run::<S, B>(self.table, tries, body, declared)
     }
 
     /// How the attempts of this client ended, counted.
     pub fn tally(&self) -> Tally
         ensures { result ≡ self.now.tally }
     {
-        self.tally
+        self.runner.tally
     }
 
     /// The greatest number that this client committed or learnt; 0 at first. Numbers are in commit order: what has this number, or a lower
@@ -164,10 +145,7 @@ impl<'t, V: Value, S: Scope<V>> Client<'t, V, S> {
     pub fn last_number(&self) -> u64
         ensures { result ≡ self.now.last }
     {
-        match &self.seat {
-            Some(seat) => seat.last_number(),
-            None => unreachable!(),
-        }
+        self.runner.last_number()
     }
 
     /// Learns the number of a commit of another client of this store: the client's next transaction begins at it or above, so it sees that
@@ -181,14 +159,6 @@ impl<'t, V: Value, S: Scope<V>> Client<'t, V, S> {
         ensures none { OnErr result (self.new.last ≡ self.old.last) }
         ensures ahead { IfErr result (λ cause. (clock : _) × ((cause ≡ Ahead clock) × (clock < number))) }
     {
-        match self.seat.take() {
-            Some(seat) => {
-                let mut seat = seat;
-                let learnt = seat.learn(self.table, number);
-                self.seat = Some(seat);
-                learnt
-            }
-            None => unreachable!(),
-        }
+        self.runner.learn::<S>(self.table, number)
     }
 }

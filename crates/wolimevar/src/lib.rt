@@ -10,6 +10,7 @@
 //! 4. [`Store::run`] serves a list of [`Session`]s, each in a thread of its own with a [`Client`]. A client runs bodies:
 //!    [`Client::atomically`] attempts a body until it commits, and [`Client::look`] does so with one that only reads. Each commit returns its
 //!    [`Receipt`]: the transaction's number in commit order, and its calls with their replies. Outside of `run`, the store runs bodies itself.
+//!    For threads of one's own there is [`Store::lend`]: a [`Lender`] hands out [`LentClient`]s, which go back when they are dropped.
 //! 5. [`Store::close`] returns the [`Contents`], read by the same handles.
 //!
 //! Answers are typed: `map.get(tx, key)?` is an `Option` of a value, `queue.dequeue(tx)?` an `Option<u64>`. A change that may find its
@@ -34,11 +35,15 @@ mod changes;
 mod client;
 mod contents;
 mod failures;
+mod homes;
 mod layout;
+mod lender;
+mod lent;
 mod maps;
 mod priority_queues;
 mod queues;
 mod replies;
+mod runner;
 mod scope;
 mod sessions;
 mod shared;
@@ -55,6 +60,8 @@ pub use client::Client;
 pub use contents::Contents;
 pub use failures::Failure;
 pub use layout::Layout;
+pub use lender::{Lender, StillLent};
+pub use lent::LentClient;
 pub use maps::Map;
 pub use priority_queues::PriorityQueue;
 pub use queues::Queue;

@@ -1,6 +1,7 @@
 //! A store, which runs transactions itself and lends clients to sessions.
 ghost use Rattle.std.specs.Prelude.{◌≡◌, ◌<◌, ◌≤◌, ◌++◌, ◌∷◌, [], IfErr, IfOk, OnErr, OnOk, false, length, max, true};
 ghost use Rattle.seq_model.specs.declared.refusal.Refusal.TheVariants.{Ahead};
+ghost use Rattle.tx_table.specs.declared.view.TheConstants.{SHARES};
 ghost use Rattle.wolimevar.specs.Asked.{HasAsked};
 ghost use Rattle.wolimevar.specs.Ends.{IsAbortBy};
 ghost use Rattle.wolimevar.specs.Sessions.{HaveServed, IsWhy};
@@ -11,11 +12,13 @@ use crate::attempts::retry;
 use crate::body::Body;
 use crate::contents::Contents;
 use crate::failures::Failure;
+use crate::lender::Lender;
 use crate::sessions::{Session, serve};
 use crate::tally::Tally;
 use seq_model::{Memory, Refusal, Value};
 use std::alloc::Global;
 use std::marker::Model;
+use std::sync::Arc;
 use std::thread::Threads;
 use tx_engine::{Receipt, TxSeat};
 use tx_table::TxTable;
@@ -204,6 +207,38 @@ impl<V: Value> Store<V> {
                 served
             }
             None => unreachable!(),
+        }
+    }
+
+    /// Makes it a lender of clients, for threads that `run` doesn't start. Where an allocation fails it is the store, unchanged.
+    pub fn lend(self) -> Result<Lender<V>, Store<V>>
+        ensures lender { IfOk result (λ lender. lender ≡ record { store = self; shares = SHARES }) }
+        ensures store { IfErr result (λ store. store ≡ self) }
+    {
+        let Store {
+            alloc,
+            number,
+            table,
+            seat,
+            tally,
+        } = self;
+        match (Arc::new(alloc, table), seat) {
+            (Ok(table), Some(seat)) => Ok(Lender {
+                alloc,
+                number,
+                table,
+                seat,
+                tally,
+                homes: Vec::new(alloc),
+            }),
+            (Err(refused), seat) => Err(Store {
+                alloc,
+                number,
+                table: refused.value,
+                seat,
+                tally,
+            }),
+            _ => unreachable!(),
         }
     }
 

@@ -1,0 +1,179 @@
+//! A store that lends clients.
+//!
+//! A lender is a store whose table has several owners: itself, and the clients that it has lent. A client that is dropped leaves its seat in
+//! its home ([`crate::homes`]), from which the lender takes it back. Once all are back, the lender is a store again.
+ghost use Rattle.std.specs.Prelude.{◌≡◌, ◌⊎◌, ◌+◌, ◌-◌, ◌≤◌, ◌++◌, [], All, IfErr, IfOk, IfSome, OnErr};
+ghost use Rattle.std.specs.Arc.{arc_value};
+ghost use Rattle.seq_model.specs.declared.refusal.Refusal.TheVariants.{Memory as OutOfMemory, TooLong};
+ghost use Rattle.tx_table.specs.Seated.{view};
+ghost use Rattle.tx_table.specs.declared.view.TheConstants.{SHARES};
+ghost use Rattle.driven_turns.specs.Requested.{requests_of};
+ghost use Rattle.tx_engine.specs.Ready.{IsReady};
+ghost use Rattle.wolimevar.specs.Backs.{IsBack, shares_at};
+ghost use Rattle.wolimevar.specs.Homes.{IsHomeOf};
+ghost use Rattle.wolimevar.specs.Lenders.{HasBack, HasTakenBack};
+ghost use Rattle.wolimevar.specs.Sessions.{receipts_at};
+
+use crate::homes::{Home, Own, home_for};
+use crate::lent::LentClient;
+use crate::store::Store;
+use crate::tally::Tally;
+use seq_model::{Refusal, Value};
+use std::alloc::Global;
+use std::marker::Model;
+use std::sync::Arc;
+use tx_engine::TxSeat;
+use tx_table::{SHARES, TxTable};
+
+/// A store that lends clients to threads of the caller's own. [`crate::Store::lend`] makes it, [`Lender::end`] gives the store back.
+///
+/// Contracts see it as the store, whose receipts are those that it had and those of the clients that were taken back, and see how many of
+/// the 64 shares it has. A client that is out has one.
+#[derive(Drop)]
+pub struct Lender<V> {
+    pub(crate) alloc: Global,
+    pub(crate) number: u32,
+    pub(crate) table: Arc<TxTable<V>>,
+    pub(crate) seat: TxSeat<V>,
+    pub(crate) tally: Tally,
+    pub(crate) homes: Vec<Home<V>>,
+}
+
+impl<V> Model for Lender<V> {
+    ghost use Rattle.std.specs.Arc.{arc_value};
+    ghost use Rattle.std.specs.Coded.{codes};
+    ghost use Rattle.seq_model.specs.Contents.{contents_code};
+    ghost use Rattle.wolimevar.specs.Lenders.{IsAtLender, LenderShown, lender_at};
+
+    ghost Value = { LenderShown V };
+
+    ghost coded = { Prim.hlevel (codes, contents_code V.code) };
+
+    ghost view = { λ a. lender_at a.number (arc_value a.table) a.seat a.tally };
+
+    ghost invariant = { λ a. IsAtLender (arc_value a.table) a.seat a.homes.items };
+}
+
+/// A lender that can't end yet, since clients are out.
+#[derive(Drop)]
+pub struct StillLent<V> {
+    pub lender: Lender<V>,
+    /// How many clients are out.
+    pub clients: u64,
+}
+
+impl<V: Value> Lender<V> {
+    /// A client for any thread.
+    ///
+    /// `TooLong` where 63 are out, or were not taken back yet, and `Memory` where an allocation fails: then the lender is unchanged.
+    #[tactic(auto, using(crate::proofs::LenderLemmas::share_less))]
+    pub fn client(&mut self) -> Result<LentClient<V>, Refusal>
+        ensures same { self.new.store ≡ self.old.store }
+        ensures share { IfOk result (λ _. self.new.shares + 1 ≡ self.old.shares) }
+        ensures new { IfOk result (λ client. client.receipts ≡ []) }
+        ensures none { OnErr result (self.new ≡ self.old) }
+        ensures why { IfErr result (λ cause. ((cause ≡ TooLong) × (self.old.shares ≤ 1)) ⊎ (cause ≡ OutOfMemory)) }
+    {
+        if self.seat.shares() <= 1 {
+            return Err(Refusal::TooLong);
+        }
+        let Ok(table) = Arc::try_clone(&self.table) else {
+            return Err(Refusal::Memory);
+        };
+        let Ok(home) = home_for(self.alloc, &self.table, &mut self.homes) else {
+            return Err(Refusal::Memory);
+        };
+        let seat = self.seat.split(&self.table, 1);
+        Ok(LentClient::of(Own { table, home }, self.number, seat))
+    }
+
+    /// Takes back the clients that were dropped, and returns how many are still out. Their receipts are added to the store's, those of one
+    /// client after those of another.
+    ///
+    /// No clause says which clients it finds. A client whose drop has returned is found, if that drop came before, as where its thread was
+    /// joined.
+    #[tactic(auto, using(crate::proofs::LenderLemmas::taken_back))]
+    pub fn take_back(&mut self) -> u64
+        ensures back { HasTakenBack self.old self.new }
+        ensures out { result ≡ SHARES - self.new.shares }
+    {
+        join_all(&self.table, &mut self.seat, self.homes.as_slice());
+        SHARES.saturating_sub(self.seat.shares())
+    }
+
+    /// Takes back the clients that were dropped, and gives the store back, which has the receipts of all. While a client is out it gives
+    /// back the lender, with what was taken back.
+    pub fn end(mut self) -> Result<Store<V>, StillLent<V>>
+        ensures store { IfOk result (λ store. HasTakenBack self (record { store = store; shares = SHARES })) }
+        ensures lender { IfErr result (λ still. HasTakenBack self still.lender) }
+        ensures out { IfErr result (λ still. still.clients ≡ SHARES - still.lender.shares) }
+    {
+        let clients = self.take_back();
+        match self.into_store() {
+            Ok(store) => Ok(store),
+            Err(lender) => Err(StillLent { lender, clients }),
+        }
+    }
+
+    #[tactic(auto, using(crate::proofs::LenderLemmas::lender_ends))]
+    fn into_store(self) -> Result<Store<V>, Lender<V>>
+        ensures store { IfOk result (λ store. self ≡ record { store = store; shares = SHARES }) }
+        ensures lender { IfErr result (λ lender. lender ≡ self) }
+    {
+        if self.seat.shares() != SHARES {
+            return Err(self);
+        }
+        let Lender {
+            alloc,
+            number,
+            table,
+            seat,
+            tally,
+            homes,
+        } = self;
+        match Arc::try_unwrap(table) {
+            Ok(table) => Ok(Store {
+                alloc,
+                number,
+                table,
+                seat: Some(seat),
+                tally,
+            }),
+            Err(table) => Err(Lender {
+                alloc,
+                number,
+                table,
+                seat,
+                tally,
+                homes,
+            }),
+        }
+    }
+}
+
+/// Joins a seat that has come back, if there is one.
+fn join_back<V: Value>(table: &TxTable<V>, seat: &mut TxSeat<V>, back: Option<TxSeat<V>>)
+    requires ready { IsReady table.now seat.old }
+    requires back { IfSome back (IsBack table.now) }
+    ensures ready { IsReady table.now seat.new }
+    ensures shares { (view seat.new.seat).shares ≡ (view seat.old.seat).shares + shares_at back }
+    ensures receipts { (view seat.new.seat).receipts ≡ (view seat.old.seat).receipts ++ receipts_at back }
+    ensures last { seat.old.seat.last ≤ seat.new.seat.last }
+    ensures asks { requests_of seat.new.seat ≡ requests_of seat.old.seat }
+{
+    if let Some(other) = back {
+        seat.join(table, other);
+    }
+}
+
+/// Joins all seats that have come back.
+fn join_all<V: Value>(table: &TxTable<V>, seat: &mut TxSeat<V>, homes: &[Home<V>])
+    requires ready { IsReady table.now seat.old }
+    requires own { All (IsHomeOf table.now) homes.now }
+    ensures ready { IsReady table.now seat.new }
+    ensures back { HasBack seat.old.seat seat.new.seat }
+{
+    'homes: for home in homes {
+        join_back(table, seat, home.take());
+    }
+}

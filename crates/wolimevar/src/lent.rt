@@ -1,0 +1,152 @@
+//! A client that is lent to any thread.
+ghost use Rattle.std.specs.Prelude.{◌≡◌, ◌<◌, ◌≤◌, ◌∷◌, ◌++◌, [], IfErr, IfOk, OnErr, OnOk, false, max, true};
+ghost use Rattle.std.specs.Arc.{arc_value};
+ghost use Rattle.seq_model.specs.declared.refusal.Refusal.TheVariants.{Ahead};
+ghost use Rattle.tx_table.specs.Seated.{view};
+ghost use Rattle.tx_engine.specs.Ready.{IsReady};
+ghost use Rattle.wolimevar.specs.Asked.{HasAsked};
+ghost use Rattle.wolimevar.specs.Ends.{IsAbortBy};
+ghost use Rattle.wolimevar.specs.Runners.{HasRun};
+ghost use Rattle.wolimevar.specs.Tallies.{AreCounted};
+
+use crate::body::Body;
+use crate::failures::Failure;
+use crate::homes::Own;
+use crate::runner::Runner;
+use crate::tally::Tally;
+use seq_model::{Refusal, Value};
+use std::marker::{Brand, Model};
+use tx_engine::{Receipt, TxSeat};
+
+/// A client of a lender's store ([`crate::Lender::client`]), for any thread: it borrows nothing. Its calls are those of [`crate::Client`].
+///
+/// Dropped, wherever that is and whatever it did, it leaves its receipts where [`crate::Lender::take_back`] finds them.
+///
+/// Contracts see of it what they see of a [`crate::Client`].
+pub struct LentClient<V> {
+    own: Own<V>,
+    runner: Runner<V>,
+}
+
+impl<V> Model for LentClient<V> {
+    ghost use Rattle.std.specs.Arc.{arc_value};
+    ghost use Rattle.wolimevar.specs.Ends.{ClientShown};
+
+    ghost Value = { ClientShown V };
+
+    ghost use Rattle.wolimevar.specs.Backs.{IsLent};
+    ghost use Rattle.wolimevar.specs.Clients.{shown_at};
+
+    ghost view = { λ a. shown_at a.runner.seat a.runner.tally };
+
+    ghost invariant = { λ a. IsLent (arc_value a.own.table) a.runner.seat };
+}
+
+impl<V: Drop> Drop for LentClient<V> {
+    #[tactic(auto, using(crate::proofs::LenderLemmas::fits_home))]
+    fn drop(self) {
+        let LentClient { own, runner } = self;
+        let Own { table, home } = own;
+        let Runner {
+            store: _,
+            seat,
+            tally: _,
+        } = runner;
+        // The lender may end as soon as the seat is back: this owner of the table goes first.
+        drop(table);
+        match seat {
+            Some(seat) => home.leave(seat),
+            None => unreachable!(),
+        }
+    }
+}
+
+impl<V: Value> LentClient<V> {
+    pub(crate) fn of(own: Own<V>, store: u32, seat: TxSeat<V>) -> LentClient<V>
+        requires ready { IsReady (arc_value own.table) seat }
+        requires share { (view seat.seat).shares ≡ 1 }
+        requires none { (view seat.seat).receipts ≡ [] }
+        ensures { result.receipts ≡ [] }
+    {
+        LentClient {
+            own,
+            runner: Runner::of(store, seat),
+        }
+    }
+
+    /// Runs the body as one transaction, which may write, like [`crate::Client::atomically`].
+    pub fn atomically<B: Body<V>>(
+        &mut self,
+        tries: u64,
+        body: &B,
+    ) -> Result<(B::Out, Receipt<V>), Failure<B::Error>>
+        ensures same { self.new.actor ≡ self.old.actor }
+        ensures one { IfOk result (λ done. self.new.receipts ≡ self.old.receipts ++ (self.old.actor, done.1) ∷ []) }
+        ensures made { IfOk result (λ done. B.makes body.now done.0 done.1.calls) }
+        ensures last { IfOk result (λ done. (self.old.last ≤ done.1.number) × (self.new.last ≡ done.1.number)) }
+        ensures none { OnErr result ((self.new.receipts ≡ self.old.receipts) × (self.new.last ≡ self.old.last)) }
+        ensures aborts { IfErr result (IsAbortBy (B.aborts body.now)) }
+        ensures asks { HasAsked false self.old.asked self.new.asked }
+        ensures counted { AreCounted tries self.old.tally self.new.tally result }
+    {
+        self.run(tries, body, false)
+    }
+
+    /// Runs the body as one declared reader, like [`crate::Client::look`].
+    pub fn look<B: Body<V>>(
+        &mut self,
+        tries: u64,
+        body: &B,
+    ) -> Result<(B::Out, Receipt<V>), Failure<B::Error>>
+        ensures same { self.new.actor ≡ self.old.actor }
+        ensures one { IfOk result (λ done. self.new.receipts ≡ self.old.receipts ++ (self.old.actor, done.1) ∷ []) }
+        ensures made { IfOk result (λ done. B.makes body.now done.0 done.1.calls) }
+        ensures last { IfOk result (λ done. (self.old.last ≤ done.1.number) × (self.new.last ≡ done.1.number)) }
+        ensures none { OnErr result ((self.new.receipts ≡ self.old.receipts) × (self.new.last ≡ self.old.last)) }
+        ensures aborts { IfErr result (IsAbortBy (B.aborts body.now)) }
+        ensures asks { HasAsked true self.old.asked self.new.asked }
+        ensures counted { AreCounted tries self.old.tally self.new.tally result }
+        ensures reads { IfOk result (λ done. done.1.writes ≡ false) }
+    {
+        self.run(tries, body, true)
+    }
+
+    fn run<B: Body<V>>(
+        &mut self,
+        tries: u64,
+        body: &B,
+        declared: bool,
+    ) -> Result<(B::Out, Receipt<V>), Failure<B::Error>>
+        ensures ran { HasRun (B.makes body.now) (B.aborts body.now) declared tries self.old self.new result }
+    {
+        self.runner
+            .run::<Brand, B>(&self.own.table, tries, body, declared)
+    }
+
+    /// How the attempts of this client ended, counted.
+    pub fn tally(&self) -> Tally
+        ensures { result ≡ self.now.tally }
+    {
+        self.runner.tally
+    }
+
+    /// The greatest number that this client committed or learnt; 0 at first.
+    pub fn last_number(&self) -> u64
+        ensures { result ≡ self.now.last }
+    {
+        self.runner.last_number()
+    }
+
+    /// Learns the number of a commit at this store, like [`crate::Client::learn`].
+    pub fn learn(&mut self, number: u64) -> Result<(), Refusal>
+        ensures same { self.new.actor ≡ self.old.actor }
+        ensures receipts { self.new.receipts ≡ self.old.receipts }
+        ensures asks { self.new.asked ≡ self.old.asked }
+        ensures counts { self.new.tally ≡ self.old.tally }
+        ensures learns { OnOk result (self.new.last ≡ max self.old.last number) }
+        ensures none { OnErr result (self.new.last ≡ self.old.last) }
+        ensures ahead { IfErr result (λ cause. (clock : _) × ((cause ≡ Ahead clock) × (clock < number))) }
+    {
+        self.runner.learn::<Brand>(&self.own.table, number)
+    }
+}
