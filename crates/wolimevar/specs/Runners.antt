@@ -12,14 +12,14 @@ use Rattle.wolimevar.specs.Tallies.{AreCounted}
 
 module _ {V : Type 0} where
   -- A body, which makes such calls and aborts so, has a receipt more, or none; its attempts are counted.
-  pub record HasRun {A E : Type 0} (makes : A → List (Call V × Reply V) → Type 0) (aborts : E → List (Call V × Reply V) → Type 0)
+  pub record HasRun {A E : Type 0} (makes : A → List (Call V × Reply V) → Type 0) (fails : E → List (Call V × Reply V) → Type 0)
       (declared : Bool) (tries : ℕ) (before after : ClientShown V) (r : Result (A × Record V) (Failure E)) : Type 0 where
     pub same : after.actor ≡ before.actor
     pub one : IfOk r (λ done. after.receipts ≡ before.receipts ++ (before.actor, done.1) ∷ [])
     pub made : IfOk r (λ done. makes done.0 done.1.calls)
     pub last : IfOk r (λ done. (before.last ≤ done.1.number) × (after.last ≡ done.1.number))
     pub none : OnErr r ((after.receipts ≡ before.receipts) × (after.last ≡ before.last))
-    pub aborts : IfErr r (IsAbortBy aborts)
+    pub aborts : IfErr r (IsAbortBy fails)
     pub asks : HasAsked declared before.asked after.asked
     pub counted : AreCounted tries before.tally after.tally r
     pub reads : IfOk r (λ done. declared ≡ true → done.1.writes ≡ false)

@@ -51,7 +51,11 @@ impl<'t, V: Value, S: Scope<V>> Client<'t, V, S> {
     {
         Client {
             table,
-            runner: Runner::of(store, seat),
+            runner: Runner {
+                store,
+                seat: Some(seat),
+                tally: Tally::new(),
+            },
             scope: PhantomData,
         }
     }
@@ -129,8 +133,7 @@ impl<'t, V: Value, S: Scope<V>> Client<'t, V, S> {
     ) -> Result<(B::Out, Receipt<V>), Failure<B::Error>>
         ensures ran { HasRun (B.makes body.now) (B.aborts body.now) declared tries self.old self.new result }
     {
-        self.runner
-            .run::<S, B>(self.table, tries, body, declared)
+        self.runner.run::<S, B>(self.table, tries, body, declared)
     }
 
     /// How the attempts of this client ended, counted.

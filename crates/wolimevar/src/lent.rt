@@ -62,6 +62,7 @@ impl<V: Drop> Drop for LentClient<V> {
 }
 
 impl<V: Value> LentClient<V> {
+    #[tactic(auto, using(crate::proofs::LenderLemmas::lent_client))]
     pub(crate) fn of(own: Own<V>, store: u32, seat: TxSeat<V>) -> LentClient<V>
         requires ready { IsReady (arc_value own.table) seat }
         requires share { (view seat.seat).shares ≡ 1 }
@@ -70,7 +71,11 @@ impl<V: Value> LentClient<V> {
     {
         LentClient {
             own,
-            runner: Runner::of(store, seat),
+            runner: Runner {
+                store,
+                seat: Some(seat),
+                tally: Tally::new(),
+            },
         }
     }
 

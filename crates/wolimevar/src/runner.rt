@@ -23,16 +23,6 @@ pub(crate) struct Runner<V> {
 }
 
 impl<V: Value> Runner<V> {
-    pub(crate) fn of(store: u32, seat: TxSeat<V>) -> Runner<V>
-        ensures { result ≡ record { store = store; seat = Some seat; tally = result.tally } }
-    {
-        Runner {
-            store,
-            seat: Some(seat),
-            tally: Tally::new(),
-        }
-    }
-
     /// Attempts a body at its table until it commits, as a declared reader or not.
     pub(crate) fn run<S: Scope<V>, B: Body<V>>(
         &mut self,
@@ -70,7 +60,11 @@ impl<V: Value> Runner<V> {
         }
     }
 
-    pub(crate) fn learn<S: Scope<V>>(&mut self, table: &TxTable<V>, number: u64) -> Result<(), Refusal>
+    pub(crate) fn learn<S: Scope<V>>(
+        &mut self,
+        table: &TxTable<V>,
+        number: u64,
+    ) -> Result<(), Refusal>
         requires at { IsAtClient S.frame table.now self.old.seat }
         ensures at { IsAtClient S.frame table.now self.new.seat }
         ensures shares { shares_at self.new.seat ≡ shares_at self.old.seat }
