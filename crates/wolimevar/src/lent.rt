@@ -62,7 +62,6 @@ impl<V: Drop> Drop for LentClient<V> {
 }
 
 impl<V: Value> LentClient<V> {
-    #[tactic(auto, using(crate::proofs::LenderLemmas::lent_client))]
     pub(crate) fn of(own: Own<V>, store: u32, seat: TxSeat<V>) -> LentClient<V>
         requires ready { IsReady (arc_value own.table) seat }
         requires share { (view seat.seat).shares ≡ 1 }
