@@ -1,7 +1,7 @@
 //! Where the seats of lent clients come back.
 //!
-//! A lent client may be dropped in any thread, so nobody can hand its seat to the lender. It leaves the seat in its home, which the client and
-//! the lender both own. A home takes seats of one table alone, its tag: so a seat that is found there fits, whoever left it.
+//! A lent client may be dropped in any thread, so nobody can hand its seat to the lender. It leaves the seat in its home, which the
+//! client and the lender both own. A home takes seats of one table alone, its tag: so a seat that is found there fits, whoever left it.
 //!
 //! A home waits for the seat of its client (`FREE`), or has it (`PRESENT`), or is idle until another client gets it (`MARKED`).
 ghost use Rattle.std.specs.Prelude.{◌≡◌, All, IfOk, IfSome};

@@ -1,7 +1,7 @@
 //! A store that lends clients.
 //!
-//! A lender is a store whose table has several owners: itself, and the clients that it has lent. A client that is dropped leaves its seat in
-//! its home ([`crate::homes`]), from which the lender takes it back. Once all are back, the lender is a store again.
+//! A lender is a store whose table has several owners: itself, and the clients that it has lent. A client that is dropped leaves its
+//! seat in its home ([`crate::homes`]), from which the lender takes it back. Once all are back, the lender is a store again.
 ghost use Rattle.std.specs.Prelude.{◌≡◌, ◌⊎◌, ◌+◌, ◌-◌, ◌≤◌, ◌++◌, [], All, IfErr, IfOk, IfSome, OnErr};
 ghost use Rattle.std.specs.Arc.{arc_value};
 ghost use Rattle.seq_model.specs.declared.refusal.Refusal.TheVariants.{Memory as OutOfMemory, TooLong};
