@@ -15,8 +15,8 @@ pub homes-preserved : goal.homes-preserved
 homes-preserved g c =
     let t = c.args.table.now in
     let at_home = subst (λ (h : Home g.row.V.Denot). IsHomeOf t h) (sym c.home-item.is)
-        (All-get_or (λ (h : Home g.row.V.Denot). IsHomeOf t h) c.args.homes.now c.homes.home-index c.home-item.result c.homes-test.true
-        c.requires.own) in
+    (All-get_or (λ (h : Home g.row.V.Denot). IsHomeOf t h) c.args.homes.now c.homes.home-index c.home-item.result c.homes-test.true
+    c.requires.own) in
     let back = subst (λ (u : TxTable g.row.V.Denot). IfSome c.take.result (IsBack u)) at_home c.take.ensures in
     record {
       ready = c.join_back.ensures.ready;
