@@ -7,7 +7,6 @@
 mod contents;
 mod handles;
 mod layouts;
-mod lent;
 mod numbers;
 mod refusals;
 mod rows;
