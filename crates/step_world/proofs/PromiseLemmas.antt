@@ -185,7 +185,7 @@ module _ {V : Type 0} where
   pub small_opened : (c : Parts V) (w : World V) → IsWorld c w → AreSmall w.blocks → AreSmall c.blocks.blocks
   small_opened c w h small = subst AreSmall h.laid.1 small
 
-  -- the collections stay as small as they were
+  -- the collections are as small as they were
   pub small_fed : OthersStand V → (c d : Parts V) (e : Event V) (n : Notice V) → HasWorld c → Feeds c e d n → AreSmall c.blocks.blocks
       → AreSmall d.blocks.blocks
   small_fed stand c d e n well feeds small =
