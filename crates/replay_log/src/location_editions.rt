@@ -45,7 +45,7 @@ impl LocationEditions {
         self.entries.capacity()
     }
 
-    /// No location any more. The memory stays.
+    /// Takes all locations out. The memory is kept.
     pub fn clear(&mut self)
         ensures { self.new ≡ [] }
     {

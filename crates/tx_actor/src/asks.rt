@@ -1,5 +1,5 @@
-//! What an actor is asked: a read or a write of a word, and the two ends of its transaction. A request that needs room makes it first,
-//! and leaves the actor as it was where memory is refused.
+//! What an actor is asked: a read or a write of a word, and the two ends of its transaction. A request that needs room makes it first, and
+//! leaves the actor as it was where an allocation fails.
 ghost use Rattle.std.specs.Prelude.{◌≡◌, IfOk, OnErr, OnOk, false};
 ghost use Rattle.seq_model.specs.declared.event.Notice.TheVariants.{Quiet};
 ghost use Rattle.seq_model.specs.declared.call.Op.TheVariants as op;
