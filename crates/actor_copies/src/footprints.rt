@@ -76,8 +76,8 @@ impl<V: Value> Copied<V> {
         }
     }
 
-    /// Where the key of an outcome lies, which is all that it reads, and whether it writes there; none for an outcome on no key of a map or
-    /// a multiset.
+    /// The location of the key of an outcome, which is all that it reads, and whether it writes there; none for an outcome on no key of a
+    /// map or a multiset.
     pub(crate) fn key_place(&self, outcome: &Outcome<V>) -> Option<KeyPlace>
         ensures reads { IfSome result (λ at. reads_in self.now outcome.now ≡ at.location ∷ []) }
         ensures writes { IfSome result (λ at. writes_in self.now outcome.now ≡ written_there at) }

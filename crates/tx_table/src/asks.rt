@@ -22,8 +22,8 @@ impl<V> Seat<V> {
         self.last
     }
 
-    /// The seat has committed this number, or is to know of it; it is no higher than the clock that the seat knows. That it was a commit's is
-    /// the caller's to say: `last_number` tells what was noted here.
+    /// The seat has committed this number, or is to know of it; it is no higher than the clock that the seat knows. Whether it was a
+    /// commit's is up to the caller: `last_number` returns what was noted here.
     pub fn note(&mut self, number: u64)
         requires { number ≤ (view self.old).clock }
         ensures last { self.new.last ≡ max self.old.last number }

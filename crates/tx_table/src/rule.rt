@@ -19,7 +19,7 @@ impl<V> TableRule<Boxed<Home<Base<V>>>, View<V>, Opening<V>> for Order {
     ghost first = { λ _. first_view };
 }
 
-// Each call picks what its step tells.
+// Each call picks what its step answers.
 impl<V> Play<Boxed<Home<Base<V>>>, View<V>> for Brand {
     ghost then = { λ _ _ _ _. Unit {0} };
 }
