@@ -161,7 +161,7 @@ impl BagBase {
         self.editions.allocator()
     }
 
-    /// The location that the element lies on.
+    /// The location of the element.
     pub fn place(&self, element: u64) -> u32
         ensures location { result ≡ key_place self.now.stripes element }
         ensures within { result < self.now.stripes }
@@ -197,8 +197,8 @@ impl BagBase {
         Ok(changes)
     }
 
-    /// Makes room for the changes. The multiset stays as it is and keeps its room, also where memory is refused. Where there is
-    /// room already, nothing is refused.
+    /// Makes room for the changes. The multiset is unchanged and keeps its room, also where an allocation fails. Where there is room
+    /// already, nothing is refused.
     pub fn prepare<V>(&mut self, changes: &[Change<V>]) -> Result<(), Memory>
         ensures shown { self.new.shown ≡ self.old.shown }
         ensures stripes { self.new.stripes ≡ self.old.stripes }

@@ -152,7 +152,7 @@ impl<V: Value> MapBase<V> {
         self.editions.allocator()
     }
 
-    /// How many keys lie on each stripe, in order.
+    /// How many keys are on each stripe, in order.
     pub fn counts(&self) -> Result<Items<u64>, Memory>
         ensures { IfOk result (λ counts. counts ≡ stripe_counts self.now.stripes self.now.shown) }
     {
@@ -172,7 +172,7 @@ impl<V: Value> MapBase<V> {
         self.stripes
     }
 
-    /// The location that the key lies on.
+    /// The location of the key.
     pub fn place(&self, key: u64) -> u32
         ensures location { result ≡ key_place self.now.stripes key }
         ensures within { result < self.now.stripes }
@@ -208,8 +208,8 @@ impl<V: Value> MapBase<V> {
         Ok(changes)
     }
 
-    /// Makes room for the changes. The map stays as it is and keeps its room, also where memory is refused. Where there is
-    /// room already, nothing is refused.
+    /// Makes room for the changes. The map is unchanged and keeps its room, also where an allocation fails. Where there is room already,
+    /// nothing is refused.
     pub fn prepare(&mut self, changes: &[Change<V>]) -> Result<(), Memory>
         ensures shown { self.new.shown ≡ self.old.shown }
         ensures stripes { self.new.stripes ≡ self.old.stripes }

@@ -211,7 +211,7 @@ impl Elements {
         })
     }
 
-    /// Becomes a copy of the other, in the memory that it has as far as that suffices. Where memory is refused, it stays as it is.
+    /// Becomes a copy of the other, in the memory that it has as far as that suffices. Where an allocation fails, it is unchanged.
     pub fn copy_from(&mut self, other: &Elements) -> Result<(), Memory>
         ensures { OnOk result (self.new.elements ≡ other.now.elements) }
     {

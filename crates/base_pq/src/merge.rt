@@ -29,8 +29,8 @@ pub fn merged(
     Ok(made)
 }
 
-// Adds what stands before the element in the rest, and the element with its copies, if there are any. It answers how much of the rest
-// is used.
+// Adds what stands before the element in the list that is left, and the element with its copies, if there are any. Returns how much of that
+// list is used.
 fn lay_one(
     made: &mut Vec<(u64, u64)>,
     rest: &[(u64, u64)],

@@ -112,7 +112,7 @@ impl Sorted {
         Ok(Sorted { items })
     }
 
-    /// Becomes a copy of the other, in the memory that it has as far as that suffices. Where memory is refused, it stays as it is.
+    /// Becomes a copy of the other, in the memory that it has as far as that suffices. Where an allocation fails, it is unchanged.
     pub fn copy_from(&mut self, other: &Sorted) -> Result<(), Memory>
         ensures ok { OnOk result (self.new.elements ≡ other.now.elements) }
         ensures err { OnErr result (self.new.elements ≡ self.old.elements) }
@@ -123,7 +123,7 @@ impl Sorted {
         Ok(())
     }
 
-    /// Takes all elements out. The memory stays.
+    /// Takes all elements out. The memory is kept.
     pub fn clear(&mut self)
         ensures elements { self.new.elements ≡ map.empty }
         ensures room { self.old.room ≤ self.new.room }

@@ -14,7 +14,7 @@ use std::marker::Model;
 /// Cells that hold items, the index of the first item, and the index that the next one gets.
 #[derive(Drop)]
 pub struct Cells {
-    /// The items from index `first` on, behind as many as are gone.
+    /// The items from index `first` on, after as many as are gone.
     items: SharedList,
     gone: usize,
     first: u64,
@@ -225,7 +225,7 @@ impl Cells {
     }
 }
 
-// The item of this index, where the items from `first` on stand behind as many as are gone.
+// The item of this index, where the items from `first` on stand after as many as are gone.
 fn standing(items: &SharedList, gone: usize, first: u64, index: u64) -> Option<u64>
     requires gone { gone ≤ length items.now.items }
     ensures { result ≡ get (cells_from first (drop gone items.now.items)) index }

@@ -1,6 +1,6 @@
 //! A list of numbers whose copies share what they have in common.
 //!
-//! The items stand in chunks that are never changed, and behind them the last few in a list of each copy's own. The list of the chunks
+//! The items stand in chunks that are never changed, and after them the last few in a list of each copy's own. The list of the chunks
 //! is shared as a whole, so a copy is one more owner of it and a copy of the last few items, however long the list is. Items go out at
 //! the front and come in at the back; `settle` moves what has grown at the back into chunks.
 ghost use Rattle.std.specs.Prelude.{◌≡◌, ◌+◌, ◌-◌, ◌<◌, ◌≤◌, [], ◌∷◌, ◌++◌, IsOk, IfOk, OnOk, OnErr, length, drop, slice_index};
@@ -166,7 +166,7 @@ impl SharedList {
     }
 }
 
-// The chunks from this one on, and behind them as many as the items at the back fill, with how many these are.
+// The chunks from this one on, and after them as many as the items at the back fill, with how many these are.
 fn rebuilt(
     alloc: Global,
     chunks: &[Chunk],

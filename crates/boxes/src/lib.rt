@@ -41,7 +41,7 @@ impl<T> Boxed<T> {
 }
 
 impl<T: Drop> Boxed<T> {
-    /// A box for the value. Where memory is refused the value is dropped.
+    /// A box for the value. `Memory`, where an allocation fails, drops the value.
     #[cold]
     #[inline(never)]
     pub fn new(alloc: Global, value: T) -> Result<Boxed<T>, AllocError>

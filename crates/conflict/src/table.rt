@@ -52,7 +52,7 @@ impl<V: Drop> Table<V> {
         self.entries.get(&key)
     }
 
-    /// How many keys lie on each of so many stripes, in order: a key lies on that of its remainder.
+    /// How many keys are on each of so many stripes, in order: a key is on that of its remainder.
     pub fn counts(&self, stripes: u32) -> Result<Items<u64>, Memory>
         requires { 0 < stripes }
         ensures { IfOk result (λ counts. counts ≡ stripe_counts stripes self.now.contents) }
@@ -85,7 +85,7 @@ impl<V: Drop> Table<V> {
         let _ = self.entries.insert(key, value).unwrap();
     }
 
-    /// Takes all keys out. The memory stays.
+    /// Takes all keys out. The memory is kept.
     pub fn clear(&mut self)
         ensures contents { self.new.contents ≡ map.empty }
         ensures room { self.old.room ≤ self.new.room }
@@ -93,7 +93,7 @@ impl<V: Drop> Table<V> {
         self.entries.clear();
     }
 
-    /// Takes the key out, if it is there. The room stays.
+    /// Takes the key out, if it is there. The room is kept.
     pub fn remove(&mut self, key: u64)
         ensures contents { self.new.contents ≡ map.remove self.old.contents key }
         ensures room { self.old.room ≤ self.new.room }
@@ -124,7 +124,8 @@ impl<V: Value> Table<V> {
         Ok(copy)
     }
 
-    /// Becomes a copy of the other, in the memory that it has as far as that suffices. Where memory is refused, what it holds is left open.
+    /// Becomes a copy of the other, in the memory that it has as far as that suffices. Where an allocation fails, what it holds is left
+    /// open.
     pub fn copy_from(&mut self, other: &Table<V>) -> Result<(), Memory>
         ensures { OnOk result (self.new.contents ≡ other.now.contents) }
     {

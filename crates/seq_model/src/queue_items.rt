@@ -63,7 +63,7 @@ impl QueueItems {
         self.items.front().copied()
     }
 
-    /// Adds an item behind the last.
+    /// Adds an item after the last.
     pub fn push(&mut self, item: u64) -> Result<(), Memory>
         ensures ok { OnOk result (self.new ≡ self.old ++ item ∷ []) }
         ensures err { OnErr result (self.new ≡ self.old) }
@@ -79,7 +79,7 @@ impl QueueItems {
         self.items.get(place).copied()
     }
 
-    /// Adds items behind the last.
+    /// Adds items after the last.
     pub fn append(&mut self, more: &QueueItems) -> Result<(), Memory>
         ensures ok { OnOk result (self.new ≡ self.old ++ more.now) }
         ensures err { OnErr result (self.new ≡ self.old) }

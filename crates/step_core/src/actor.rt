@@ -244,8 +244,8 @@ impl Actor {
         }
     }
 
-    /// Where the check begins that a commit of this number has to make: behind the last entry of
-    /// the read set where no other commit took a number since the transaction began.
+    /// Where the check begins that a commit of this number has to make: after the last entry of the read set where no other commit took a
+    /// number since the transaction began.
     fn first_to_check(&self, clock: u64) -> usize
         requires positive { 0 < clock }
         ensures left { drop result (locations self.now.reads.entries) ≡ to_check (actor_of self.now) clock }
@@ -289,7 +289,7 @@ impl Actor {
         self.place = Place::Lock(i);
     }
 
-    /// The next place of a check that went on, and its answer.
+    /// The next place of a check that has passed, and its answer.
     fn pass(&mut self, i: usize) -> Option<WordAnswer>
         requires place { self.old.place ≡ Check i }
         requires inside { i < length self.old.reads.entries }

@@ -234,7 +234,7 @@ impl Cells {
         self.locks[entry.0 as usize] = 2 * entry.1;
         Ok(answer)
     }
-    /// The next atomic step of an actor, where one is due.
+    /// The next atomic step of an actor, where there is one to take.
     pub fn step(&mut self, actor: &mut Actor) -> Result<Option<WordAnswer>, WordRefusal>
         requires fits { Fits (length self.old.locks.items) actor.old }
         requires same { length self.old.values.items ≡ length self.old.locks.items }

@@ -33,7 +33,7 @@ impl<V> Seat<V> {
         self.last = self.last.max(number);
     }
 
-    /// The actor of this seat asks, or wants memory. The next step takes it in.
+    /// The actor of this seat asks, or an allocation for its request fails. The next step takes it in.
     pub fn ask(&mut self, event: &Event<V>)
         ensures same { IsSameSeat self.old self.new × (self.new.place.me ≡ self.old.place.me) }
         ensures asked { list_of self.new.asked ≡ list_of self.old.asked ++ event.now ∷ [] }
