@@ -1,6 +1,6 @@
--- A request that is under way is answered within 1,000,000 steps of its actor. What a step or a want of memory tells leaves its actor at
--- rest, where nothing is left; what tells nothing is bounded, as a request is asked, and from then on by what it was before. So no request
--- is ever further off than that, and each own step that tells nothing brings it nearer.
+-- A request that is under way is answered within 1,000,000 steps of its actor. What a step or a failed allocation answers leaves its actor
+-- idle, where nothing is left; what answers nothing is bounded, as a request is asked, and from then on by what it was before. So no
+-- request is ever further off than that, and each own step that answers nothing brings it nearer.
 use Rattle.std.proofs.Common.{◌≡◌, ℕ, zero, suc, ◌+◌, ◌<◌, ◌≤◌, Bool, true, false, cond, ◌&&◌, List, [], ◌∷◌, ◌++◌, length, Option, Some, None}
 use Rattle.std.proofs.Common.{◌⊎◌, inl, inr, refl, sym, subst, arith, eqb, eq-eqb, ne_eqb}
 use Rattle.std.specs.Prelude.{nat_lt}
@@ -45,7 +45,7 @@ use Rattle.replay_log.proofs.AskLemmas.{under_way}
 use Rattle.replay_log.proofs.StarveLemmas.{starve_no_further}
 
 module _ {V : Type 0} where
-  -- ---- what is told leaves the actor at rest
+  -- ---- what is answered leaves the actor idle
   abbrev Rests : ℕ → After V → Type 0
   Rests a r = (IsQuiet r.1 → ⊥) → IsAtRest (r.0.seats a).stage
 
@@ -241,7 +241,7 @@ module _ {V : Type 0} where
   quiet_or Quiet = inl tt
   quiet_or n = inr (λ h. h)
 
-  -- nothing is left at rest
+  -- nothing is left where the actor is idle
   rests_left : (st : Stage V) (y : Actor) → IsAtRest st → measure.left_at st y ≡ 0
   rests_left Idle y h = refl
   rests_left Open y h = refl

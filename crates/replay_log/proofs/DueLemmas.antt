@@ -1,5 +1,5 @@
--- An event that answers nothing leaves a step due: each function of the definition either answers, or seats its actor at a stage that is
--- not at rest, or leaves the seat at the stage of the request, which is none.
+-- An event that answers nothing leaves a step to take: each function of the definition either answers, or seats its actor at a stage that
+-- is not idle, or leaves the seat at the stage of the request, which is none.
 use Rattle.std.proofs.Common.{◌≡◌, ℕ, zero, suc, Bool, true, false, cond, ◌&&◌, List, [], ◌∷◌, ◌++◌, length, Option, Some, None, refl, sym}
 use Rattle.std.proofs.Common.{subst, eqb}
 use Rattle.std.specs.Prelude.{nat_lt}

@@ -1,5 +1,5 @@
--- Every event keeps what a world of words and collections has of its machine: by the stage of its actor the lemma of the
--- function that is due serves, a list of events is an induction, and the opening has it, as nobody holds or has read anything.
+-- Every event keeps what a world of words and collections has of its machine: by the stage of its actor the lemma of the function that is
+-- next serves, a list of events is an induction, and the opening has it, as nobody holds or has read anything.
 use Rattle.std.proofs.Common.{◌≡◌, ℕ, ◌<◌, Bool, true, false, not, ◌&&◌, List, [], ◌∷◌, ◌++◌, length, Option, Some, None, refl, sym, ◌∙◌}
 use Rattle.std.proofs.Common.{ap, subst, true≢false}
 use Rattle.std.specs.Prelude.{nat_lt, get_or}

@@ -54,7 +54,7 @@ module _ {V : Type 0} where
   has_locked w a x (told.Invalid l word) = gives_up w a (because x (refusal.Invalid l word)) []
   has_locked w a x n = (w, Quiet)
 
-  -- the bases go home one after another, and then the locks are released
+  -- the bases are put back one after another, and then the locks are released
   abbrev pub goes_home : World V → ℕ → Seat V → List ℕ → After V
   goes_home w a x [] = (seated (acted w (asks a word.AskRelease ∷ [])) a (at_stage x Releasing), Quiet)
   goes_home w a x (k ∷ ks) = (seated w a (at_stage x (Homing (k ∷ ks))), Quiet)
