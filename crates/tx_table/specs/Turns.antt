@@ -13,7 +13,7 @@ use Rattle.atomic_steps.specs.Spots.{Spot, Gate, spot_at, planted}
 pub use Rattle.tx_table.specs.declared.view.Turn.{Turn}
 
 module _ {V : Type 0} where
-  -- what a asks, or that it wants memory
+  -- what a asks, or that it is out of memory
   abbrev pub own : ℕ → Event V → Event V
   own a (Ask b q) = Ask a q
   own a (Step b) = Starve a
@@ -53,7 +53,7 @@ module _ {V : Type 0} where
   abbrev pub found_at : ℕ → World V → Spot → ℕ → Option (Base V) → World V
   found_at a w s n b = planted a w s n (parts_found w (first_at w s) b) (editions_found w (first_at w s) b)
 
-  -- and what a's step there leaves and tells
+  -- and what a's step there leaves and answers
   abbrev pub moved : ℕ → World V → ℕ → Option (Base V) → After V
   moved a w n b = happens (found_at a w (spot a w) n b) (Step a)
 
