@@ -11,7 +11,7 @@ use Rattle.seq_model.specs.declared.kind.Kind.TheVariants as kind
 use Rattle.actor_words.specs.declared.blocks.Placed.{Placed}
 use Rattle.actor_words.specs.declared.blocks.TheConstants.{COLLECTION_LIMIT, TABLE_LIMIT}
 
--- The number of plain words, and the block of each collection behind them.
+-- The number of plain words, and the block of each collection after them.
 pub record BlocksView : Type 0 where
   pub words : ℕ
   pub blocks : List Block
@@ -30,7 +30,7 @@ abbrev pub AreEnds : ℕ → List Placed → Type 0
 AreEnds w [] = Unit {0}
 AreEnds w (p ∷ ps) = (p.end ≡ w + size (block_of p)) × AreEnds p.end ps
 
--- the collection that a location lies in, but for a plain word
+-- the collection that a location is in, but for a plain word
 abbrev pub home_in : BlocksView → ℕ → Option ℕ
 home_in v l = if is_plain v.words v.blocks l then None else Some (home_of v.words v.blocks l)
 

@@ -32,7 +32,7 @@ with_word s ClockCell n = record s { clock = n }
 with_word s (LockCell l) n = record s { locks = put s.locks l (unbits n) }
 with_word s (ValueCell l) n = record s { values = put s.values l n }
 
--- a gate that a found at n; one that it holds itself stays its own, and who else holds it is not seen
+-- a gate that a found at n; one that it holds itself remains its own, and who else holds it is not seen
 abbrev pub found_gate : ℕ → ℕ → Option ℕ → Option ℕ
 found_gate a n o = if is_actor a o then o else (if n == 0 then None else Some (suc a))
 

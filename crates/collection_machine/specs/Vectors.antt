@@ -134,7 +134,7 @@ gate_held :
 unfolding lookup put with_entry locations comes_before insert insert_commit
 gate_held = refl
 
--- a commit given up before its first value store leaves words and bases as they were
+-- a commit aborted before its first value store leaves words and bases as they were
 given_up :
     shown (begin 1 ++ copy 1 ++ answer 1 (Add 0 5) ++ asks 1 (AskWrite 0 7) ++ prepare 1 2
     ++ PutGate 1 0 (λ l. false) ∷ asks 1 AskCancel ++ steps 1 2 ++ asks 1 AskAbort ++ steps 1 1)

@@ -299,7 +299,7 @@ sound_next w t a x y v got fits like grows xs dues most =
       room = omega (arith, v.room, dued, all, dues, most);
     }
 
--- there is room for a record that is due
+-- there is room for a record that is next
 pub due_here : (w : Machine) (a : ℕ) (x : Actor) → slice_get w.actors.items a ≡ Some x → Sound w → due x.place ≡ 1
     → vec_len w.history < vec_capacity w.history
 due_here w a x got v one = omega (arith, v.room, among w.actors.items a got, one)

@@ -115,7 +115,7 @@ listed rs GoesOn = rs
 listed rs (Commits r) = rs ++ r ∷ []
 listed rs (Aborts e) = rs
 
--- u has as many words as v, and lists behind the records of v what a step with this outcome has committed
+-- u has as many words as v, and lists after the records of v what a step with this outcome has committed
 abbrev pub Lists : Shown → Outcome → Shown → Type 0
 Lists v o u = (length u.values ≡ length v.values) × (u.history ≡ listed v.history o)
 
@@ -141,7 +141,7 @@ abbrev pub refusal_of : Shown → ℕ → Request → Option WordRefusal
 refusal_of v a request =
     if is_actor a then refusal_at (length v.values) (actor_in v a) (actor_in v a).place request else Some NoSuch
 
--- a refusal is the one named, or else want of memory
+-- a refusal is the one named, or else an allocation failed
 abbrev pub IsRefusal : Option WordRefusal → WordRefusal → Type 0
 IsRefusal (Some named) refusal = refusal ≡ named
 IsRefusal None refusal = refusal ≡ OutOfMemory
