@@ -16,7 +16,7 @@ use Rattle.seq_model.specs.Entries.{IsPlaceOf, IsRising, rank, has_key}
 use Rattle.seq_model.proofs.EntryLemmas.{below_at, both_true, by_cases, greater_of, entries_of, remove_absent, remove_there, without, without_below}
 use Rattle.base_pq.specs.Laid.{laid, through}
 
--- the entry goes behind those with lesser keys
+-- the entry goes after those with lesser keys
 put_behind : (k c : ℕ) (made rest : List (ℕ × ℕ)) → All (λ e. e.0 < k) made → put nat_cmp k c (made ++ rest) ≡ made ++ put nat_cmp k c rest
 put_behind k c [] rest low = refl
 put_behind k c (e ∷ made) rest low =
