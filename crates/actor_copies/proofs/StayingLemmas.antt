@@ -243,7 +243,7 @@ module _ {V : Type 0} where
     asked_by x Open q none ok = open_asked x q none ok
     asked_by x st q none ok = refused n w a (call_in q) refusal.NotIdle
 
-  -- ---- wants of memory
+  -- ---- failed allocations
   pub starved : (n : ℕ) (w : World V) (a : ℕ) (x : Seat V) (st : Stage V) → SameIn n a w (starve_at w a x st).0
   starved n w a x Beginning = ask_stays n w w a word.AskAbort tt (same n a w.boosted)
   starved n w a x (Reading l) = gives_up_stays n w w a (because x refusal.Memory) [] (same n a w.boosted)

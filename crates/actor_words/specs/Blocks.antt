@@ -1,4 +1,4 @@
--- How the locations of a world lie: what of a world never changes. And the collections that a transaction has written.
+-- How the locations of a world are laid out: what of a world never changes. And the collections that a transaction has written.
 use Rattle.std.specs.Prelude.{◌≡◌, ◌⊎◌, ℕ, ◌+◌, ◌<◌, ◌≤◌, ◌++◌, length, Bool, false, not, ◌==◌, if◌then◌else◌, List, [], ◌∷◌, Option, Some}
 use Rattle.std.specs.Prelude.{None, filter}
 use Rattle.tx_sets.specs.Entries.{Entries, locations}
@@ -47,7 +47,7 @@ abbrev pub with_home : Option ℕ → List ℕ → List ℕ
 with_home None ks = ks
 with_home (Some k) ks = if is_first k ks then ks else k ∷ ks
 
--- the locations of w lie so
+-- the locations of w are laid out so
 abbrev pub IsLaid : {V : Type 0} → BlocksView → World V → Type 0
 IsLaid v w = (w.words ≡ v.words) × (w.blocks ≡ v.blocks)
 

@@ -63,7 +63,7 @@ lock a n = asks a AskLock ++ steps a n ++ steps a n ++ steps a 2
 abbrev prepare : ℕ → ℕ → List (Action Op)
 prepare a n = lock a n ++ TakeGate a 0 ∷ []
 
--- the values of n locations, the base home, and the releases
+-- the values of n locations, the base put back, and the releases
 abbrev finish : ℕ → ℕ → List (Action Op)
 finish a n = asks a AskStore ++ steps a n ++ GoHome a 0 ∷ asks a AskRelease ++ steps a n
 

@@ -261,7 +261,7 @@ module _ {V : Type 0} where
       (IsRefusedAt w a (w.seats a).stage r.0) r.1
   refused_step w a k = step_says w a (w.seats a) (w.seats a).stage refl (k.seats a).stage
 
-  -- ---- wants of memory
+  -- ---- failed allocations
   abbrev IsGivenUp : ℕ → Seat V → Type 0
   IsGivenUp a x = (is_ending x.stage ≡ true) × (x.cause ≡ Some refusal.Memory)
 

@@ -205,7 +205,7 @@ module _ {V : Type 0} where
   step_rests w a x Cancelling seat at = has_cancelled_rests (acted w (moves a ∷ [])) a x (word_notice w a)
   step_rests w a x Leaving seat at = λ q. put_rests w.seats a no_one tt
 
-  -- ---- wants of memory
+  -- ---- failed allocations
   starve_rests : (w : World V) (a : ℕ) (x : Seat V) (st : Stage V) → w.seats a ≡ x → x.stage ≡ st → Rests a (starve_at w a x st)
   starve_rests w a x Idle seat at = same_rests w a x Idle (Refused a refusal.NoTransaction) seat at tt
   starve_rests w a x Open seat at = same_rests w a x Open (Refused a refusal.NoTransaction) seat at tt

@@ -45,8 +45,8 @@ module _ {V : Type 0} where
       × (has_word_room (actor_of w a) call.target call.op ≡ true)
   IsCallAdmitted w a q = Unit {0}
 
-  -- The request is refused neither as NotIdle, NoTransaction or NoSuch, nor as TooLong for the limit of calls or for want of room for its
-  -- word.
+  -- The request is refused neither as NotIdle, NoTransaction or NoSuch, nor as TooLong for the limit of calls or since its word finds no
+  -- room.
   pub record IsAdmitted (w : World V) (a : ℕ) (q : Request V) : Type 0 where
     pub stands : (w.seats a).stage ≡ Open
     pub call : IsCallAdmitted w a q

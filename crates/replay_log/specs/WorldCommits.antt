@@ -1,4 +1,4 @@
--- Commits in a world: locks, stamp and check; the gates of the written collections; the values; the bases home; the releases.
+-- Commits in a world: locks, stamp and check; the gates of the written collections; the values; the bases put back; the releases.
 use Rattle.std.specs.Prelude.{ℕ, Bool, true, not, if◌then◌else◌, List, [], ◌∷◌, filter}
 use Rattle.tx_sets.specs.Entries.{Entries, locations}
 use Rattle.word_machine.specs.Requests as word

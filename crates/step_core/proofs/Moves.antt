@@ -275,7 +275,7 @@ owed_here w a x v got = omega (arith, v.clock, among w.actors.items a got)
         ap (λ (u : Actor). owed u.place) e in omega (arith, g))
     among (z ∷ zs) (suc i) h = omega (arith, among zs i h)
 
--- a step keeps the bounds: it takes no number that was not owed, and adds no record that was not due
+-- a step keeps the bounds: it takes no number that was not owed, and adds no record that was not to come
 pub sound_next : (w t : Machine) (a : ℕ) (x y : Actor) → Sound w → slice_get w.actors.items a ≡ Some x
     → Fits (length w.cells.locks.items) y → HaveLength w.cells t.cells → Grows w.cells x t.cells y
     → t.actors.items ≡ slice_set w.actors.items a y → vec_len t.history + due y.place ≤ vec_len w.history + due x.place

@@ -112,7 +112,7 @@ module _ {V : Type 0} where
     abbrev o : World V
     o = world_at key
 
-    -- the actor's lone world, as the seat has it
+    -- the actor's lone world, by its seat
     abbrev mine : World V
     mine = asked_all id (lone id o m.0.turns) qs
 

@@ -49,7 +49,7 @@ module _ {V : Type 0} where
   editions_found w f None l = w.boosted.editions l
   editions_found w f (Some b) l = slice_index (editions_of b) (l - f)
 
-  -- w with what was found at this spot
+  -- w with what was found at this word or gate
   abbrev pub found_at : ℕ → World V → Spot → ℕ → Option (Base V) → World V
   found_at a w s n b = planted a w s n (parts_found w (first_at w s) b) (editions_found w (first_at w s) b)
 
