@@ -46,7 +46,7 @@ pub(crate) fn all_read<V: Value>(base: &Base<V>, outcome: &Outcome<V>) -> Option
 }
 
 impl<V: Value> Copied<V> {
-    /// The locations that an outcome reads.
+    /// The locations that an outcome reads. `Memory` where an allocation fails; up to eight locations take none.
     pub fn reads(&self, outcome: &Outcome<V>) -> Result<LocSet, Memory>
         ensures { IfOk result (λ set. set ≡ reads_in self.now outcome.now) }
     {
@@ -66,7 +66,7 @@ impl<V: Value> Copied<V> {
         }
     }
 
-    /// The locations that an outcome writes.
+    /// The locations that an outcome writes, two at most. They take no memory.
     pub fn writes(&self, outcome: &Outcome<V>) -> Result<LocSet, Memory>
         ensures { IfOk result (λ set. set ≡ writes_in self.now outcome.now) }
     {

@@ -106,7 +106,7 @@ impl BagBase {
         })
     }
 
-    /// What the multiset holds: copies of its elements.
+    /// What the multiset holds: copies of its elements. `Memory` where an allocation fails.
     pub fn held<V>(&self) -> Result<Held<V>, Memory>
         ensures { IfOk result (λ held. held ≡ (rules V).held_of self.now.shown) }
     {
@@ -157,6 +157,7 @@ impl BagBase {
         self.elements.copies(element)
     }
 
+    /// Where the multiset's memory comes from.
     pub fn allocator(&self) -> Global {
         self.editions.allocator()
     }
@@ -248,7 +249,7 @@ impl BagBase {
         self.editions.edition(location)
     }
 
-    /// A multiset that holds the same, with the same editions.
+    /// A multiset that holds the same, with the same editions. `Memory` where an allocation fails.
     pub fn try_copy(&self) -> Result<BagBase, Memory>
         ensures shown { IfOk result (λ copy. copy.shown ≡ self.now.shown) }
         ensures stripes { IfOk result (λ copy. copy.stripes ≡ self.now.stripes) }

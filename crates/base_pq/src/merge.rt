@@ -9,7 +9,7 @@ use crate::sorted::place_of;
 use seq_model::Memory;
 use std::alloc::Global;
 
-/// The entries of one list with those of another laid over them, where 0 copies are none.
+/// The entries of one list with those of another laid over them, where 0 copies are none. `Memory` where an allocation fails.
 pub fn merged(
     alloc: Global,
     list: &[(u64, u64)],

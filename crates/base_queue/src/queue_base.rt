@@ -110,7 +110,7 @@ impl QueueBase {
         })
     }
 
-    /// What the queue holds: its head, and the items by rising index.
+    /// What the queue holds: its head, and the items by rising index. `Memory` where an allocation fails.
     pub fn held<V>(&self) -> Result<Held<V>, Memory>
         ensures { IfOk result (λ held. held ≡ (rules V).held_of self.now.shown) }
     {
@@ -257,6 +257,7 @@ impl QueueBase {
         self.editions.raise(written);
     }
 
+    /// In how many stripes the queue is.
     pub fn stripes(&self) -> u32
         ensures { result ≡ self.now.stripes }
     {
@@ -271,7 +272,7 @@ impl QueueBase {
         self.editions.edition(location)
     }
 
-    /// A queue that holds the same, with the same editions.
+    /// A queue that holds the same, with the same editions. `Memory` where an allocation fails.
     pub fn try_copy(&self) -> Result<QueueBase, Memory>
         ensures shown { IfOk result (λ copy. copy.shown ≡ self.now.shown) }
         ensures stripes { IfOk result (λ copy. copy.stripes ≡ self.now.stripes) }

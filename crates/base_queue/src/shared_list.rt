@@ -46,6 +46,7 @@ impl Model for SharedList {
 }
 
 impl SharedList {
+    /// A list of these items. `Memory` where an allocation fails.
     pub fn of_slice(alloc: Global, items: &[u64]) -> Result<SharedList, Memory>
         requires { length items.now ≤ INDEX_LIMIT }
         ensures { IfOk result (λ list. list.items ≡ items.now) }
@@ -61,6 +62,7 @@ impl SharedList {
         })
     }
 
+    /// How many items there are.
     pub fn len(&self) -> usize
         ensures len { result ≡ length self.now.items }
         ensures small { result ≤ INDEX_LIMIT }
@@ -137,6 +139,8 @@ impl SharedList {
         0
     }
 
+    /// A copy, which shares the chunks and makes none. `Memory` where an allocation for the last few items fails, or the chunks can't be
+    /// shared.
     pub fn try_copy(&self) -> Result<SharedList, Memory>
         ensures { IfOk result (λ copy. copy.items ≡ self.now.items) }
     {

@@ -81,7 +81,7 @@ impl<V: Value> Base<V> {
         })
     }
 
-    /// What the collection holds, as a copy.
+    /// What the collection holds, as a copy. `Memory` where an allocation fails.
     pub fn held(&self) -> Result<Held<V>, Memory>
         ensures { IfOk result (λ held. held ≡ held_of (shown_of self.now)) }
     {
@@ -145,7 +145,8 @@ impl<V: Value> Base<V> {
         }
     }
 
-    /// Puts what the outcome changes, in order, into the list, in place of what that held.
+    /// Puts what the outcome changes, in order, into the list, in place of what that held. `Memory` where an allocation fails, which leaves
+    /// in the list what was put there.
     pub fn changes_into(
         &self,
         outcome: &Outcome<V>,
@@ -281,7 +282,7 @@ impl<V: Value> Base<V> {
         }
     }
 
-    /// A collection that holds the same, with the same editions.
+    /// A collection that holds the same, with the same editions. `Memory` where an allocation fails.
     pub fn try_copy(&self) -> Result<Base<V>, Memory>
         ensures shown { IfOk result (λ copy. shown_of copy ≡ shown_of self.now) }
         ensures stripes { IfOk result (λ copy. stripes_of copy ≡ stripes_of self.now) }

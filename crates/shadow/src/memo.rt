@@ -404,7 +404,8 @@ impl<V: Value> Memo<V> {
         }
     }
 
-    /// The locations that an outcome reads, as in an empty collection of its kind and stripes.
+    /// The locations that an outcome reads, as in an empty collection of its kind and stripes. `Memory` where an allocation fails; up to
+    /// eight locations take none.
     pub fn reads(&self, outcome: &Outcome<V>) -> Result<LocSet, Memory>
         ensures { IfOk result (λ set. set ≡ reads_of (stripes_of self.now.blank) outcome.now (shown_of self.now.blank)) }
     {
@@ -425,7 +426,7 @@ impl<V: Value> Memo<V> {
         }
     }
 
-    /// The locations that an outcome writes there.
+    /// The locations that an outcome writes there, one at most. They take no memory.
     pub fn writes(&self, outcome: &Outcome<V>) -> Result<LocSet, Memory>
         ensures { IfOk result (λ set. set ≡ writes_of (stripes_of self.now.blank) outcome.now (shown_of self.now.blank)) }
     {

@@ -30,6 +30,7 @@ impl<V> Model for Asking<V> {
 }
 
 impl<V> Asking<V> {
+    /// The call.
     pub fn get(&self) -> &Asked<V>
         ensures { result.now ≡ self.now }
     {
