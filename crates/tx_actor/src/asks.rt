@@ -90,8 +90,9 @@ impl<V: Drop> TxActor<V> {
         Ok(Told::Answered(Answer::Replied(Reply::Done)))
     }
 
-    /// Its transaction is to commit. Where it has written, the collections with a written location are found now. Its calls move into
-    /// the list that its receipt is going to keep; theirs serves the next transaction.
+    /// Its transaction is to commit. Where it has written, the collections with a written location are found now. Its calls move into the
+    /// list that its receipt is going to keep; theirs serves the next transaction. `Memory`, where an allocation fails, leaves the actor as
+    /// it was.
     #[inline(always)]
     pub fn asks_to_commit(&mut self, alloc: Global, blocks: &Blocks) -> Result<Told<V>, Memory>
         ensures ok { IfOk result (λ told. Asks blocks.now self.old self.new told
@@ -116,6 +117,7 @@ impl<V: Drop> TxActor<V> {
     }
 
     /// Its first value is to be stored next, which is the next step of its word actor. All is locked and checked, and the gates are held.
+    /// `Memory`, where an allocation fails, leaves the actor as it was.
     pub fn asks_to_store(&mut self, blocks: &Blocks) -> Result<(), Memory>
         ensures ok { OnOk result (MayStore self.old self.new) }
         ensures err { OnErr result (Stands self.old self.new) }
