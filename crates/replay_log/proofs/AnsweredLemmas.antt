@@ -108,7 +108,9 @@ module _ {V : Type 0} where
 
   op_rests : (u : World V) (a : ℕ) (x : Seat V) (t : ℕ) (op : Op V) → u.seats a ≡ x → x.stage ≡ Open → Rests a (ask_op u a x t op)
   op_rests u a x t Read seat at = allowed_rests u a x _ _ _ seat at (reads_rests u a x t _)
-  op_rests u a x t (Write v) seat at = allowed_rests u a x _ _ _ seat at (λ q. put_rests u.seats a (with_call x (record { target = t; op = Write v }) reply.Done) tt)
+  op_rests u a x t (Write v) seat at =
+      allowed_rests u a x _ _ _ seat at
+      (λ q. put_rests u.seats a (with_call x (record { target = t; op = Write v }) reply.Done) tt)
   op_rests u a x t op seat at = allowed_rests u a x _ _ _ seat at (calls_on_rests u a x (record { collection = t; op = op }))
 
   commits_rests : (u : World V) (a : ℕ) (x : Seat V) (es : Entries) → Rests a (commits u a x es)
@@ -256,7 +258,8 @@ module _ {V : Type 0} where
     reached events = run_linked events (opened blocks clock values held) (opened_linked blocks clock values held stripes)
 
     own_few : (events : List (Event V)) (e : Event V)
-        → let w = run (opened blocks clock values held) events in left_of w (whose e) < 1000000 → left_of (happens w e).0 (whose e) < 1000000
+        → let w = run (opened blocks clock values held) events in left_of w (whose e) < 1000000
+        → left_of (happens w e).0 (whose e) < 1000000
     own_few events (Ask a q) h =
         let w = run (opened blocks clock values held) events in
         let r = happens w (Ask a q) in

@@ -252,7 +252,8 @@ module _ {V : Type 0} where
   not_held_at cs i k op c is at holds = ap (λ q. holds_of q op) (first_at cs i k c at (sym (is.2 c at)) is.1) ∙ holds
 
   pub may_prepare : (v : BlocksView) (r : TxActor V) (i f k : ℕ) (op : Op V) → IsHeldAt r.copies.items i k op → CanCall v r
-      → is_known (block_of v.blocks k) op ≡ true → may_ask (words.actor_of r.words) op ≡ true → ((b : Block) → block_of v.blocks k ≡ Some b → f + size b < 2 ^ 32)
+      → is_known (block_of v.blocks k) op ≡ true → may_ask (words.actor_of r.words) op ≡ true
+      → ((b : Block) → block_of v.blocks k ≡ Some b → f + size b < 2 ^ 32)
       → MayPrepare r i f op
   may_prepare v r i f k op h can known may within =
       let c = h.copy in

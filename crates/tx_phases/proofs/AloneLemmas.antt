@@ -110,7 +110,8 @@ module _ {V : Type 0} where
       let z = w.boosted.shadows a in
       let o = outcome_at w a asked in
       choose_no (x.copied asked.collection (piece_at w.blocks asked)) (answers w a x x o o z.editions) _
-      (answers_no w a x x o o z.editions (has_room_for AnyWeight a w (weights x.calls) (changes c z.outcomes z.parts) asked h small few)) (λ q. q)
+      (answers_no w a x x o o z.editions (has_room_for AnyWeight a w (weights x.calls) (changes c z.outcomes z.parts) asked h small few))
+      (λ q. q)
 
   pub allowed_no : (w : World V) (a : ℕ) (x : Seat V) (known room : Bool) (next : After V) → known ≡ true → length x.calls < CALL_LIMIT
       → room ≡ true → NoRefusal next → NoRefusal (if_allowed w a x known room next)

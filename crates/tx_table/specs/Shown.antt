@@ -128,7 +128,8 @@ module _ {V : Type 0} where
     pub aborted : aborted_by j w.aborted ≡ o.aborted
     pub committed : (h : ℕ × Record V → ℕ) → total (only_by j h) w.records ≡ total h o.records
 
-  -- the receipts of the seat of j are what the actors for which it stands have committed: its own, and those whose seats were joined into it
+  -- the receipts of the seat of j are what the actors for which it stands have committed: its own, and those whose seats were joined into
+  -- it
   abbrev pub HasReceipts : World V → ℕ → View V → Type 0
   HasReceipts o j v = (h : ℕ × Record V → ℕ)
       → total h v.receipts ≡ total h (lone j o v.turns).records + total (λ p. total h (lone p.0 o p.1).records) v.joined
