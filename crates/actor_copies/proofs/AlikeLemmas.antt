@@ -1,5 +1,5 @@
--- What is made ready in copies changes nothing that they show (`IsKept`): what they hold and answer, their pieces, their editions; and
--- what is a transaction's own stays its own.
+-- What is made ready in copies changes nothing that they show (`IsKept`): what they hold and answer, their pieces, their editions; and what
+-- is a transaction's own remains its own.
 use Rattle.std.proofs.Common.{◌≡◌, ◌==◌, ◌+◌, ℕ, zero, suc, Bool, true, false, cond, length, List, [], ◌∷◌, Option, Some, None, refl, sym}
 use Rattle.std.proofs.Common.{ap, subst, ◌∙◌}
 use Rattle.std.specs.Prelude.{Contains, is_some, slice_get, slice_index, unwrap_or}

@@ -1,6 +1,6 @@
--- A call of an actor at rest, in each world that events have reached: what is known there of its transaction (`Live`) says that what was
--- read of a collection was read with the copied edition, and that the read set has it; so a call whose locations are all judged by the
--- read set may be accepted. A location that no read set has is in no write set, since an outcome reads what it writes.
+-- A call of an idle actor, in each world that events have reached: what is known there of its transaction (`Live`) says that what was read
+-- of a collection was read with the copied edition, and that the read set has it; so a call whose locations are all judged by the read set
+-- may be accepted. A location that no read set has is in no write set, since an outcome reads what it writes.
 use Rattle.std.proofs.Common.{◌≡◌, ◌⊎◌, ℕ, Bool, true, false, ◌&&◌, cond, eqb, eq-eqb, eqb-true, List, [], ◌∷◌, Option, Some, None, inl}
 use Rattle.std.proofs.Common.{inr, refl, sym, ap, subst, ◌∙◌}
 use Rattle.tx_sets.specs.Entries.{Entries, lookup}

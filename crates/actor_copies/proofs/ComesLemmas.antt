@@ -1,6 +1,6 @@
--- What a call comes to once it is judged, in a world that keeps what events keep after it. Were the acceptance refused, that world would
--- have told one call more than its shadow has outcomes; so the guard holds (`allowed`). Were the location that is read next written, its
--- word actor would rest at a stage that loads (`unwritten`).
+-- What a call results in once it is judged, in a world that keeps what events keep after it. Were the acceptance refused, that world would
+-- have answered one call more than its shadow has outcomes; so the guard holds (`allowed`). Were the location that is read next written,
+-- its word actor would be idle at a stage that loads (`unwritten`).
 use Rattle.std.proofs.Common.{◌≡◌, ℕ, Bool, true, false, true≢false, cond, not, ◌&&◌, eqb, eqb-true, List, [], ◌∷◌, ◌++◌, Option, Some}
 use Rattle.std.proofs.Common.{None, inl, inr, refl, sym, ap, subst, ◌∙◌}
 use Rattle.std.proofs.lemmas.List.Elements.{filter-append}
@@ -40,7 +40,7 @@ not_done : {X : Type 0} (s t : X) (b : Bool) → b ≡ false → cond b t s ≡ 
 not_done s t true e = absurd (true≢false e)
 not_done s t false e = refl
 
--- what was judged by the read set was read so first, where it lies in collections
+-- what was judged by the read set was read so first, where it is in collections
 pub all_read : (n : ℕ) (bs : List Block) (y : Actor) (es : Entries) → Kept n bs y → ((l : ℕ) → IsLeft l es → is_plain n bs l ≡ false)
     → judged y.reads es ≡ All → AreRead y.calls es
 all_read n bs y [] kept plain all = tt
@@ -110,7 +110,7 @@ module _ {V : Type 0} where
   told_longer (d ∷ cs) c [] h more = h
   told_longer (d ∷ cs) c (o ∷ os) h more = told_longer cs c os h.2 more.2
 
-  -- a stage that loads is not that of a word actor at rest
+  -- a stage that loads is not that of an idle word actor
   not_open : (n : World V) (v : Seat V) (q : Actor) (z : Copy V) (o : Answered V) (left : Entries)
       → StageOk n.words n.blocks v q z (Loading o left) q.place → q.place ≡ machine.Open → ⊥
   not_open n v q z o [] h e = h

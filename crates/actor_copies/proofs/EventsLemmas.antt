@@ -1,6 +1,6 @@
 -- What an event leaves of what a transaction has of collections, in every world that events have reached: what each function of the
 -- definitions leaves, by the stage of the event's actor. A load of a call's location reads nothing of another collection, since the
--- locations that are left lie in the call's own.
+-- locations that are left are in the call's own.
 use Rattle.std.proofs.Common.{◌≡◌, ◌≢◌, ℕ, ◌+◌, ◌≤◌, [], ◌∷◌, Option, Some, None, inl, inr, refl, sym, ap, subst, ◌∙◌}
 use Rattle.word_machine.specs.Actor.{Actor}
 use Rattle.word_machine.specs.Opacity.{first_read}

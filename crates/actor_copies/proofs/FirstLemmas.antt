@@ -1,5 +1,5 @@
--- The first copy of a collection: a blank memo is of every collection of its kind, by the law on copies, and stays so as it learns what was
--- touched; a whole copy without a change shows what was copied.
+-- The first copy of a collection: a blank memo is of every collection of its kind, by the law on copies, and remains so as it learns what
+-- was touched; a whole copy without a change shows what was copied.
 use Rattle.std.proofs.Common.{◌≡◌, ℕ, [], Some, None, sym, ap, ◌∙◌}
 use Rattle.std.specs.FinMap.{empty}
 use Rattle.seq_model.specs.declared.call.Op.{Op}

@@ -1,4 +1,4 @@
--- What a call reads and writes lies in its collection: by the frame laws of its kind (`read_at`, `written_at`), at each state of it.
+-- What a call reads and writes is in its collection: by the frame laws of its kind (`read_at`, `written_at`), at each state of it.
 use Rattle.std.proofs.Common.{◌≡◌, ℕ, zero, suc, ◌+◌, ◌<◌, ◌≤◌, ◌^◌, List, Some, refl, sym, subst, arith}
 use Rattle.std.specs.Prelude.{All, Contains, slice_index_or}
 use Rattle.std.proofs.lemmas.List.FromFn.{get_or-range_with_len, length-range_with_len}

@@ -1,5 +1,5 @@
--- What a call comes to once it is copied. Where all its locations are judged, or one is to be read next, the copy is not stale, so the
--- locations that are to fit the sets are its own; the step leads where events lead, and the lemmas on what a judged call comes to serve.
+-- What a call results in once it is copied. Where all its locations are judged, or one is to be read next, the copy is not stale, so the
+-- locations that are to fit the sets are its own; the step leads where events lead, and the lemmas on what a judged call results in serve.
 use Rattle.std.proofs.Common.{◌≡◌, ℕ, Bool, true, false, cond, eqb, not, ◌&&◌, List, Option, Some, None, [], ◌∷◌, refl, sym, ap, subst, ◌∙◌}
 use Rattle.std.proofs.lemmas.Bool.{cond-true, cond_both}
 use Rattle.tx_sets.specs.Entries.{Entries, lookup}
@@ -91,7 +91,7 @@ module _ {V : Type 0} where
     now : actor_of u a ≡ y
     now = (copies_for_call a (w.seats a) y w asked (refl, refl)).0.1
 
-    -- the step comes to what is judged
+    -- the step results in what is judged
     steps_to : (j : Judged) → room o ≡ true → judged y.reads es ≡ j → GoesOn j
         → step_at w a (w.seats a) (w.seats a).stage ≡ comes_to u a x o (left_after y.reads es) j
     steps_to j fits is on =
@@ -106,7 +106,7 @@ module _ {V : Type 0} where
     linked : (j : Judged) → room o ≡ true → judged y.reads es ≡ j → GoesOn j → Linked (comes_to u a x o (left_after y.reads es) j).0
     linked j fits is on = subst (λ (p : After V). Linked p.0) (steps_to j fits is on) (run_linked (Step a ∷ []) w k)
 
-    -- each location that the call reads lies in its collection
+    -- each location that the call reads is in its collection
     plain : (l : ℕ) → IsLeft l es → is_plain w.words w.blocks l ≡ false
     plain l m =
         let z = u.boosted.shadows a in

@@ -1,4 +1,4 @@
--- While the locations of a call are read, those that are left lie in its collection: they are the locations that its outcome reads, and
+-- While the locations of a call are read, those that are left are in its collection: they are the locations that its outcome reads, and
 -- judging takes off the first ones. No other function of the definitions leads to that stage, so one lemma for each says it of the seat
 -- that the function leaves.
 use Rattle.std.proofs.Common.{◌≡◌, ℕ, zero, suc, Bool, true, false, cond, ◌&&◌, List, [], ◌∷◌, ◌++◌, Option, Some, None, inl, inr, refl}
@@ -43,7 +43,7 @@ use Rattle.actor_copies.specs.Keeps.{call_on}
 use Rattle.actor_words.specs.Shows.{put_back}
 
 module _ {V : Type 0} where
-  -- the locations that are left of a call lie in its collection
+  -- the locations that are left of a call are in its collection
   abbrev pub IsHomed : ℕ → List Block → Stage V → Type 0
   IsHomed n bs (Loading o es) = (l : ℕ) → IsLeft l es → home_of n bs l ≡ o.asked.collection
   IsHomed n bs st = Unit {0}
@@ -93,7 +93,7 @@ module _ {V : Type 0} where
   loads_homed (d ∷ es) u a x o h =
       judges_homed u a x o d es (loads u a x o es) (lookup (actor_of u a).reads d.0) h (loads_homed es u a x o (λ l m. h l (inr m)))
 
-  -- what an outcome reads lies in its collection
+  -- what an outcome reads is in its collection
   reads_homed : (n : ℕ) (bs : List Block) (v : ℕ → Shown V) (asked : Asked V) (l : ℕ) → HaveStripes bs
       → IsIn l ((content n bs).reads ((content n bs).outcome v asked)) → home_of n bs l ≡ asked.collection
   reads_homed n bs v asked l stripes m = by ((content n bs).outcome v asked).outcome refl

@@ -1,6 +1,7 @@
 -- Where the last location of a call is read with the copied edition. What events keep of a world says that the call's outcome is what the
--- shadow answers, and the step leads where events lead, so the lemmas on what a judged call comes to serve. Each location was read with the
--- copied edition first: the read set says so of one that keeps a read set, and a declared reader reads all from one memory (`read_again`).
+-- shadow answers, and the step leads where events lead, so the lemmas on what a judged call results in serve. Each location was read with
+-- the copied edition first: the read set says so of one that keeps a read set, and a declared reader reads all from one memory
+-- (`read_again`).
 use Rattle.std.proofs.Common.{◌≡◌, ℕ, true, false, eqb, eq-eqb, ne_eqb, List, [], ◌∷◌, ◌++◌, Option, Some, None, inl, inr, refl, sym, ap}
 use Rattle.std.proofs.Common.{subst, ◌∙◌, true≢false}
 use Rattle.std.specs.Prelude.{unwrap_or}
@@ -74,7 +75,7 @@ doomed_more cs ds (d ∷ es) more h =
     ]
 
 module _ {V : Type 0} where
-  -- what is left to be judged lies in collections
+  -- what is left to be judged is in collections
   left_plain : (n : ℕ) (bs : List Block) (y : Actor) (z : Copy V) (es : Entries) → Left n bs y z es → (l : ℕ) → IsLeft l es
       → is_plain n bs l ≡ false
   left_plain n bs y z [] left l m = absurd m
@@ -146,7 +147,7 @@ module _ {V : Type 0} where
         let c = content w.words w.blocks in
         ap (λ (q : Copy V). c.outcome (changes c q.outcomes q.parts) o.asked) moved.own.shadow ∙ sym ok.2.is
 
-    -- what the step comes to, where all is judged
+    -- what the step results in, where all is judged
     abbrev x : Seat V
     x = w.seats a
 
@@ -193,7 +194,7 @@ module _ {V : Type 0} where
       let first : World V = opened blocks clock values held in
       loads_in (run first events) a o d es (run_linked events first (opened_linked blocks clock values held stripes)) st n
 
-  -- a step of the load that tells nothing leaves the shadow and the calls
+  -- a step of the load that answers nothing leaves the shadow and the calls
   pub rests_in : (blocks : List Block) (clock : ℕ) (values : List ℕ) (held : List (Held V)) (events : List (Event V)) (a : ℕ)
       (o : Answered V) (d : ℕ × ℕ) (es : Entries) → HaveStripes blocks →
       let w = run (opened blocks clock values held) events in

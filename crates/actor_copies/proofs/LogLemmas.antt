@@ -1,4 +1,4 @@
--- The log of a copy is that of its transaction's calls on the collection. Each location in it lies in the collection, by the frame laws, so
+-- The log of a copy is that of its transaction's calls on the collection. Each location in it is in the collection, by the frame laws, so
 -- in each base of its block; and the edition that such a base has there is not above the clock.
 use Rattle.std.proofs.Common.{◌≡◌, ◌≢◌, ℕ, zero, suc, ◌+◌, ◌-◌, ◌<◌, ◌≤◌, ◌++◌, ◌==◌, cond, if◌then◌else◌, Bool, true, false, eqb, eqb-true}
 use Rattle.std.proofs.Common.{get_or, length, List, [], ◌∷◌, Option, Some, None, take, drop, ⊎_elim, refl, sym, ap, subst, ◌∙◌, arith}
@@ -40,7 +40,7 @@ module _ {V : Type 0} where
   log_is b s changes locations (Keys m es) is = (is.2, is.3)
   log_is b s changes locations (Whole t) is = (is.2, is.3)
 
-  -- each location lies in the collection
+  -- each location is in the collection
   pub log_below : (k : ℕ) (b : Block) (os : List (Answered V)) → 0 < b.stripes → (i : ℕ) → Contains (log_locations k b os) i → i < size b
   log_below k b [] pos i (j, lt, e) = absurd (omega (arith, lt))
   log_below k b (o ∷ os) pos i h =

@@ -1,6 +1,6 @@
--- What there is of a collection is what an actor has of it in each world whose locations lie so and where the actor's shadow is alike at
--- the collection's block, and the log of its calls there (`own_at`). So it is where the shadow is the same, where an outcome on another
--- collection has joined it, and once the gate of another collection is put back, which copies locations of that one.
+-- What there is of a collection is what an actor has of it in each world whose locations are laid out so and where the actor's shadow is
+-- alike at the collection's block, and the log of its calls there (`own_at`). So it is where the shadow is the same, where an outcome on
+-- another collection has joined it, and once the gate of another collection is put back, which copies locations of that one.
 use Rattle.std.proofs.Common.{◌≡◌, ◌≢◌, ℕ, ◌+◌, ◌<◌, ◌==◌, ◌&&◌, ◌++◌, Bool, true, false, cond, not, [], Option, Some, None, append-nil}
 use Rattle.std.proofs.Common.{arith, refl, sym, ap, subst, ◌∙◌, ne_eqb}
 use Rattle.std.proofs.lemmas.Bool.{cond-false, cond_both}

@@ -1,5 +1,5 @@
--- What has been read of what a transaction has of a collection. It depends on how the locations lie and on what was read there, and more
--- reads keep it. An accepted outcome leaves which calls are held and what they read, so it keeps it too.
+-- What has been read of what a transaction has of a collection. It depends on how the locations are laid out and on what was read there,
+-- and more reads keep it. An accepted outcome leaves which calls are held and what they read, so it keeps it too.
 use Rattle.std.proofs.Common.{◌≡◌, ℕ, ◌+◌, true, List, Option, Some, None, Contains, refl, sym, ap, subst, ◌∙◌}
 use Rattle.std.specs.FinMap.{get}
 use Rattle.word_machine.specs.Opacity.{first_read}

@@ -1,5 +1,5 @@
 -- What an event of an actor leaves of its shadow and of what it has read first: one lemma for each function of the definitions, in their
--- order. What a call comes to (`comes_by`) is told by the world behind the event, as events keep it: where all its locations are judged
+-- order. What a call results in (`comes_by`) is what the world after the event says, as events keep it: where all its locations are judged
 -- it is accepted, and one that is read next is in no set, so its read is not answered at once.
 use Rattle.std.proofs.Common.{◌≡◌, ◌⊎◌, ℕ, ◌+◌, ◌<◌, Bool, true, false, cond, ◌&&◌, not, List, [], ◌∷◌, length, Option, Some, None, inl}
 use Rattle.std.proofs.Common.{inr, refl, sym, ap, subst, ◌∙◌}
@@ -54,7 +54,7 @@ module _ {V : Type 0} where
   abbrev pub SameIn : ℕ → ℕ → World V → World V → Type 0
   SameIn n a v u = Same n a v.boosted u.boosted
 
-  -- ---- requests of the word actor, and a transaction that is given up
+  -- ---- requests of the word actor, and a transaction that is aborted
   pub ask_stays : (n : ℕ) (v u : World V) (a : ℕ) (q : word.Request) → IsOnWords n q → SameIn n a v u
       → SameIn n a v (acted u (asks a q ∷ []))
   ask_stays n v u a q ok h =
@@ -69,8 +69,8 @@ module _ {V : Type 0} where
   gives_up_stays n v u a x [] h = cancels_stay n v u a x h
   gives_up_stays n v u a x (k ∷ ks) h = h
 
-  -- ---- what a call comes to
-  -- a call with this outcome is answered, and joins the shadow's; or all stays
+  -- ---- what a call results in
+  -- a call with this outcome is answered, and joins the shadow's; or all remains
   abbrev pub Either : ℕ → ℕ → World V → Answered V → After V → Type 0
   Either n a v o f =
       (SameIn n a v f.0 × IsUnanswered f.1)
@@ -243,7 +243,7 @@ module _ {V : Type 0} where
     asked_by x Open q none ok = open_asked x q none ok
     asked_by x st q none ok = refused n w a (call_in q) refusal.NotIdle
 
-  -- ---- wants of memory
+  -- ---- failed allocations
   pub starved : (n : ℕ) (w : World V) (a : ℕ) (x : Seat V) (st : Stage V) → SameIn n a w (starve_at w a x st).0
   starved n w a x Beginning = ask_stays n w w a word.AskAbort tt (same n a w.boosted)
   starved n w a x (Reading l) = gives_up_stays n w w a (because x refusal.Memory) [] (same n a w.boosted)

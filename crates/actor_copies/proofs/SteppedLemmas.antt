@@ -69,7 +69,7 @@ after_read y z l (told.Moved i w) h = no_more y z l (ap (λ (x : Actor). x.calls
 after_read y z l m h = absurd h
 
 module _ {V : Type 0} where
-  -- ---- what is told of a step
+  -- ---- what a step answers
   read_stays : (n : ℕ) (v u : World V) (a : ℕ) (x : Seat V) (l : ℕ) (m : told.Notice) → SameIn n a v u
       → SameIn n a v (has_read u a x l m).0
   read_stays n v u a x l (told.Number i) h = h
@@ -106,7 +106,7 @@ module _ {V : Type 0} where
   cancelled_stays n v u a x told.Cancelled h = ask_stays n v u a word.AskAbort tt h
   cancelled_stays n v u a x m h = h
 
-  -- what a load leaves of the actor and its shadow, and what it comes to
+  -- what a load leaves of the actor and its shadow, and what it results in
   pub record LoadBy (w : World V) (a : ℕ) (o : Answered V) (l : ℕ) (f : After V) : Type 0 where
     pub shadow : (acted w (moves a ∷ [])).boosted.shadows a ≡ w.boosted.shadows a
     pub reads : GoesOnReading (actor_of w a) (actor_of (acted w (moves a ∷ [])) a) l

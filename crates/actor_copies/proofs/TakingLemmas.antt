@@ -1,4 +1,4 @@
--- What is taken back. A first copy stands behind the others, which are as they were but for what is ready in them, so they show the pieces
+-- What is taken back. A first copy stands after the others, which are as they were but for what is ready in them, so they show the pieces
 -- that there were once it goes. A copy that learnt forgets what it learnt: it shows the pieces that it had (`ForgottenLemmas`), and stands
 -- where it stood. One of a kind that is copied whole shows none as a memo. Once a copy is taken it is the one of its collection, and the
 -- others are as they were.
@@ -37,7 +37,7 @@ not_both : (j k l : ℕ) → (k == l) ≡ false → (j == l) ≡ true → (j == 
 not_both j k l other e f = true≢false (sym (eq-eqb k l (sym (eqb-true j k f) ∙ eqb-true j l e)) ∙ other)
 
 module _ {V : Type 0} where
-  -- ---- behind the others
+  -- ---- after the others
   kept_front : (cs : List (CopyOf V)) (c : CopyOf V) (es : List (CopyOf V)) → AreKept (cs ++ c ∷ []) es → AreKept cs (take (length cs) es)
   kept_front [] c es h = tt
   kept_front (x ∷ cs) c (e ∷ es) h = (h.0, h.1, kept_front cs c es h.2)

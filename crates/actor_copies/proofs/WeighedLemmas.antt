@@ -1,5 +1,5 @@
--- The one location that a call on a key reads lies in its collection. What a copy holds it answers, where the call is of its block's kind;
--- so it refuses the call for memory alone.
+-- The one location that a call on a key reads is in its collection. What a copy holds it answers, where the call is of its block's kind; so
+-- it refuses the call for memory alone.
 use Rattle.std.proofs.Common.{◌≡◌, ℕ, ◌<◌, true, true≢false, Option, Some, None, [], ◌∷◌, refl, sym, ap, ◌∙◌, arith}
 use Rattle.std.specs.Prelude.{IsSome, is_some}
 use Rattle.std.specs.Ordering.{nat_cmp}

@@ -85,7 +85,7 @@ pub record AreTaken (b : Block) (f : ℕ) (read : ℕ → Option ℕ) (which tak
   pub leaves : (i e : ℕ) → i < size b → read (f + i) ≡ Some e → taken (f + i) ≡ false
   pub covers : (i : ℕ) → i < size b → which (f + i) ≡ false → taken (f + i) ≡ false
 
--- What actor a has of the collection that it asked a call of, which lies in block b, once it is copied and the gate put back: d is its own
+-- What actor a has of the collection that it asked a call of, which is in block b, once it is copied and the gate put back: d is its own
 -- copy, or one of the locations that the call reads was read with another edition. It holds the call, which is judged with the editions of
 -- the base, and its locations fit the sets where those of the definitions' outcome do. Once these have been read, with further calls, so
 -- has all that it has of single keys.
@@ -120,7 +120,7 @@ CopiesFor V =
     → ShowsBase w.words w.blocks w asked.collection base → IsOwn w a asked.collection c → IsReadOf w a asked.collection c
     → holds_of c asked.op ≡ false → IsFound base asked.op x → IsTaken b.stripes x c d → IsCopyFor w a b asked d
 
--- What a call comes to once it is copied and its gate put back, where its locations fit the sets: where all have been read with the
+-- What a call results in once it is copied and its gate put back, where its locations fit the sets: where all have been read with the
 -- editions of the base it may be accepted, and the one that is to be read next is not written. Those that are passed have been read, and
 -- one that was read with another edition is left.
 pub record CopiesGoOn {V : Type 0} (w : World V) (a : ℕ) (asked : Asked V) : Type 0 where

@@ -1,4 +1,4 @@
--- What an actor has of a collection is of its shadow in a world, and what a call that it holds comes to there.
+-- What an actor has of a collection is of its shadow in a world, and what a call that it holds results in there.
 use Rattle.std.specs.Prelude.{◌≡◌, ℕ, List, Some, Contains, true, if◌then◌else◌}
 use Rattle.seq_model.specs.declared.call.Op.{Op}
 use Rattle.seq_model.specs.declared.refusal.Refusal.TheVariants as refusal

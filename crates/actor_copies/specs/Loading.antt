@@ -24,7 +24,7 @@ abbrev pub IsDoomed : List Call → Entries → Type 0
 IsDoomed cs [] = ⊥
 IsDoomed cs (d ∷ es) = ((e : ℕ) × (first_read cs d.0 ≡ Some e) × (e ≢ d.1)) ⊎ IsDoomed cs es
 
--- What the load of a call's location d leaves in the world w, which told the copied edition, with these locations still to be judged.
+-- What the load of a call's location d leaves in the world w, which answered the copied edition, with these locations still to be judged.
 pub record LoadsIn {V : Type 0} (w : World V) (a : ℕ) (o : Answered V) (d : ℕ × ℕ) (es : Entries) : Type 0 where
   pub accepts : let u = acted w (moves a ∷ []) in
       judged (actor_of u a).reads es ≡ All →

@@ -1,4 +1,4 @@
--- What a commit hands home of a collection: the log of its calls there.
+-- What a commit hands over of a collection: the log of its calls there.
 use Rattle.std.specs.Prelude.{◌≡◌, ◌≢◌, ℕ, List, [], Option, Some, None}
 use Rattle.conflict.specs.declared.change.Change.{Change}
 use Rattle.actor_copies.specs.declared.copies.Copied.{Copied}

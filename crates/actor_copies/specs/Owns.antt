@@ -1,5 +1,5 @@
--- What a transaction has of a collection is its own in a world, of the kind and the stripes of its block; and what a call of an actor at
--- rest meets in each world that events have reached.
+-- What a transaction has of a collection is its own in a world, of the kind and the stripes of its block; and what a call of an idle actor
+-- meets in each world that events have reached.
 use Rattle.std.specs.Prelude.{◌≡◌, ℕ, ◌<◌, true, List, [], ◌∷◌, Option, Some, None}
 use Rattle.tx_sets.specs.Entries.{lookup}
 use Rattle.word_machine.specs.Actor.{Open as AtRest}
@@ -60,7 +60,7 @@ pub record IsHeldAsk {V : Type 0} (w : World V) (a : ℕ) (asked : Asked V) : Ty
   pub may : may_ask (actor_of w a) asked.op ≡ true
   pub copied : (w.seats a).copied asked.collection (piece_at w.blocks asked) ≡ true
 
--- The word actor of a rests, and of each such call: where all that it reads has been read with the copied editions, it may be accepted,
+-- The word actor of a is idle, and of each such call: where all that it reads has been read with the copied editions, it may be accepted,
 -- and the location that is to be read next has not been written.
 pub record MayCall {V : Type 0} (w : World V) (a : ℕ) : Type 0 where
   pub place : (actor_of w a).place ≡ AtRest

@@ -20,7 +20,7 @@ use Rattle.actor_copies.specs.declared.copies.Copied.{Copied}
 use Rattle.actor_copies.specs.Copied.{IsReadOf}
 use Rattle.actor_copies.specs.Keeps.{call_on}
 
--- From w to v the locations lie alike, and actor a has read the same first of each location that is no word.
+-- From w to v the locations are laid out alike, and actor a has read the same first of each location that is no word.
 pub record ReadsStay {V : Type 0} (w v : World V) (a : ℕ) : Type 0 where
   pub words : v.words ≡ w.words
   pub blocks : v.blocks ≡ w.blocks
@@ -35,12 +35,13 @@ module _ {V : Type 0} where
   abbrev pub Joins : World V → World V → ℕ → Answered V → Type 0
   Joins w v a o = ReadsStay w v a × (v.boosted.shadows a ≡ longer (w.boosted.shadows a) o)
 
-  -- no reply and no end is told
+  -- no reply and no end is answered
   abbrev pub IsUnanswered : Notice V → Type 0
   IsUnanswered (notice.Answered a x) = ⊥
   IsUnanswered n = Unit {0}
 
-  -- a call of actor a with this outcome is answered, and the outcome has joined those of the shadow; or nothing is answered, and all stays
+  -- a call of actor a with this outcome is answered, and the outcome has joined those of the shadow; or nothing is answered, and all
+  -- remains
   abbrev pub StaysOrJoins : World V → ℕ → Answered V → After V → Type 0
   StaysOrJoins w a o f =
       (Stays w f.0 a × IsUnanswered f.1) ⊎ (Joins w f.0 a o × (f.1 ≡ notice.Answered a (Replied (reply_of o))))

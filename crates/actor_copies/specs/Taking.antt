@@ -36,7 +36,7 @@ module _ {V : Type 0} where
   abbrev pub IsPushed : (n k : ℕ) → Found V → (before now : List (CopyOf V)) → Type 0
   IsPushed n k x before now = (c : Copied V) × IsTaken n x None c × (now ≡ before ++ copy_with k c ∷ [])
 
-  -- The copies with c for collection k, which stands at place i: in the place of what there was, or behind the others.
+  -- The copies with c for collection k, which stands at place i: in the place of what there was, or after the others.
   abbrev pub IsPutAt : (k : ℕ) (c : Copied V) (i : ℕ) (before now : List (CopyOf V)) → Option (Copied V) → Type 0
   IsPutAt k c i before now None = (i ≡ length before) × (now ≡ before ++ copy_with k c ∷ [])
   IsPutAt k c i before now (Some d) = IsPlaceOf before k (Some i) × (now ≡ slice_set before i (copy_with k c))

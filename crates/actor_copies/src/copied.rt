@@ -26,8 +26,8 @@ pub fn copied_as_worlds<V: Value>()
     ensures { CopiesFor V }
 {}
 
-/// What a call comes to once it is copied and its gate put back, in every world that events have reached. Where its locations fit the sets
-/// and have all been read with the editions of the base, it may be accepted; a location that is to be read next has not been written.
+/// What a call results in once it is copied and its gate put back, in every world that events have reached. Where its locations fit the
+/// sets and have all been read with the editions of the base, it may be accepted; a location that is to be read next has not been written.
 pub fn copies_go_on<V: Value>()
     ensures { CopiesReached V }
 {}

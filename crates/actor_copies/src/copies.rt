@@ -56,8 +56,9 @@ impl<V: Value> Copied<V> {
         }
     }
 
-    /// Has from now on what was touched of its map or multiset as well, with the editions that it was touched with; what it has already
-    /// stays. One that is refused memory has what it had. Hands the list of these editions back, whose memory serves again.
+    /// Has from now on what was touched of its map or multiset as well, with the editions that it was touched with; what it has already is
+    /// unchanged. `Memory`, where an allocation fails, leaves what it had. Hands the list of these editions back, whose memory serves
+    /// again.
     pub fn learn(&mut self, touch: Touch<V>) -> Result<LocationEditions, Memory>
         ensures learnt { OnOk result (IsLearnt touch self.old self.new) }
         ensures err { OnErr result (IsKept self.old self.new) }
@@ -75,8 +76,8 @@ impl<V: Value> Copied<V> {
         Ok(editions)
     }
 
-    /// Has no more what the call touches, and takes so back what was learnt for a call that is not made. The editions that are known
-    /// stay. It takes no memory.
+    /// Has no more what the call touches, and takes so back what was learnt for a call that is not made. The editions that are known are
+    /// kept. It takes no memory.
     pub fn forget(&mut self, op: &Op<V>)
         ensures { IsForgotten op.now self.old self.new }
     {
@@ -86,7 +87,7 @@ impl<V: Value> Copied<V> {
         }
     }
 
-    /// Makes ready what accepting the outcome will take. Nothing else changes, also where memory is refused.
+    /// Makes ready what accepting the outcome will take. Nothing else changes, also where an allocation fails.
     pub fn ready(&mut self, outcome: &Outcome<V>) -> Result<(), Memory>
         ensures ok { OnOk result (IsReady outcome.now self.new) }
         ensures kept { IsKept self.old self.new }
@@ -97,7 +98,7 @@ impl<V: Value> Copied<V> {
         }
     }
 
-    /// Accepts the outcome, which has been made ready. It takes no memory and is never refused. The reply of the outcome stays in its
+    /// Accepts the outcome, which has been made ready. It takes no memory and is never refused. The reply of the outcome remains in its
     /// place.
     #[inline(always)]
     pub fn accept(&mut self, outcome: &mut Outcome<V>)
@@ -121,8 +122,8 @@ impl<V: Value> Copied<V> {
         }
     }
 
-    /// Makes room in the base for the changes of the accepted calls, so that they go home without memory. The base shows what it did,
-    /// also where memory is refused.
+    /// Makes room in the base for the changes of the accepted calls, so that they are folded in without memory. The base shows what it did,
+    /// also where an allocation fails.
     pub fn prepare(&self, base: &mut Base<V>) -> Result<(), Memory>
         ensures ok { OnOk result (IsPreparedFor (changes_in self.now) base.new) }
         ensures shown { shown_of base.new ≡ shown_of base.old }
@@ -144,11 +145,11 @@ fn keep_editions(known: &mut FewKeys<u64>, editions: &[(u32, u64)])
     }
 }
 
-/// What a call touches of a collection, as its base has it.
+/// What a call touches of a collection, as its base holds it.
 #[derive(Drop)]
 pub enum Found<V> {
     Keys(Touch<V>),
-    /// The copy in this shadow. The calls that it has are of no meaning.
+    /// The copy in this shadow. The calls that it has are unused.
     Whole(Boxed<Shadow<V>>),
 }
 

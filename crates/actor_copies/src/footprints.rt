@@ -46,7 +46,7 @@ pub(crate) fn all_read<V: Value>(base: &Base<V>, outcome: &Outcome<V>) -> Option
 }
 
 impl<V: Value> Copied<V> {
-    /// The locations that an outcome reads.
+    /// The locations that an outcome reads. `Memory` where an allocation fails; up to eight locations take none.
     pub fn reads(&self, outcome: &Outcome<V>) -> Result<LocSet, Memory>
         ensures { IfOk result (λ set. set ≡ reads_in self.now outcome.now) }
     {
@@ -66,7 +66,7 @@ impl<V: Value> Copied<V> {
         }
     }
 
-    /// The locations that an outcome writes.
+    /// The locations that an outcome writes, two at most. They take no memory.
     pub fn writes(&self, outcome: &Outcome<V>) -> Result<LocSet, Memory>
         ensures { IfOk result (λ set. set ≡ writes_in self.now outcome.now) }
     {
@@ -76,8 +76,8 @@ impl<V: Value> Copied<V> {
         }
     }
 
-    /// Where the key of an outcome lies, which is all that it reads, and whether it writes there; none for an outcome on no key of a map or
-    /// a multiset.
+    /// The location of the key of an outcome, which is all that it reads, and whether it writes there; none for an outcome on no key of a
+    /// map or a multiset.
     pub(crate) fn key_place(&self, outcome: &Outcome<V>) -> Option<KeyPlace>
         ensures reads { IfSome result (λ at. reads_in self.now outcome.now ≡ at.location ∷ []) }
         ensures writes { IfSome result (λ at. writes_in self.now outcome.now ≡ written_there at) }

@@ -73,8 +73,8 @@ pub fn copies_follow<V: Value>()
         IsCopied b f k x c → o.asked.collection ≢ k → IsCopied b f k (longer x o) c }
 {}
 
-/// What a commit hands home. The log of what a transaction has of a collection is that of its calls there; each location in it lies in
-/// each base of the collection's block, and in no world that events have reached has such a base an edition there above the clock.
+/// What a commit folds in. The log of what a transaction has of a collection is that of its calls there; each location in it is in each
+/// base of the collection's block, and in no world that events have reached has such a base an edition there above the clock.
 pub fn logs_as_worlds<V: Value>()
     ensures log { (w : World V) (a k : ℕ) (b : Block) (f : ℕ) (c : Copied V) → IsOwnCopy w a k b f c →
         let outcomes = (w.boosted.shadows a).outcomes in
@@ -102,8 +102,8 @@ pub fn copies_found<V: Value>()
         summed_by n op s ≡ summed_by n op t }
 {}
 
-/// In every world that events have reached, an actor at rest in its transaction may call: a call whose locations have all been read with
-/// the copied editions may be accepted, and a location that is to be read next has not been written.
+/// In every world that events have reached, an actor that is idle in its transaction may call: a call whose locations have all been read
+/// with the copied editions may be accepted, and a location that is to be read next has not been written.
 pub fn calls_as_worlds<V: Value>()
     ensures { (blocks : List Block) (clock : ℕ) (values : List ℕ) (held : List (Held V)) (events : List (Event V)) (a : ℕ) →
         HaveStripes blocks →
@@ -117,8 +117,8 @@ pub fn begins_with_nothing<V: Value>()
     ensures { BeginsWithNothing V }
 {}
 
-/// What has been read of what a transaction has of a collection depends on how the locations lie and on what it read there; further reads
-/// keep it where there is something, and so does an accepted outcome.
+/// What has been read of what a transaction has of a collection depends on how the locations are laid out and on what it read there;
+/// further reads keep it where there is something, and so does an accepted outcome.
 pub fn reads_stay<V: Value>()
     ensures same { (w v : World V) (a k : ℕ) (c : Option (Copied V)) → v.words ≡ w.words → v.blocks ≡ w.blocks →
         ((i : ℕ) → first_read (actor_of v a).calls (first_of w.words w.blocks k + i)

@@ -8,8 +8,7 @@ ghost use Rattle.actor_copies.specs.Sizes.{LieIn, SizesCopies, base_reads, base_
 use seq_model::Value;
 
 /// A call whose collection is copied fits the sets where its outcome on the base alone does, in every world that events have reached: so a
-/// call that is TooLong is known as such by `fits_base` before anything is copied. What an outcome reads and writes of a base lies in
-/// it.
+/// call that is TooLong is known as such by `fits_base` before anything is copied. What an outcome reads and writes of a base is in it.
 pub fn sizes_copies<V: Value>()
     ensures sizes { SizesCopies V }
     ensures within { (base : Base V) (o : Outcome V) → 0 < stripes_of base →

@@ -111,7 +111,7 @@ impl<V: Drop> Spares<V> {
         }
     }
 
-    /// A log in kept memory, where there is some. What it holds is of no meaning.
+    /// A log in kept memory, where there is some. What it holds is unused.
     pub(crate) fn log(&mut self, alloc: Global) -> Log<V> {
         match self.logs.pop() {
             Some(log) => log,
@@ -133,7 +133,7 @@ impl<V: Drop> Spares<V> {
         }
     }
 
-    /// A list for locations with editions, in the memory of the one that was kept last. What it holds is of no meaning.
+    /// A list for locations with editions, in the memory of the one that was kept last. What it holds is unused.
     pub fn left(&mut self, alloc: Global) -> VecDeque<(u32, u64)> {
         mem::replace(&mut self.left, VecDeque::new(alloc))
     }
@@ -196,7 +196,7 @@ impl<V: Value> Spares<V> {
         base.touch_summed(op, &mut self.editions)
     }
 
-    /// A copy of the base, in kept memory where there is some. The calls that its shadow has are of no meaning.
+    /// A copy of the base, in kept memory where there is some. The calls that its shadow has are unused.
     #[inline(never)]
     pub(crate) fn whole(
         &mut self,

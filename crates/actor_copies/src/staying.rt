@@ -1,4 +1,4 @@
-//! What stays a transaction's own as events follow.
+//! What remains a transaction's own as events follow.
 ghost use Rattle.std.specs.Prelude.{◌≡◌, ◌≢◌, ℕ, Option};
 ghost use Rattle.seq_model.specs.declared.event.Event.{Event};
 ghost use Rattle.replay_log.specs.Contents.{Answered, Asked};
@@ -13,11 +13,11 @@ ghost use Rattle.actor_copies.specs.Staying.{EventsStay, Joins, Stays};
 use seq_model::Value;
 
 /// What an event leaves of what a transaction has of collections, and of what it has read of them. An event of another actor leaves all of
-/// it. In every world that events have reached, so does a request, a step or a want of memory of its own, but for a call on a collection
+/// it. In every world that events have reached, so does a request, a step or a failed allocation of its own, but for a call on a collection
 /// that is answered, whose outcome joins those of its shadow, and for the three steps that are on copies: one that begins it, the store of
-/// a call's gate, and a load of a call's location, which reads nothing of another collection. Where all of it stays, what there was of a
-/// collection is the transaction's own still, and read; and so it is of another collection than the one whose call is answered, or whose
-/// gate is put back.
+/// a call's gate, and a load of a call's location, which reads nothing of another collection. Where all of it is unchanged, what there was
+/// of a collection is the transaction's own still, and read; and so it is of another collection than the one whose call is answered, or
+/// whose gate is put back.
 pub fn copies_stay<V: Value>()
     ensures others { (w : World V) (e : Event V) (a : ℕ) → a ≢ whose e →
         let v = (happens w e).0 in

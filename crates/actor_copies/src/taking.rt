@@ -127,8 +127,8 @@ fn push_first<V: Value>(
     }
 }
 
-/// What was found of the collection for a call is taken: where there is a copy of it that learns it, and else a first copy. Answers
-/// where that stands. A want of memory leaves the pieces that there were.
+/// What was found of the collection for a call is taken: where there is a copy of it that learns it, and else a first copy. Returns where
+/// that stands. `Memory`, where an allocation fails, leaves the pieces that there were.
 pub fn take<V: Value>(
     copies: &mut Vec<CopyOf<V>>,
     spares: &mut Spares<V>,

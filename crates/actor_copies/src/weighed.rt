@@ -121,10 +121,10 @@ fn weigh_outcome<V: Value>(
     weigh_sets(left, writes, words, copied, first, outcome)
 }
 
-/// Answers whether what a call reads and writes fits the sets of the transaction, before memory is asked for lists of it. The call's outcome
+/// Whether what a call reads and writes fits the sets of the transaction, found before memory is asked for lists of it. The call's outcome
 /// after the accepted ones is put into its place; and where they fit, so are the locations that it reads, with the editions with which they
 /// were copied, and those that it writes, each with the edition after the copied one, whatever these places hold. The collection begins at
-/// location `first`.
+/// location `first`. `Memory` where an allocation fails, which leaves these places open.
 pub fn weigh<V: Value>(
     outcome: &mut Option<Outcome<V>>,
     left: &mut VecDeque<(u32, u64)>,

@@ -52,7 +52,8 @@ fn reserve_writes(words: &mut Actor, count: usize) -> Result<(), Memory>
     Ok(())
 }
 
-/// Makes room for so many reads and so many writes. A declared reader keeps no reads.
+/// Makes room for so many reads and so many writes. A declared reader keeps no reads. `Memory` where an allocation fails, which leaves what
+/// the sets hold.
 #[inline(always)]
 pub fn reserve_words(words: &mut Actor, reads: usize, writes: usize) -> Result<(), Memory>
     ensures actor { actor_of words.new ≡ actor_of words.old }

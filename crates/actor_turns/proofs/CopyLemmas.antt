@@ -2,7 +2,7 @@
 --
 -- What the call asks of its actor is there: what the actor has of the collection is its own and was read, so what is taken of the base
 -- holds the call, and its sizes are those of the base (`may`, `can`). The step of its seat is then what the actor makes of what it took
--- (`copy_runs`), and what it has of collections is told by the law on copied calls (`copy_keeps`).
+-- (`copy_runs`), and what it has of collections is stated by the law on copied calls (`copy_keeps`).
 use Rattle.std.proofs.Common.{◌≡◌, ℕ, zero, suc, arith, ◌<◌, Bool, true, false, List, [], ◌∷◌, Option, Some, None, refl, sym, ap, ◌∙◌}
 use Rattle.std.proofs.Common.{subst}
 use Rattle.std.specs.Prelude.{length}
@@ -128,7 +128,7 @@ module _ {V : Type 0} where
       subst (λ (z : World V). (z.seats a).stage ≡ worlds.Copying (asked_of asked) → CopiesGoOn z a (asked_of asked)) h.world
       (on h.blocks h.clock o.words o.held h.events a (asked_of asked) h.stripes)
 
-  -- the word actor rests, and a declared reader keeps no reads
+  -- the word actor is idle, and a declared reader keeps no reads
   pub rests_to_copy : CopiesReached V → (o : Contents V) (w : World V) (a k : ℕ) (r : TxActor V) → next_of (stage_of r.stage) ≡ next.Copy k
       → IsReached o w → Runs a r w → HasNoReads r.words
   rests_to_copy on o w a k r due reached runs =
@@ -243,7 +243,7 @@ module _ {V : Type 0} where
         after.1 ∙ sym (ap (λ (p : After V). p.1) e),
       )
 
-  -- ---- the turn, and a want of memory behind it
+  -- ---- the turn, and a failed allocation after it
   pub copy_starves : CopiesFor V → CopiesReached V → SizesCopies V
       → (v : BlocksView) (o : Contents V) (w : World V) (a k : ℕ) (r s : TxActor V)
       (base : Base V) → next_of (stage_of r.stage) ≡ next.Copy k → IsRunning v r → StarvesBehindAt v r s base r.stage

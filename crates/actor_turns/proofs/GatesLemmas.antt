@@ -1,7 +1,7 @@
 -- The gates that an actor holds after an event, in the order in which it took them, by its stage.
 --
--- A step of the words and a want of memory leave them; a gate that is found free joins them, the first of them is put back, and a call that
--- is copied, or whose locations are read, leaves none.
+-- A step of the words and a failed allocation leave them; a gate that is found free joins them, the first of them is put back, and a call
+-- that is copied, or whose locations are read, leaves none.
 use Rattle.std.proofs.Common.{◌≡◌, ℕ, zero, suc, Bool, true, false, true≢false, List, [], ◌∷◌, ◌++◌, Option, Some, None, refl, sym, ap, ◌∙◌}
 use Rattle.std.proofs.Common.{eq-eqb}
 use Rattle.std.proofs.lemmas.Bool.{cond_both, cond-true}
@@ -38,7 +38,7 @@ use Rattle.actor_turns.proofs.StepLemmas.{first_is}
 use Rattle.word_machine.specs.Cells.{Cell}
 use Rattle.atomic_steps.specs.Spots.{Gate, spot_of}
 
--- a spot of the words is no gate
+-- a location of the words is no gate
 pub no_word : (c : Option Cell) (k : ℕ) → spot_of c ≡ Gate k → ⊥
 no_word None k e = cc
 no_word (Some c) k e = cc
@@ -172,7 +172,7 @@ module _ {V : Type 0} where
   put_gates w a x (Loading o (d ∷ es)) k e = let z : ⊥ = cc in absurd z
   put_gates w a x s k e = let z : ⊥ = cc in absurd z
 
-  -- or its base has gone home
+  -- or its base was put back
   pub went_gates : (w : World V) (a : ℕ) (x : Seat V) (s : Stage V) (k : ℕ) → next_of s ≡ next.GoHome k
       → gates_of s ≡ k ∷ gates_in (after_home w a x s).0 a
   went_gates w a x (Homing (j ∷ ks)) k e =
@@ -198,7 +198,7 @@ module _ {V : Type 0} where
       (λ (p : After V). gates_in p.0 a ≡ []) (λ _. loaded_gates w a y o (with_editions w.boosted.editions (c.reads o)))
       (λ _. seated_gates w a (at_stage x Open))
 
-  -- ---- a want of memory
+  -- ---- a failed allocation
   pub starve_gates : (w : World V) (a : ℕ) (x : Seat V) (s : Stage V) → (w.seats a).stage ≡ s
       → gates_in (starve_at w a x s).0 a ≡ gates_of s
   starve_gates w a x Beginning e = seated_gates (acted w (asks a word.AskAbort ∷ [])) a no_one

@@ -1,9 +1,9 @@
--- A base that goes home, in a world that events have reached.
+-- A base that is put back, in a world that events have reached.
 --
--- What the actor has of the collection is its own in the world, so its log is that of its calls there. Each location in it lies in the base
--- and has an edition not above the clock, as events never change how the locations lie. The actor hands its log out, and is the same in
--- every world from its first value store on; the action changes no word, so the word actor stands, and the rest is what the actor makes of
--- its base gone home.
+-- What the actor has of the collection is its own in the world, so its log is that of its calls there. Each location in it is stored in the
+-- base and has an edition not above the clock, as events never change how the locations are laid out. The actor hands its log out, and is
+-- the same in every world from its first value store on; the action changes no word, so the word actor stands, and the rest is what the
+-- actor makes of its base being put back.
 use Rattle.std.proofs.Common.{◌≡◌, ℕ, suc, ◌<◌, ◌≤◌, ◌^◌, true, false, List, [], ◌∷◌, Option, Some, None, length, refl}
 use Rattle.std.proofs.Common.{sym, ap, ◌∙◌, subst, arith}
 use Rattle.std.specs.List.{All}
@@ -48,7 +48,7 @@ use Rattle.actor_turns.specs.Reached.{IsReached}
 use Rattle.actor_turns.proofs.SeatLemmas.{next_as, stage_by}
 use Rattle.actor_turns.proofs.StepLemmas.{GoesOn, due_as, reached_goes_on, runs_moved, same_action}
 
--- ---- the laws on what a commit hands home
+-- ---- the laws on what a commit hands back
 abbrev pub Logs : Type 0 → Type 0
 Logs V = (w : World V) (a k : ℕ) (b : Block) (f : ℕ) (c : Copied V) → IsOwnCopy w a k b f c →
     let outcomes = (w.boosted.shadows a).outcomes in
@@ -67,7 +67,7 @@ FewEditions V =
     → All (λ i. slice_index (editions_of base) i ≤ w.boosted.words.clock) (log_locations k b outcomes)
 
 module _ {V : Type 0} where
-  -- ---- events never change how the locations lie
+  -- ---- events never change how the locations are laid out
   shape_runs : (es : List (Event V)) (w : World V) → ((run w es).words ≡ w.words) × ((run w es).blocks ≡ w.blocks)
   shape_runs [] w = (refl, refl)
   shape_runs (e ∷ es) w =
@@ -97,7 +97,7 @@ module _ {V : Type 0} where
       let same : own.0 ≡ b = cc in
       subst (λ (d : Block). IsLogOf w a k d (Some c)) same (logs w a k own.0 _ c own.1)
 
-  -- ---- the stage of a commit whose base goes home
+  -- ---- the stage of a commit whose base is put back
   pub home_is : (s : Stage V) (k : ℕ) → next_of s ≡ next.GoHome k → (ks : List ℕ) × (s ≡ Homing (k ∷ ks))
   home_is (Homing []) k e = let z : ⊥ = cc in absurd z
   home_is (Homing (j ∷ ks)) k e = let same : j ≡ k = cc in (ks, ap (λ (i : ℕ). Homing (i ∷ ks)) same)

@@ -70,7 +70,7 @@ module _ {V : Type 0} where
       → MayLoad a (acted z (moves a ∷ [])) r r.stage (word_notice z a)) h.world
       (hear h.blocks h.clock o.words o.held h.events a r h.stripes)
 
-  -- what the step of the words made of the word actor, and told: y, and this
+  -- what the step of the words made of the word actor, and answered: y, and this
   abbrev pub HasMoved : World V → ℕ → running.Actor → Result (Option WordAnswer) WordRefusal → Type 0
   HasMoved w a y told = (actor_of (acted w (moves a ∷ [])) a ≡ words.actor_of y) × (told ≡ result_of (word_notice w a))
 
@@ -90,7 +90,7 @@ module _ {V : Type 0} where
       subst (λ (n : notice.Notice). IsLoadable m m.stage n × HasHeard v m n) (told_same steps w a y told took)
       (keep v r y w a loading running room fits runs.1 took.0)
 
-  -- the actor in the world behind the step of the words
+  -- the actor in the world after the step of the words
   load_here : (w : World V) (a : ℕ) (r : TxActor V) (y : running.Actor) (told : Result (Option WordAnswer) WordRefusal)
       → is_loading (stage_of r.stage) ≡ true → Runs a r w → HasMoved w a y told
       → (let m : TxActor V = record r { words = y } in Runs a m (acted w (moves a ∷ [])))

@@ -1,8 +1,8 @@
 -- What an event leaves of what its actor has of collections, by its stage.
 --
 -- The event leaves all of it in the world, by the law on events, and the actor's copies stand as its next stage asks for them; a
--- transaction that begins has nothing. A request at rest is told by its contract, and anywhere else it changes nothing that a stage asks
--- for.
+-- transaction that begins has nothing. Of an idle actor a request is stated by its contract, and anywhere else it changes nothing that a
+-- stage asks for.
 use Rattle.std.proofs.Common.{◌≡◌, ◌≢◌, ◌⊎◌, ℕ, suc, false, true≢false, List, [], ◌∷◌, Option, Some, None, inl, inr, refl, sym, ap, ◌∙◌}
 use Rattle.std.proofs.Common.{subst, arith}
 use Rattle.word_machine.specs.Notices as told
@@ -88,7 +88,7 @@ CallsLaw V = (w : World V) (a : ℕ) (o : Contents V) → IsReached o w → (w.s
 abbrev pub BlocksLaw : Type 0 → Type 0
 BlocksLaw V = (v : BlocksView) (r : TxActor V) (w : World V) (a : ℕ) → IsLaid v w → OwnsCopies r w a → AreOfBlocks v r.copies.items
 
--- a word actor that rests in the machine
+-- a word actor that is idle in the machine
 pub rests_at : (x : running.Actor) (p : Place) → words.place_of x.reads.entries x.writes.entries p ≡ AtRest → p ≡ place.Open
 rests_at x place.Open e = refl
 rests_at x p e = let z : ⊥ = cc in absurd z
@@ -139,7 +139,7 @@ module _ {V : Type 0} where
   no_begin stage.Beginning p e = p refl
   no_begin t p e = let z : ⊥ = cc in z
 
-  -- a transaction is at rest only where the clock was told
+  -- a transaction is idle only where the clock was answered
   begun_nothing : (u : World V) (a : ℕ) (x : Seat V) (n : told.Notice) → (u.seats a).stage ≡ Beginning
       → ((rv : ℕ) → n ≡ told.Begun rv → (k : ℕ) → IsOwn u a k None × IsReadOf u a k None)
       → ((has_begun u a x n).0.seats a).stage ≡ Open → (k : ℕ)
@@ -179,7 +179,7 @@ module _ {V : Type 0} where
             (ap is_loading st ∙ quiet) (reached_stays stays o w reached (Step a))) h
       ]
 
-  -- ---- a want of memory
+  -- ---- a failed allocation
   pub starve_keeps : StepsLaw V → BegunLaw V → EventsStay V → (o : Contents V) (w : World V) (a : ℕ) (r s : TxActor V) → KeepsCopies r s
       → IsReached o w → Runs a r w → Runs a s (happens w (Starve a)).0 → HasCopies r w a → HasCopies s (happens w (Starve a)).0 a
   starve_keeps steps begun stays o w a r s keep reached runs after h =
@@ -204,7 +204,7 @@ module _ {V : Type 0} where
   open_or stage.Open = inl refl
   open_or t = inr (λ e. let z : ⊥ = cc in z)
 
-  -- anywhere but at rest it changes nothing that is asked for
+  -- anywhere but where it is idle it changes nothing that is asked for
   ask_stays : (w : World V) (a : ℕ) (x : Seat V) (r : TxActor V) (q : Request V) (t : own.Stage V) → (t ≡ stage.Open → ⊥)
       → HasCopiesAt r w a t → HasCopiesAt r (ask_at w a x (stage_of t) q).0 a t
   ask_stays w a x r q stage.Open p h = absurd (p refl)
@@ -220,12 +220,12 @@ module _ {V : Type 0} where
   pub whole_open : (r : TxActor V) (w : World V) (a : ℕ) → r.stage ≡ stage.Open → HasCopies r w a → OwnsAll r w a
   whole_open r w a at h = subst (λ (t : own.Stage V). HasCopiesAt r w a t) at h
 
-  -- what an actor may be asked, at rest
+  -- what an actor may be asked, where it is idle
   pub may_call : CallsReached V → CallsLaw V
   may_call calls w a o h =
       subst (λ (z : World V). (z.seats a).stage ≡ Open → MayCall z a) h.world (calls h.blocks h.clock o.words o.held h.events a h.stripes)
 
-  -- the actor stays as it was, or begins, where it is not at rest in its transaction
+  -- the actor is as it was, or begins, where it is not idle in its transaction
   abbrev pub Apart : TxActor V → TxActor V → Type 0
   Apart r s = r.stage ≢ stage.Open → (s.stage ≡ stage.Beginning) ⊎ (s ≡ r)
 
@@ -289,7 +289,7 @@ module _ {V : Type 0} where
       let stay : Stays w w a = (record { words = refl; blocks = refl; reads = λ l m. refl }, refl) in
       subst (λ (z : TxActor V). HasCopies z w a) (sym same) (steps r p w w a k.1 k.0 stay h)
 
-  -- where memory was refused to a request
+  -- where an allocation failed for a request
   pub refused_ask : AllLaw V → (b : BlocksView) (r s : TxActor V) → StandsOwn r s → ReadsStill r.copies.items s.copies.items → Apart r s
       → IsRunning b s → (w : World V) (a : ℕ) → IsLaid b w → HasCopies r w a → HasCopies s w a
   refused_ask all b r s stands still apart running w a laid h =

@@ -1,5 +1,5 @@
 -- The seat that a world has of a running actor: but for what is left open while a call is read for, and once its record is made, it is what
--- the actor shows. What a request, a want of memory or a step makes of it hangs on nothing that is left open.
+-- the actor shows. What a request, a failed allocation or a step makes of it depends on nothing that is left open.
 use Rattle.std.proofs.Common.{◌≡◌, ℕ, false, true≢false, List, refl, sym, ap, ◌∙◌, subst}
 use Rattle.std.specs.Prelude.{not, filter, if◌then◌else◌}
 use Rattle.tx_sets.specs.Entries.{locations}

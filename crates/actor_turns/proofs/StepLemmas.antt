@@ -1,4 +1,4 @@
--- The step that is due to an actor, and what a step on a gate makes of it.
+-- The step that is next for an actor, and what a step on a gate makes of it.
 --
 -- In each world that shows the actor its seat does next what the actor does: a step of its words, or an action on the gate that its stage
 -- names. An action on a gate changes no word, so the word actor stands, and the rest is what the actor makes of what it found. While it
@@ -123,7 +123,7 @@ module _ {V : Type 0} where
       subst (λ (z : World V). MayGoOn a (committed_at z a (z.seats a).stage) (z.seats a).stage) h.world
       (goes h.blocks h.clock o.words o.held h.events a h.stripes)
 
-  -- a declared reader whose word actor rests has read nothing that it keeps
+  -- a declared reader whose word actor is idle has read nothing that it keeps
   pub no_reads_at : (o : Contents V) (w : World V) (a : ℕ) (r : TxActor V) → IsReached o w → Runs a r w
       → (actor_of w a).place ≡ machine.Open → HasNoReads r.words
   no_reads_at o w a r reached runs rests d =
@@ -152,7 +152,7 @@ module _ {V : Type 0} where
       k ∙ sym (ap (λ (es : Entries). homes_by w es) (locking_writes w.boosted a (actor_of w a).place ok.0))
   knows_moved w a s ok k = tt
 
-  -- the room of an actor that reads for no call hangs on no word
+  -- the room of an actor that reads for no call depends on no word
   room_moved : (r : TxActor V) (y : running.Actor) (s : own.Stage V) → is_loading (stage_of s) ≡ false → HasRoom r s
       → HasRoom (record r { words = y }) s
   room_moved r y (stage.Reading l) quiet h = h
@@ -202,7 +202,7 @@ module _ {V : Type 0} where
       → is_loading (stage_of r.stage) ≡ false
   stage_quiet r s e d = ap (λ (t : own.Stage V). is_loading (stage_of t)) e ∙ d
 
-  -- ---- the action that is due
+  -- ---- the action that is next
   pub due_word : (a : ℕ) (o : Option (Action (Asked V))) → IsDue a next.Word o → o ≡ Some (moves a)
   due_word a None h = absurd h
   due_word a (Some e) h = ap Some h
@@ -346,7 +346,7 @@ module _ {V : Type 0} where
       no_return (Some k) e = cc
   first_records t e = let z : ⊥ = cc in absurd z
 
-  -- ---- no step is due
+  -- ---- no step is next
   nothing_at : (n : ℕ) (bs : List Block) (x : Seat V) (y : Actor) (z : Copy V) (s : Stage V) (p : Place) → next_of s ≡ next.Nothing
       → StageOk n bs x y z s p → (w : World V) (a : ℕ) → step_at w a x s ≡ (w, Refused a NoTransaction)
   nothing_at n bs x y z Idle p e ok w a = refl

@@ -23,13 +23,13 @@ StepsKeep V =
     → ((asked : Asked V) → stage_of r.stage ≡ Copying asked → ⊥) → KeepsCopies r s → IsReached o w → Runs a r w
     → Runs a s (happens w (Step a)).0 → HasCopies r w a → HasCopies s (happens w (Step a)).0 a
 
--- So does a want of memory,
+-- So does a failed allocation,
 abbrev pub StarvesKeep : Type 0 → Type 0
 StarvesKeep V =
     (o : Contents V) (w : World V) (a : ℕ) (r s : TxActor V) → KeepsCopies r s → IsReached o w → Runs a r w
     → Runs a s (happens w (Starve a)).0 → HasCopies r w a → HasCopies s (happens w (Starve a)).0 a
 
--- and a request, where the locations lie as b says.
+-- and a request, where the locations are laid out as b says.
 abbrev pub AsksKeep : Type 0 → Type 0
 AsksKeep V =
     (b : BlocksView) (o : Contents V) (w : World V) (a : ℕ) (q : Request V) (r s : TxActor V) (n : Told V)

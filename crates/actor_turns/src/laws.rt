@@ -1,4 +1,4 @@
-//! What stays of an actor from event to event.
+//! What is unchanged of an actor from event to event.
 ghost use Rattle.actor_turns.specs.Kept.{AsksKeep, StarvesKeep, StepsKeep};
 
 use actor_copies::copies_stay;
@@ -6,8 +6,8 @@ use actor_copies::laws::{begins_with_nothing, calls_as_worlds};
 use seq_model::Value;
 use tx_actor::laws::copies_by_stage;
 
-/// Wherever events have led, an actor has of collections what its stage asks for, after each request, each want of memory, and each step
-/// that is on no copy. The two steps on copies are told by `loads_stay_own` and `copied_stay_own` of `tx_actor`.
+/// Wherever events have led, an actor has of collections what its stage asks for, after each request, each failed allocation, and each step
+/// that is on no copy. The two steps on copies are in `loads_stay_own` and `copied_stay_own` of `tx_actor`.
 pub fn events_keep_copies<V: Value>()
     ensures steps { StepsKeep V }
     ensures starves { StarvesKeep V }

@@ -1,4 +1,4 @@
--- A location's collection is the number of blocks that end at it or below. Blocks end one behind another, so a search by halves finds that
+-- A location's collection is the number of blocks that end at it or below. Blocks end one after another, so a search by halves finds that
 -- number (`parted`), and it is what the definitions count (`home_at`).
 use Rattle.std.proofs.Common.{◌≡◌, ℕ, zero, suc, ◌+◌, ◌<◌, ◌≤◌, cond, ltb, leb, Bool, true, false, not, ◌||◌, Some, None, List, [], ◌∷◌}
 use Rattle.std.proofs.Common.{◌++◌, length, get_or, map, refl, sym, ap, ◌∙◌, arith}
@@ -71,7 +71,7 @@ pub end_behind : (w : ℕ) (bs : List Block) → w ≤ end_of w bs
 end_behind w [] = omega arith
 end_behind w (b ∷ bs) = let h = end_behind (w + size b) bs in omega (arith, h)
 
--- a location at which a block ends later lies before the end of all
+-- a location at which a block ends later is before the end of all
 pub inside : (l w : ℕ) (ps : List Placed) → AreEnds w ps → (i : ℕ) (d : Placed) → i < length ps → l < (get_or ps i d).end
     → ltb l (end_of w (map block_of ps)) ≡ true
 inside l w [] e i d lt h = absurd (omega arith)

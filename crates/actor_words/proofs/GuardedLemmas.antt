@@ -1,5 +1,5 @@
--- Where the locks are given back next, their actor holds no gate: a stage names the gates that its actor holds, a step of the words and
--- the request of the first store change none, and the base that goes home last gives back the one that is left.
+-- Where the locks are given back next, their actor holds no gate: a stage names the gates that its actor holds, a step of the words and the
+-- request of the first store change none, and the base that is put back last gives back the one that is left.
 use Rattle.std.proofs.Common.{◌≡◌, ℕ, cond, eqb, Bool, true, false, not, ◌||◌, Option, List, [], ◌∷◌, refl, ap, ◌∙◌}
 use Rattle.tx_sets.specs.Entries.{locations}
 use Rattle.word_machine.specs.Actor.{Store}

@@ -1,5 +1,5 @@
--- The collections with a written location, from the last location to the first: a location's collection is not above those of the
--- locations behind it, so it is new exactly where it is not the first of them (`first_is`).
+-- The collections with a written location, from the last location to the first: a location's collection is not above those of the locations
+-- after it, so it is new exactly where it is not the first of them (`first_is`).
 use Rattle.std.proofs.Common.{◌≡◌, ℕ, zero, suc, drop, get_or, ◌+◌, ◌<◌, ◌≤◌, cond, eqb, eqb-true, ltb, Bool, true, false, true≢false, not}
 use Rattle.std.proofs.Common.{◌||◌, filter, Some, None, List, [], ◌∷◌, length, refl, sym, ap, subst, ◌∙◌, arith, ne_eqb}
 use Rattle.std.proofs.lemmas.Bool.Decides.{nat_tests}
@@ -144,7 +144,7 @@ rising_drop zero es h = h
 rising_drop (suc i) [] h = h
 rising_drop (suc i) (e ∷ es) h = rising_drop i es h.1
 
--- behind the last of them there are none
+-- after the last of them there are none
 pub no_homes : (v : BlocksView) (es : Entries) → [] ≡ homes_in v (drop (length es) es)
 unfolding locations
 no_homes v [] = refl

@@ -1,4 +1,4 @@
--- What giving up and the request of the stores make of an actor in every world that shows it.
+-- What aborting and the request of the stores make of an actor in every world that shows it.
 use Rattle.std.proofs.Common.{◌≡◌, ℕ, cond, Bool, true, false, Option, None, [], ◌∷◌, refl, sym, ap, true≢false, ◌∙◌}
 use Rattle.tx_sets.specs.Entries.{lookup, locations}
 use Rattle.word_machine.specs.Actor.{Actor}

@@ -1,5 +1,5 @@
--- The step of the definitions is the atomic action that is due, and then what is made of it: stage by stage both compute to the same, and
--- where another action is due there is nothing to show.
+-- The step of the definitions is the atomic action that is next, and then what is made of it: stage by stage both compute to the same, and
+-- where another action is next there is nothing to show.
 use Rattle.std.proofs.Common.{◌≡◌, ℕ, false, true≢false, List, [], ◌∷◌, refl, ap}
 use Rattle.word_machine.specs.Notices as notice
 use Rattle.word_machine.specs.Requests.{AskStore}

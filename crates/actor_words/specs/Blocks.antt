@@ -1,4 +1,4 @@
--- How the locations of a world lie: what of a world never changes. And the collections that a transaction has written.
+-- How the locations of a world are laid out: what of a world never changes. And the collections that a transaction has written.
 use Rattle.std.specs.Prelude.{◌≡◌, ◌⊎◌, ℕ, ◌+◌, ◌<◌, ◌≤◌, ◌++◌, length, Bool, false, not, ◌==◌, if◌then◌else◌, List, [], ◌∷◌, Option, Some}
 use Rattle.std.specs.Prelude.{None, filter}
 use Rattle.tx_sets.specs.Entries.{Entries, locations}
@@ -11,7 +11,7 @@ use Rattle.seq_model.specs.declared.kind.Kind.TheVariants as kind
 use Rattle.actor_words.specs.declared.blocks.Placed.{Placed}
 use Rattle.actor_words.specs.declared.blocks.TheConstants.{COLLECTION_LIMIT, TABLE_LIMIT}
 
--- The number of plain words, and the block of each collection behind them.
+-- The number of plain words, and the block of each collection after them.
 pub record BlocksView : Type 0 where
   pub words : ℕ
   pub blocks : List Block
@@ -30,7 +30,7 @@ abbrev pub AreEnds : ℕ → List Placed → Type 0
 AreEnds w [] = Unit {0}
 AreEnds w (p ∷ ps) = (p.end ≡ w + size (block_of p)) × AreEnds p.end ps
 
--- the collection that a location lies in, but for a plain word
+-- the collection that a location is in, but for a plain word
 abbrev pub home_in : BlocksView → ℕ → Option ℕ
 home_in v l = if is_plain v.words v.blocks l then None else Some (home_of v.words v.blocks l)
 
@@ -47,7 +47,7 @@ abbrev pub with_home : Option ℕ → List ℕ → List ℕ
 with_home None ks = ks
 with_home (Some k) ks = if is_first k ks then ks else k ∷ ks
 
--- the locations of w lie so
+-- the locations of w are laid out so
 abbrev pub IsLaid : {V : Type 0} → BlocksView → World V → Type 0
 IsLaid v w = (w.words ≡ v.words) × (w.blocks ≡ v.blocks)
 

@@ -1,4 +1,4 @@
--- What a step makes of a seat at each stage, once its atomic action is done, and which action is due.
+-- What a step makes of a seat at each stage, once its atomic action is done, and which action is next.
 use Rattle.std.specs.Prelude.{◌≡◌, ℕ, Bool, true, false, List, [], ◌∷◌, ◌++◌, Option, Some, None, Result, Ok, Err}
 use Rattle.tx_sets.specs.Entries.{Entries, locations}
 use Rattle.word_machine.specs.Notices as notice
@@ -22,7 +22,7 @@ use Rattle.actor_words.specs.declared.notice.WordNotice.TheVariants as heard
 use Rattle.actor_words.specs.declared.next.Next.{Next}
 use Rattle.actor_words.specs.declared.next.Next.TheVariants as next
 
--- what a step of the words told, as the word machine has it
+-- what a step of the words answered, as a notice of the word machine
 abbrev pub shown_notice : WordNotice → notice.Notice
 shown_notice heard.Quiet = notice.Quiet
 shown_notice heard.NoTransaction = notice.NoTransaction
@@ -82,7 +82,7 @@ next_put None = next.Nothing
 next_put (Some k) = next.PutGate k
 
 module _ {V : Type 0} where
-  -- a step of the words was made, and told n; the load of a call's location is none of these
+  -- a step of the words was made, and answered n; the load of a call's location is none of these
   abbrev pub after_word : World V → ℕ → Seat V → Stage V → notice.Notice → After V
   after_word w a x worlds.Beginning n = has_begun w a x n
   after_word w a x (worlds.Reading l) n = has_read w a x l n
@@ -108,12 +108,12 @@ module _ {V : Type 0} where
   after_put w a x (worlds.Returning (k ∷ ks)) = gives_up w a x ks
   after_put w a x stage = (w, Quiet)
 
-  -- a base has gone home
+  -- a base was put back
   abbrev pub after_home : World V → ℕ → Seat V → Stage V → After V
   after_home w a x (worlds.Homing (k ∷ ks)) = goes_home w a x ks
   after_home w a x stage = (w, Quiet)
 
-  -- the locks are released where no base is to go home any more; then a holds no gate of a written location
+  -- the locks are released where no base is to be put back any more; then a holds no gate of a written location
   abbrev pub MayRelease : ℕ → World V → List ℕ → Type 0
   MayRelease a w [] = every (is_given (content w.words w.blocks) w.boosted a) (locations (actor_of w a).writes) ≡ true
   MayRelease a w (k ∷ ks) = Unit {0}
@@ -153,7 +153,7 @@ module _ {V : Type 0} where
   IsDue a (next.PutGate k) (Some e) = e ≡ PutGate a k (λ l. false)
   IsDue a n e = ⊥
 
--- The step of the definitions is the atomic action that is due, and then what is made of it.
+-- The step of the definitions is the atomic action that is next, and then what is made of it.
 pub record AreSteps (V : Type 0) : Type 0 where
   pub words : (w : World V) (a : ℕ) (x : Seat V) (s : Stage V) → next_of s ≡ next.Word → is_loading s ≡ false
       → step_at w a x s ≡ after_word (acted w (moves a ∷ [])) a x s (word_notice w a)

@@ -29,7 +29,7 @@ abbrev pub left_after : Entries → Entries → Entries
 left_after reads [] = []
 left_after reads (d ∷ es) = left_one d es (left_after reads es) (lookup reads d.0)
 
--- what the call comes to then, in a world whose actor a is the seat x
+-- what the call results in then, in a world whose actor a is the seat x
 module _ {V : Type 0} where
   abbrev pub comes_to : World V → ℕ → Seat V → Answered V → Entries → Judged → After V
   comes_to w a x o left All = replied (acted w (Accept a o.asked ∷ [])) a x (call_of o) (reply_of o)

@@ -17,7 +17,7 @@ abbrev pub number_told : Option ℕ → notice.Notice
 number_told None = notice.Quiet
 number_told (Some v) = notice.Number v
 
--- with n locations, as `Keeps` has it with any number of them
+-- with n locations, like `Keeps` with any number of them
 pub record KeepsAt (n : ℕ) (x y : Actor) : Type 0 where
   pub fits : Fits n x → Fits n y
   pub owed : owed y.place ≤ owed x.place

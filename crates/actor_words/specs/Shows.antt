@@ -28,15 +28,15 @@ module _ {V : Type 0} where
   abbrev pub Shows : ℕ → Seat V → Actor → World V → Type 0
   Shows a x y w = (w.seats a ≡ x) × (actor_of w a ≡ y)
 
-  -- where it is x and y, it is p and q afterwards, and told n
+  -- where it is x and y, it is p and q afterwards, and n is answered
   abbrev pub Follows : ℕ → (x : Seat V) → Actor → (p : Seat V) → Actor → Notice V → World V → After V → Type 0
   Follows a x y p q n w f = Shows a x y w → Shows a p q f.0 × (f.1 ≡ n)
 
-  -- a stage without a lock or with locks, and no gate: given up
+  -- the stage of an aborted transaction, with locks or without, and no gate
   abbrev pub ending : Seat V → Actor → Seat V
   ending x y = at_stage x (if is_leaving y.place then Leaving else Cancelling)
 
--- The transaction is given up: its locks go back, or it leaves.
+-- The transaction is aborted: its locks go back, or it leaves.
 abbrev pub GivesUp : Type 0 → Type 0
 GivesUp V =
     (a : ℕ) (x z : Seat V) (y : Actor) (w : World V)
@@ -57,9 +57,9 @@ AsksStores V =
 abbrev pub put_back : {V : Type 0} → ℕ → World V → Asked V → World V
 put_back a w asked = acted w (PutGate a asked.collection (covers_at w.words w.blocks asked) ∷ [])
 
--- What a call comes to there: its locations are judged with the editions of the base, and the piece counts as copied; one whose
--- locations don't fit is TooLong, and the piece does not count. Where the copy is found stale without a step, the locations are those
--- of the call on the new copy.
+-- What a call results in there: its locations are judged with the editions of the base, and the piece counts as copied; one whose locations
+-- don't fit is TooLong, and the piece does not count. Where the copy is found stale without a step, the locations are those of the call on
+-- the new copy.
 abbrev pub CopiesForCall : Type 0 → Type 0
 CopiesForCall V =
     (a : ℕ) (x : Seat V) (y : Actor) (w : World V) (asked : Asked V) → Shows a x y w →

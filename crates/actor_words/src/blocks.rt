@@ -1,4 +1,4 @@
-//! How the locations of a world lie: the words come first, then the block of each collection in turn.
+//! How the locations of a world are laid out: the words come first, then the block of each collection in turn.
 ghost use Rattle.std.specs.Prelude.{◌≡◌, ℕ, ◌+◌, ◌≤◌, ◌↔◌, [], Err, OnErr, OnOk};
 ghost use Rattle.replay_log.specs.Contents.{end_of, size_by};
 ghost use Rattle.seq_model.specs.declared.refusal.Refusal.TheVariants.{TooLong};
@@ -32,7 +32,7 @@ fn more_locations(kind: Kind) -> u64
 pub struct Placed {
     pub kind: Kind,
     pub stripes: u32,
-    /// The location behind its last one.
+    /// The location after its last one.
     pub end: u32,
 }
 
@@ -52,7 +52,7 @@ impl Placed {
     }
 }
 
-/// How the locations of a world lie. A location's collection is found by halves.
+/// How the locations of a world are laid out. A location's collection is found by halves.
 #[derive(Drop)]
 pub struct Blocks {
     words: u32,
@@ -94,7 +94,7 @@ impl Blocks {
         self.words
     }
 
-    /// The location behind all blocks.
+    /// The location after all blocks.
     pub fn end(&self) -> u32
         ensures { result ≡ end_of self.now.words self.now.blocks }
     {
@@ -151,7 +151,7 @@ impl Blocks {
         Ok(())
     }
 
-    /// The collection that a location lies in; none, where it is a word, or beyond the last block.
+    /// The collection of a location; none, where it is a word, or beyond the last block.
     pub fn home_of(&self, location: u32) -> Option<u32>
         ensures { result ≡ home_in self.now location }
     {

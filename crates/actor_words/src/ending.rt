@@ -1,4 +1,4 @@
-//! The end of a transaction that is given up and holds no gate.
+//! The end of a transaction that is aborted and holds no gate.
 ghost use Rattle.std.specs.Prelude.{◌≡◌};
 ghost use Rattle.word_machine.specs.Requests.{ask, AskCancel, AskAbort, AskRelease};
 ghost use Rattle.step_core.specs.Shown.{actor_of};

@@ -29,8 +29,8 @@ fn add_home(homes: &mut VecDeque<u32>, home: Option<u32>) -> Result<(), AllocErr
     Ok(())
 }
 
-/// The collections with a written location, rising, in place of what the list held. The written locations rise, so each one's collection
-/// is compared with the last one found alone.
+/// The collections with a written location, rising, in place of what the list held. The written locations rise, so each one's collection is
+/// compared with the last one found alone. Where an allocation fails, the list is dropped.
 pub fn written_homes(
     list: VecDeque<u32>,
     blocks: &Blocks,

@@ -12,12 +12,12 @@ ghost use Rattle.actor_words.specs.Shows.{GivesUp, AsksStores, CopiesForCall, Re
 
 use seq_model::Value;
 
-/// What judging by the read set alone comes to is what a world makes of the call, from the load that judges an edition on.
+/// What judging by the read set alone results in is what a world makes of the call, from the load that judges an edition on.
 pub fn judges_as_worlds<V>()
     ensures { IsJudged V }
 {}
 
-/// A transaction that is given up holds no gate: the word actor cancels and leaves, in every world that shows it.
+/// A transaction that is aborted holds no gate: the word actor cancels and leaves, in every world that shows it.
 pub fn gives_up_as_worlds<V>()
     ensures { GivesUp V }
 {}
@@ -38,7 +38,7 @@ pub fn reads_next_as_worlds<V>()
     ensures { ReadsNext V }
 {}
 
-/// A step of the definitions is the atomic action that is due, on the word or the gate that [`crate::Next`] names, and then what the
+/// A step of the definitions is the atomic action that is next, on the word or the gate that [`crate::Next`] names, and then what the
 /// methods of the stages make of it; the load of a call's location apart.
 pub fn steps_as_worlds<V>()
     ensures { AreSteps V }
@@ -53,7 +53,7 @@ pub fn goes_on_as_worlds<V: Value>()
         MayGoOn a (committed_at w a (w.seats a).stage) (w.seats a).stage }
 {}
 
-/// Where a call may be accepted, its acceptance asks the word actor for the writes, and puts the outcome behind those of its shadow.
+/// Where a call may be accepted, its acceptance asks the word actor for the writes, and appends the outcome to those of its shadow.
 pub fn accepts_as_worlds<V>()
     ensures { Accepts V }
 {}

@@ -1,4 +1,4 @@
-//! What a running actor asks of its word actor, and what it knows of its world besides: how the locations lie, and what its next step is.
+//! What a running actor asks of its word actor, and what it knows of its world besides: how its locations are laid out, and its next step.
 //!
 //! What stands here names no copy of a collection. Contracts speak of the word actor alone, and the laws of what the definitions make of a
 //! seat and a word actor at each stage.

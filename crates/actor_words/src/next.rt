@@ -7,7 +7,7 @@ use std::collections::VecDeque;
 /// What an actor's next step does.
 #[derive(Clone, Copy)]
 pub enum Next {
-    /// No step is due.
+    /// There is no step to take.
     Nothing,
     /// The next step of its word actor.
     Word,
@@ -17,7 +17,7 @@ pub enum Next {
     Copy(u32),
     /// The first value store, which commits.
     FirstStore,
-    /// The base of this collection goes home with its changes, and its gate is put back.
+    /// The base of this collection is put back with its changes, and so is its gate.
     GoHome(u32),
     /// The gate of this collection is put back, its base unchanged.
     PutGate(u32),
@@ -44,7 +44,7 @@ pub fn next_try(k: Option<u32>) -> Next
     }
 }
 
-/// The base of this collection goes home, where there is one.
+/// The base of this collection is put back, where there is one.
 pub fn next_home(k: Option<u32>) -> Next
     ensures { result ≡ next_home k }
 {

@@ -1,14 +1,14 @@
-//! What a step of the words told, in one enum.
+//! What a step of the words answered, in one enum.
 ghost use Rattle.std.specs.Prelude.{◌≡◌};
 ghost use Rattle.actor_words.specs.Dispatch.{answer_told, notice_told, refusal_told, shown_notice};
 
 use step_core::{WordAnswer, WordRefusal};
 
-/// What a step of the words told.
+/// What a step of the words answered.
 #[derive(Clone, Copy)]
 pub enum WordNotice {
     Quiet,
-    /// No step was due.
+    /// There was no step to take.
     NoTransaction,
     Begun(u64),
     Number(u64),
@@ -55,7 +55,7 @@ fn of_refusal(refusal: WordRefusal) -> WordNotice
     }
 }
 
-/// What was told. The refusals that no step has count as no step.
+/// What was answered. The refusals that no step has count as no step.
 pub fn of_told(told: Result<Option<WordAnswer>, WordRefusal>) -> WordNotice
     ensures { shown_notice result ≡ notice_told told }
 {

@@ -61,7 +61,8 @@ fn reserve_read(words: &mut Actor) -> Result<(), AllocError>
     Ok(())
 }
 
-/// A location is to be read of which the sets have this: that is answered, or else its loads are next.
+/// A location is to be read of which the sets have this: that is answered, or else its loads are next. Where the allocation for its room
+/// fails, the word actor is as it was.
 pub fn read_word(
     words: &mut Actor,
     location: u32,
@@ -87,7 +88,7 @@ pub fn read_word(
     Ok(found)
 }
 
-/// A value is to be written: the write set keeps it.
+/// A value is to be written: the write set keeps it. Where an allocation fails, the word actor is as it was.
 pub fn write_word(words: &mut Actor, location: u32, value: u64) -> Result<(), AllocError>
     requires room { fits (actor_of words.old).writes (location ∷ []) ≡ true }
     ensures actor { OnOk result (actor_of words.new ≡ ask (actor_of words.old) (actor_of words.old).place (AskWrite location value)) }
@@ -109,7 +110,8 @@ pub fn write_word(words: &mut Actor, location: u32, value: u64) -> Result<(), Al
     Ok(())
 }
 
-/// The locks of a writer are to be taken, from the first, where this may be asked.
+/// The locks of a writer are to be taken, from the first, where this may be asked. Where the allocation for its queue of locks fails, the
+/// word actor is as it was.
 pub fn lock_words(words: &mut Actor, locations: usize) -> Result<(), AllocError>
     ensures actor { OnOk result (actor_of words.new ≡ ask (actor_of words.old) (actor_of words.old).place AskLock) }
     ensures err { OnErr result (actor_of words.new ≡ actor_of words.old) }
@@ -123,7 +125,7 @@ pub fn lock_words(words: &mut Actor, locations: usize) -> Result<(), AllocError>
     Ok(())
 }
 
-/// A transaction without writes is to commit, where this may be asked.
+/// A transaction without writes is to commit, where this may be asked. Where the allocation for its record fails, it stands where it stood.
 pub fn close_words(words: &mut Actor, locations: usize) -> Result<(), AllocError>
     ensures actor { OnOk result (actor_of words.new ≡ ask (actor_of words.old) (actor_of words.old).place AskClose) }
     ensures err { OnErr result (actor_of words.new ≡ actor_of words.old) }
@@ -137,7 +139,8 @@ pub fn close_words(words: &mut Actor, locations: usize) -> Result<(), AllocError
     Ok(())
 }
 
-/// The values of a writer are to be stored, from the first, where this may be asked.
+/// The values of a writer are to be stored, from the first, where this may be asked. Where the allocation for its record fails, it stands
+/// where it stood.
 pub fn store_words(words: &mut Actor, locations: usize) -> Result<(), AllocError>
     ensures actor { OnOk result (actor_of words.new ≡ ask (actor_of words.old) (actor_of words.old).place AskStore) }
     ensures err { OnErr result (actor_of words.new ≡ actor_of words.old) }

@@ -1,6 +1,6 @@
--- Worlds that are alike to an actor, and what is due to it there.
+-- Worlds that are alike to an actor, and what is next for it there.
 --
--- To be alike is an equivalence. The action that is due, its spot and its deed are read from the actor's stage and record and from the
+-- To be alike is an equivalence. The action that is next, its spot and its deed are read from the actor's stage and record and from the
 -- shape, so they are the same in worlds that are alike to the actor.
 use Rattle.std.proofs.Common.{◌≡◌, ℕ, Option, Some, None, refl, sym, ap, ◌∙◌, subst}
 use Rattle.word_machine.specs.Actor.{Actor}

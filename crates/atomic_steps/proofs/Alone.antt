@@ -1,8 +1,8 @@
 -- An actor alone with what it finds.
 --
--- A world that is alike to an actor is so still with a number planted in a word, or a gate with its base: none of these is the actor's
--- own, but a gate that it holds, which stays. And the actor's next step finds there what was planted. So `own_event` says that it leaves
--- and tells the same.
+-- A world that is alike to an actor is so still with a number planted in a word, or a gate with its base: none of these is the actor's own,
+-- but a gate that it holds, which remains. And the actor's next step finds there what was planted. So `own_event` says that it leaves and
+-- answers the same.
 use Rattle.std.proofs.Common.{◌≡◌, ℕ, suc, true, false, List, [], ◌∷◌, Option, Some, None, inl, inr, ⊎_elim, refl, sym, ap, ◌∙◌, subst, eqb}
 use Rattle.std.proofs.Common.{eq-eqb, ne_eqb, true≢false, arith}
 use Rattle.std.specs.Prelude.{if◌then◌else◌, ◌==◌}
@@ -63,7 +63,7 @@ pub read_editions : (f g : ℕ → ℕ) (ls : List ℕ) → ((l : ℕ) → IsIn 
 read_editions f g [] e = refl
 read_editions f g (l ∷ ls) e = λ i. (l, e l (inl refl) i) ∷ read_editions f g ls (λ j m. e j (inr m)) i
 
--- what a call reads lies in its collection
+-- what a call reads is in its collection
 pub read_home : {V : Type 0} → (v : World V) → HaveStripes v.blocks → (o : Outcomes V) (l : ℕ)
     → IsIn l ((content {V = V} v.words v.blocks).reads o) → home_of v.words v.blocks l ≡ o.asked.collection
 read_home v stripes o l m =

@@ -1,4 +1,4 @@
--- A base that shows its collection, with a transaction's log folded into it, shows the collection once it has gone home.
+-- A base that shows its collection, with a transaction's log folded into it, shows the collection once it was put back.
 --
 -- Parts: an outcome on the collection makes of them what its changes make of the whole (`shows_change`, by the law that a whole is its
 -- parts), an outcome on another leaves them, and a log is one outcome after another. Editions: by the machine's invariant the write set
@@ -42,7 +42,7 @@ use Rattle.atomic_steps.specs.Own.{Alike}
 use Rattle.atomic_steps.proofs.Guards.{home_allowed}
 use Rattle.atomic_steps.proofs.Turned.{in_list, out_list, home_turned}
 
--- where a location of collection k lies in its block
+-- where a location of collection k is in its block
 inner : (w : ℕ) (bs : List Block) (l k : ℕ) (b : Block) → block_of bs k ≡ Some b → w ≤ l → l < end_of w bs → home_of w bs l ≡ k
     → (i : ℕ) × (l ≡ first_of w bs k + i) × (i < size b)
 inner w [] l k b is above below at = absurd (let z : ⊥ = cc in z)
@@ -63,7 +63,7 @@ inner w (c ∷ bs) l (suc k) b is above below at =
     inner (w + size c) bs l k b is (ltb-false l (w + size c) f) below (ap pred z))
     (cases_Bool (ltb l (w + size c)))
 
--- a location of a collection lies behind the words, in front of the end
+-- a location of a collection is after the words, in front of the end
 pub in_range : (w : ℕ) (bs : List Block) (l : ℕ) → is_plain w bs l ≡ false → (w ≤ l) × (l < end_of w bs)
 in_range w bs l = by (nat_lt l w) (nat_lt l (end_of w bs)) refl refl
   where
@@ -241,7 +241,7 @@ module _ {V : Type 0} where
       let ls : List ℕ = if p.asked.collection == k then writes_on b p.outcome else [] in
       ap (λ ms. ls ++ ms) (more_locations k b os o) ∙ sym (append_assoc ls (log_locations k b os) _)
 
-  -- ---- the base goes home
+  -- ---- the base is put back
   -- the write set has the locations of collections that the outcomes write
   abbrev SetsOk : ℕ → List Block → Actor → Shadow (Shown V) (Answered V) → Type 0
   SetsOk n bs y z =

@@ -1,6 +1,6 @@
 -- The guards of an actor's steps on gates hold, in a world that events have reached and in each that is alike to the actor there.
 --
--- In the reached world the machine does the action that is due (`world_allows`). Each of these guards speaks of the actor's place and of
+-- In the reached world the machine does the action that is next (`world_allows`). Each of these guards speaks of the actor's place and of
 -- whether a gate is its own, which are the same where worlds are alike to it.
 use Rattle.std.proofs.Common.{◌≡◌, ℕ, Bool, true, false, List, Some, sym, ap, ◌∙◌, subst}
 use Rattle.word_machine.specs.Actor.{Actor}

@@ -1,8 +1,8 @@
 -- Each event is at most one atomic action of its actor.
 --
--- The definitions do the action that is due, if any, and what they add is the actor's own: requests to its machine, calls taken over
--- into its shadow, its seat. Each of these leaves all that is shared, and other actors; so does one after another (`through`). The
--- lemmas that end in `_by` say it of each function of the definitions, from a world that has so changed on.
+-- The definitions do the action that is next, if any, and what they add is the actor's own: requests to its machine, calls taken over into
+-- its shadow, its seat. Each of these leaves all that is shared, and other actors; so does one after another (`through`). The lemmas that
+-- end in `_by` say it of each function of the definitions, from a world that has so changed on.
 use Rattle.std.proofs.Common.{◌≡◌, ℕ, zero, suc, ◌+◌, Bool, true, false, ◌&&◌, List, [], ◌∷◌, ◌++◌, Option, Some, None, ◌≢◌, refl, ap, ◌∙◌}
 use Rattle.std.proofs.Common.{eqb, ltb, length, ◌≤◌, le_refl, arith}
 use Rattle.std.proofs.lemmas.Bool.{cond_both}
@@ -330,7 +330,7 @@ module _ {V : Type 0} (a : ℕ) where
   cancelled_by v u x told.Cancelled g = asks_by v u _ (word.AskAbort) g
   cancelled_by v u x n g = g
 
-  -- what follows the action that is due
+  -- what follows the action that is next
   step_by : (v : World V) (x : Seat V) (p : Stage V) → Does a (ready_at a v p) x p (atomic_action a v p) (step_at v a x p).0
   step_by v x Idle = nothing v
   step_by v x Open = nothing v

@@ -1,8 +1,8 @@
 -- Each action of an actor, in two machines that are alike to it.
 --
--- An action reads its actor's own record and shadow, whether a gate is its own, the opening, and what it finds. All of these are the
--- same in both, so its guards agree, and the two actions make the same of the actor's own part. A step of the words is judged by the one
--- word that it finds (`step_learns`).
+-- An action reads its actor's own record and shadow, whether a gate is its own, the opening, and what it finds. All of these are the same
+-- in both, so its guards agree, and the two actions make the same of the actor's state. A step of the words is judged by the one word that
+-- it finds (`step_learns`).
 use Rattle.std.proofs.Common.{◌≡◌, ℕ, ◌+◌, Bool, true, false, ◌&&◌, eqb-true, ltb, List, [], ◌∷◌, Option, Some, None, ◌⊎◌, inl, inr, ⊎_elim}
 use Rattle.std.proofs.Common.{refl, sym, ap, ◌∙◌, subst}
 use Rattle.std.proofs.lemmas.Bool.{cases_eq}

@@ -1,8 +1,8 @@
 -- Each event of an actor, in two worlds that are alike to it.
 --
--- The definitions read the actor's seat, its machine's record and shadow, the shape of the world and what the machine's step told; so
--- each function of them, given the same of these, leaves worlds that are alike to the actor, and tells the same. The machine's own part
--- is `own_action`.
+-- The definitions read the actor's seat, its machine's record and shadow, the shape of the world and what the machine's step answered; so
+-- each function of them, given the same of these, leaves worlds that are alike to the actor, and answers the same. The machine's state is
+-- `own_action`.
 use Rattle.std.proofs.Common.{◌≡◌, ℕ, zero, suc, ◌+◌, Bool, true, false, ◌&&◌, ◌||◌, List, [], ◌∷◌, ◌++◌, Option, Some, None, refl, sym, ap}
 use Rattle.std.proofs.Common.{◌∙◌, subst, eqb, ltb, length}
 use Rattle.std.proofs.lemmas.Bool.{cond_both}
@@ -340,7 +340,7 @@ module _ {V : Type 0} (a : ℕ) where
     refl,
   )
 
-  -- by what the word machine told
+  -- by what the word machine answered
   telling : (f g : told.Notice → After V) (n m : told.Notice) → n ≡ m → ((k : told.Notice) → SameAfter a (f k) (g k)) → SameAfter a (f n)
       (g m)
   telling f g n m q h = subst (λ (z : told.Notice). SameAfter a (f n) (g z)) q (h n)

@@ -1,4 +1,4 @@
--- A step changes what is shared at its spot alone.
+-- A step changes what is shared at one word or gate alone.
 --
 -- An action on a word leaves the other words and all gates and bases; one on a gate leaves all words, the other gates and their bases.
 -- The note of an ended transaction and what follows the action change nothing of these.
@@ -43,7 +43,7 @@ module _ {X Out : Type 0} where
   editions_kept s os (Commits r) = refl
   editions_kept s os (Aborts r) = refl
 
--- what a step leaves of the table, but for one spot
+-- what a step leaves of the table, but for one word or gate
 pub record Keeps {V : Type 0} (spot : Spot) (v u : World V) : Type 0 where
   pub cells : (c : Cell) → spot ≢ Word c → cell u.boosted.words c ≡ cell v.boosted.words c
   pub gates : (k : ℕ) → spot ≢ Gate k → u.boosted.gates k ≡ v.boosted.gates k

@@ -1,7 +1,7 @@
--- What is told depends on the actor's own part and on the number found.
+-- What is answered depends on the actor's state and on the number found.
 --
--- A step of the words judges by its one word (`notice_alike`), so what it tells is what it tells where every word holds that number. The
--- step that begins a transaction finds the clock and nothing else, by the place that the invariant gives its actor.
+-- A step of the words judges by its one word (`notice_alike`), so what it answers is what it answers where every word holds that number.
+-- The step that begins a transaction finds the clock and nothing else, by the place that the invariant gives its actor.
 use Rattle.std.proofs.Common.{◌≡◌, ℕ, Option, Some, None, List, refl, sym, ap, ◌∙◌, subst}
 use Rattle.vlock_word.proofs.LockWordLemmas.{unbits_bits}
 use Rattle.vlock_word.specs.LockWord.{bits}

@@ -2,7 +2,7 @@
 --
 -- By `one_step` the step leaves what its action leaves, but for its actor's own. On a word that is what the word machine's step makes of
 -- it, which grows the clock as `pays` says; on a gate it is what the machine's action makes of the gate and its base, where its guard
--- holds. What goes home is a function of the base and of the actor's own record and outcomes, since changes of one collection's parts
+-- holds. What is put back is a function of the base and of the actor's own record and outcomes, since changes of one collection's parts
 -- depend on its parts alone.
 use Rattle.std.proofs.Common.{◌≡◌, ◌⊎◌, ℕ, ◌+◌, ◌≤◌, ◌<◌, true, false, ◌&&◌, List, [], ◌∷◌, Option, Some, None, inl, inr, ⊎_elim, refl, sym}
 use Rattle.std.proofs.Common.{ap, ◌∙◌, subst, eqb, eq-eqb, eqb-true, true≢false, arith}
@@ -159,7 +159,7 @@ module _ {V : Type 0} (a : ℕ) where
           → (step s a y y.place).clock ≡ s.clock
       other_clock s y c touches ne = step_cell s a y y.place ClockCell (λ e. ne (let i : Some c ≡ Some ClockCell = sym touches ∙ e in cc))
 
-  -- an action on a gate is due in the world as it is, and ends no transaction
+  -- an action on a gate is next in the world as it is, and ends no transaction
   abbrev IsOnGate : Action (Asked V) → Type 0
   IsOnGate (OnWords e) = ⊥
   IsOnGate d = Unit {0}
@@ -260,7 +260,7 @@ module _ {V : Type 0} (a : ℕ) where
         grows = quiet_words v _ u refl h;
       }
 
-  -- so in two worlds that are alike to a and have one base of k, it goes home as one base
+  -- so in two worlds that are alike to a and have one base of k, it is put back as one base
   pub home_same : (v w : World V) (k : ℕ) → HaveStripes v.blocks → Alike a v w → SameBase (content v.words v.blocks) k v.boosted w.boosted
       → Homed a k v (happens v (event.Step a)).0 → Homed a k w (happens w (event.Step a)).0
       → SameBase (content v.words v.blocks) k (happens v (event.Step a)).0.boosted (happens w (event.Step a)).0.boosted

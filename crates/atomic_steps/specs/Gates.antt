@@ -16,7 +16,7 @@ module _ {V : Type 0} where
   abbrev pub Puts : World V → ℕ → ℕ → Type 0
   Puts v a k = (which : ℕ → Bool) × (atomic_action a v (v.seats a).stage ≡ Some (PutGate a k which))
 
-  -- the base of k goes home next
+  -- the base of k is put back next
   abbrev pub GoesHome : World V → ℕ → ℕ → Type 0
   GoesHome v a k = atomic_action a v (v.seats a).stage ≡ Some (GoHome a k)
 
@@ -27,7 +27,7 @@ module _ {V : Type 0} where
     pub editions : (l : ℕ) → u.boosted.editions l ≡ v.boosted.editions l
     pub grows : Grows a v u
 
-  -- the base of k has gone home with the changes of a's transaction, the edition of each written location one higher, and the gate is free
+  -- the base of k was put back with the changes of a's transaction, the edition of each written location one higher, and the gate is free
   pub record Homed (a k : ℕ) (v u : World V) : Type 0 where
     pub gate : u.boosted.gates k ≡ None
     pub parts : (l : ℕ) → home_of v.words v.blocks l ≡ k → u.boosted.parts l ≡ changes (content v.words v.blocks)

@@ -21,7 +21,7 @@ SameWord a s t = (c : Cell) → word_of (plan (s.actors a) (s.actors a).place) �
 abbrev pub SameBase : {X Op Out : Type 0} → Content X Op Out → ℕ → Boosted X Out → Boosted X Out → Type 0
 SameBase c k s t = (l : ℕ) → c.plain l ≡ false → c.home l ≡ k → (s.parts l ≡ t.parts l) × (s.editions l ≡ t.editions l)
 
--- An action of a finds the same in both: the word of a step, whether a gate is free, the base that is copied. What goes home is not
+-- An action of a finds the same in both: the word of a step, whether a gate is free, the base that is copied. What is put back is not
 -- looked at.
 abbrev pub FindsBelow : {X Op Out : Type 0} → Content X Op Out → ℕ → Boosted X Out → Boosted X Out → Action Op → Type 0
 FindsBelow c a s t (OnWords (Ask b q)) = b ≡ a

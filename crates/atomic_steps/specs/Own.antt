@@ -17,7 +17,7 @@ module _ {V : Type 0} where
     pub seat : v.seats a ≡ u.seats a
     pub boosted : AlikeBelow a v.boosted u.boosted
 
-  -- and the same is told
+  -- and the same is answered
   abbrev pub SameAfter : ℕ → After V → After V → Type 0
   SameAfter a p q = Alike a p.0 q.0 × (p.1 ≡ q.1)
 

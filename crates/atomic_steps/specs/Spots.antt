@@ -1,5 +1,5 @@
 -- The word or gate that a step touches, and an actor alone with what it finds there: a world in which that word, or that gate with its
--- base, is as another world has it.
+-- base, is as in another world.
 use Rattle.std.specs.Prelude.{ℕ, suc, Option, Some, None, ◌==◌, if◌then◌else◌}
 use Rattle.vlock_word.specs.LockWord.{unbits}
 use Rattle.word_machine.specs.World as machine
@@ -32,7 +32,7 @@ with_word s ClockCell n = record s { clock = n }
 with_word s (LockCell l) n = record s { locks = put s.locks l (unbits n) }
 with_word s (ValueCell l) n = record s { values = put s.values l n }
 
--- a gate that a found at n; one that it holds itself stays its own, and who else holds it is not seen
+-- a gate that a found at n; one that it holds itself remains its own, and who else holds it is not seen
 abbrev pub found_gate : ℕ → ℕ → Option ℕ → Option ℕ
 found_gate a n o = if is_actor a o then o else (if n == 0 then None else Some (suc a))
 
@@ -61,7 +61,7 @@ module _ {V : Type 0} where
   number_at v (Word c) = cell v.boosted.words c
   number_at v (Gate k) = gate_word (v.boosted.gates k)
 
-  -- w with this number at a spot, and with these parts and editions of a gate's collection
+  -- w with this number at a word or gate, and with these parts and editions of a gate's collection
   abbrev pub planted : ℕ → World V → Spot → ℕ → (ℕ → Shown V) → (ℕ → ℕ) → World V
   planted a w Nowhere n parts editions = w
   planted a w (Word c) n parts editions = record w { boosted = record w.boosted { words = with_word w.boosted.words c n } }

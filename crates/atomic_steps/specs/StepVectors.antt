@@ -1,4 +1,4 @@
--- Schedules computed by the definitions: the word or gate of each step, what it tells by the number found, what a lone world keeps, what
+-- Schedules computed by the definitions: the word or gate of each step, what it answers by the number found, what a lone world keeps, what
 -- a log gets.
 use Rattle.std.specs.Prelude.{◌≡◌, ℕ, zero, suc, false, List, [], ◌∷◌, ◌++◌, Some, None, refl}
 use Rattle.std.specs.FinMap.{empty}
@@ -24,7 +24,7 @@ use Rattle.atomic_steps.specs.Spots.{Spot, Nowhere, Word, Gate, spot_at, found_g
 use Rattle.atomic_steps.specs.Tells.{tells}
 use Rattle.atomic_steps.specs.Bases.{log_changes, log_locations}
 
--- the words and gates of a's steps until it rests, of so many at most
+-- the words and gates of a's steps until it is idle, of so many at most
 abbrev onward : Spot → World ℕ → World ℕ × List Spot → World ℕ × List Spot
 onward Nowhere w rest = (w, [])
 onward spot w rest = (rest.0, spot ∷ rest.1)
@@ -81,7 +81,7 @@ abort_spots = refl
 reader : Actor
 reader = record (begun false 3) { reads = (0, 9) ∷ [] }
 
--- A read is moved by a word that is locked, or free at a newer version, and goes on at version 3. A commit that finds the clock at 3
+-- A read is moved by a word that is locked, or free at a newer version, and continues at version 3. A commit that finds the clock at 3
 -- checks nothing, and is locked at once; one that finds 4 has its reads to check.
 tells_by_number :
     (tells reader (Look 0) 7 ≡ Moved 0 7) × (tells reader (Look 0) 8 ≡ Moved 0 8) × (tells reader (Look 0) 6 ≡ Quiet)
@@ -89,13 +89,13 @@ tells_by_number :
 unfolding reader locations unbits
 tells_by_number = (refl, refl, refl, refl, refl)
 
--- of a gate it is seen whether it is free; one's own stays one's own
+-- of a gate it is seen whether it is free; one's own remains one's own
 gates_found : (found_gate 1 0 None ≡ None) × (found_gate 1 1 None ≡ Some 2) × (found_gate 1 0 (Some 3) ≡ None)
     × (found_gate 1 1 (Some 1) ≡ Some 1)
 gates_found = (refl, refl, refl, refl)
 
--- The log of a transaction on a collection has its changes there alone, in order, with their locations: key 5 lies on location 1 of two,
--- key 6 on 0.
+-- The log of a transaction on a collection has its changes there alone, in order, with their locations: key 5 is on location 1 of two, key
+-- 6 on 0.
 two_stripes : Block
 two_stripes = record { kind = MapKind; stripes = 2 }
 

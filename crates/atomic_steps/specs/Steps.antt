@@ -40,7 +40,7 @@ module _ {V : Type 0} where
   IsAtomic a (Accept b op) = ⊥
   IsAtomic a (GoHome b k) = b ≡ a
 
-  -- the atomic action that is due at a stage; at Ready the first value store, whose request is made just before
+  -- the atomic action that is next at a stage; at Ready the first value store, whose request is made just before
   abbrev pub atomic_action : ℕ → World V → Stage V → Option (Action (Asked V))
   atomic_action a v (Ready ks) = Some (moves a)
   atomic_action a v stage = step_action v a stage
@@ -63,7 +63,7 @@ module _ {V : Type 0} where
   Does a v x stage None u = OnlyOwn a v u
   Does a v x stage (Some action) u = IsAtomic a action × OnlyOwn a (ended_at a x stage (acted v (action ∷ []))) u
 
-  -- a request or a want of memory does nothing to what is shared; a step does the one atomic action that is due, or none
+  -- a request or a failed allocation does nothing to what is shared; a step does the one atomic action that is next, or none
   abbrev pub IsOneAction : World V → Event V → Type 0
   IsOneAction v (event.Ask a q) = OnlyOwn a v (happens v (event.Ask a q)).0
   IsOneAction v (event.Step a) =

@@ -1,4 +1,4 @@
--- What a step of the words tells, by the number that it finds.
+-- What a step of the words answers, by the number that it finds.
 use Rattle.std.specs.Prelude.{ℕ}
 use Rattle.vlock_word.specs.LockWord.{unbits}
 use Rattle.word_machine.specs.Actor.{Actor, Place}
@@ -9,6 +9,6 @@ use Rattle.word_machine.specs.Notices.{Notice, notice}
 abbrev pub everywhere : ℕ → World
 everywhere n = record (start n (λ l. n)) { locks = λ l. unbits n }
 
--- a step looks at one word, so it tells what it would where n stands in each
+-- a step looks at one word, so it answers what it would where n stands in each
 abbrev pub tells : Actor → Place → ℕ → Notice
 tells x p n = notice (everywhere n) x p

@@ -23,8 +23,8 @@ ghost use Rattle.atomic_steps.specs.Tells.{tells};
 ghost use Rattle.atomic_steps.specs.Bases.{IsBaseOf, ShowsBase, IsFolded, changes_on, writes_on, log_changes, log_locations};
 ghost use Rattle.replay_log.specs.declared.base.Base.{Base};
 
-/// An event is at most one atomic action of its actor. A request, or a want of memory, leaves all words, gates, bases and records and
-/// all other actors as they are; a step does the action that is due at its stage, notes the transaction that it ends, and leaves
+/// An event is at most one atomic action of its actor. A request, or a failed allocation, leaves all words, gates, bases and records and
+/// all other actors as they are; a step does the action that is next at its stage, notes the transaction that it ends, and leaves
 /// everything else but what is its actor's own.
 pub fn one_action<V>()
     ensures { (v : World V) (event : Event V) → IsOneAction v event }
@@ -47,7 +47,7 @@ pub fn one_spot<V>()
         (happens v (Step a)).0.boosted.editions l ≡ v.boosted.editions l }
 {}
 
-/// Which word or gate that is, and what is done there, depends on the actor's own part alone.
+/// Which word or gate that is, and what is done there, depends on the actor's state alone.
 pub fn due_by_own_part<V>()
     ensures spot { (a : ℕ) (v w : World V) → Alike a v w → spot_at a v (v.seats a).stage ≡ spot_at a w (w.seats a).stage }
     ensures action { (a : ℕ) (v w : World V) → Alike a v w → atomic_action a v (v.seats a).stage ≡ atomic_action a w (w.seats a).stage }
@@ -91,9 +91,8 @@ pub fn gates_are_due<V>()
         GoesHome t a k → (is_actor a (t.boosted.gates k) ≡ true) × (is_stored (actor_of t a).place ≡ true) }
 {}
 
-/// What an event leaves of its actor's own part, and what it tells, depends on that part and on what it finds alone: in two worlds
-/// that are alike to the actor, an event that finds the same tells the same, and leaves worlds that are alike to it. So do the
-/// machine's actions.
+/// What an event leaves of its actor's state, and what it answers, depends on that state and on what it finds alone: in two worlds that are
+/// alike to the actor, an event that finds the same answers the same, and leaves worlds that are alike to it. So do the machine's actions.
 pub fn own_part<V, X, Op, Out>()
     ensures events { (a : ℕ) (v u : World V) (event : Event V) → Alike a v u → Finds a v u event →
         SameAfter a (happens v event) (happens u event) }
@@ -101,8 +100,8 @@ pub fn own_part<V, X, Op, Out>()
         AlikeBelow a s t → FindsBelow c a s t action → AlikeBelow a (acts c s action) (acts c t action) }
 {}
 
-/// What a step of the words tells is a function of its actor's record and of the number that it finds, as what it leaves of that
-/// record is (`word_machine::laws::one_word`).
+/// What a step of the words answers is a function of its actor's record and of the number that it finds, as what it leaves of that record
+/// is (`word_machine::laws::one_word`).
 pub fn told_by_what_is_found()
     ensures found { (s : Words) (x : Actor) (p : Place) (c : Cell) → word_of (plan x p) ≡ Some c → notice s x p ≡ tells x p (cell s c) }
     ensures nothing { (s : Words) (x : Actor) (p : Place) → word_of (plan x p) ≡ None → notice s x p ≡ tells x p 0 }
@@ -118,15 +117,15 @@ pub fn begins<V>()
         SameAfter a (happens v (Step a)) (happens u (Step a)) }
 {}
 
-/// So an actor's own part is that of a world in which it is alone with what it found: where two worlds are alike to it, its step in
-/// the first leaves and tells what its step in the second does, once the one word or gate that it touches is planted there.
+/// So an actor's state is that of a world in which it is alone with what it found: where two worlds are alike to it, its step in the first
+/// leaves and answers what its step in the second does, once the one word or gate that it touches is planted there.
 pub fn alone_with_what_it_finds<V>()
     ensures { (a : ℕ) (v w : World V) → HaveStripes v.blocks → Alike a v w →
         SameAfter a (happens v (Step a)) (happens (given a v w) (Step a)) }
 {}
 
-/// A base goes home as a function of the base and of its actor's own part: what a transaction's changes make of the parts of one
-/// collection depends on those parts.
+/// A base is put back as a function of the base and of its actor's state: what a transaction's changes make of the parts of one collection
+/// depends on those parts.
 pub fn changes_at_home<V, X, Op, Out>()
     ensures parts { (c : Content X Op Out) → Frame c → (k : ℕ) (outcomes : List Out) (u v : ℕ → X) →
         ((l : ℕ) → c.plain l ≡ false → c.home l ≡ k → u l ≡ v l) →
@@ -137,10 +136,10 @@ pub fn changes_at_home<V, X, Op, Out>()
         SameBase (content v.words v.blocks) k (happens v (Step a)).0.boosted (happens w (Step a)).0.boosted }
 {}
 
-/// A base that shows what its collection has, with the log of a transaction folded into it (`replay_log::Log::fold`), shows what
-/// the collection has once it has gone home: the parts, and the edition of each location that the log was pushed with one higher. The
-/// log is that of the transaction's calls on the collection, one after another. So it is in a world that events have reached, and in
-/// each that is alike to the actor there, as its own is.
+/// A base that shows what its collection has, with the log of a transaction folded into it (`replay_log::Log::fold`), shows what the
+/// collection has once it is put back: the parts, and the edition of each location that the log was pushed with one higher. The log is that
+/// of the transaction's calls on the collection, one after another. So it is in a world that events have reached, and in each that is alike
+/// to the actor there, as its lone one is.
 pub fn goes_home_as_folded<V>()
     ensures home { (blocks : List Block) (clock : ℕ) (values : List ℕ) (held : List (Held V)) (events : List (Event V)) (a k : ℕ)
         (b : Block)

@@ -106,7 +106,7 @@ impl BagBase {
         })
     }
 
-    /// What the multiset holds: copies of its elements.
+    /// What the multiset holds: copies of its elements. `Memory` where an allocation fails.
     pub fn held<V>(&self) -> Result<Held<V>, Memory>
         ensures { IfOk result (λ held. held ≡ (rules V).held_of self.now.shown) }
     {
@@ -157,11 +157,12 @@ impl BagBase {
         self.elements.copies(element)
     }
 
+    /// Where the multiset's memory comes from.
     pub fn allocator(&self) -> Global {
         self.editions.allocator()
     }
 
-    /// The location that the element lies on.
+    /// The location of the element.
     pub fn place(&self, element: u64) -> u32
         ensures location { result ≡ key_place self.now.stripes element }
         ensures within { result < self.now.stripes }
@@ -197,8 +198,8 @@ impl BagBase {
         Ok(changes)
     }
 
-    /// Makes room for the changes. The multiset stays as it is and keeps its room, also where memory is refused. Where there is
-    /// room already, nothing is refused.
+    /// Makes room for the changes. The multiset is unchanged and keeps its room, also where an allocation fails. Where there is room
+    /// already, nothing is refused.
     pub fn prepare<V>(&mut self, changes: &[Change<V>]) -> Result<(), Memory>
         ensures shown { self.new.shown ≡ self.old.shown }
         ensures stripes { self.new.stripes ≡ self.old.stripes }
@@ -248,7 +249,7 @@ impl BagBase {
         self.editions.edition(location)
     }
 
-    /// A multiset that holds the same, with the same editions.
+    /// A multiset that holds the same, with the same editions. `Memory` where an allocation fails.
     pub fn try_copy(&self) -> Result<BagBase, Memory>
         ensures shown { IfOk result (λ copy. copy.shown ≡ self.now.shown) }
         ensures stripes { IfOk result (λ copy. copy.stripes ≡ self.now.stripes) }

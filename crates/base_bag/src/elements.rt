@@ -33,6 +33,7 @@ impl Model for Elements {
 }
 
 impl Elements {
+    /// The empty multiset. It takes no memory.
     pub fn new(alloc: Global) -> Elements
         ensures { result.shown ≡ empty }
     {
@@ -41,6 +42,7 @@ impl Elements {
         }
     }
 
+    /// These elements with their copies. `Memory` where an allocation fails.
     pub fn of_counts(alloc: Global, counts: Counts) -> Result<Elements, Memory>
         ensures { IfOk result (λ elements. elements.shown ≡ counts) }
     {
@@ -48,12 +50,14 @@ impl Elements {
         Ok(Elements { table })
     }
 
+    /// A copy of the elements with the numbers of their copies. `Memory` where an allocation fails.
     pub fn to_counts(&self) -> Result<Counts, Memory>
         ensures { IfOk result (λ counts. counts ≡ self.now.shown) }
     {
         Ok(Counts::from_entries(self.table.to_entries()?))
     }
 
+    /// How many copies of the element there are, 0 for one that is not there.
     pub fn copies(&self, element: u64) -> u64
         ensures { result ≡ copies self.now.shown element }
     {
@@ -103,6 +107,7 @@ impl Elements {
         }
     }
 
+    /// An equal multiset. `Memory` where an allocation fails.
     pub fn try_copy(&self) -> Result<Elements, Memory>
         ensures { IfOk result (λ copy. copy.shown ≡ self.now.shown) }
     {

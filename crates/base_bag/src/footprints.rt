@@ -7,7 +7,7 @@ use conflict::{Change, LocSet, Outcome};
 use seq_model::{Memory, Op, Reply};
 use std::alloc::Global;
 
-/// The location that the element lies on.
+/// The location of the element.
 pub fn place_in(stripes: u32, element: u64) -> u32
     requires { 0 < stripes }
     ensures location { result ≡ key_place stripes element }

@@ -1,7 +1,7 @@
 //! The collection of a multiset: the copies of its elements, an edition for each stripe of them, what calls on it read and
 //! write, and the replay of the changes that a transaction commits.
 //!
-//! Element `x` lies on stripe `x mod stripes`, and the stripes are the multiset's locations. A call reads the stripe of its
+//! Element `x` is on stripe `x mod stripes`, and the stripes are the multiset's locations. A call reads the stripe of its
 //! element, and writes it if it changes the number of copies: an add that is Full and a take that finds none only read. Each
 //! change is one copy more or one copy fewer, so two adds of one element in a transaction are two copies.
 #![tactic(auto)]

@@ -7,7 +7,7 @@ use conflict::{Change, LocSet, Outcome};
 use seq_model::{Memory, Op, Reply, Value};
 use std::alloc::Global;
 
-/// The location that the key lies on.
+/// The location of the key.
 pub fn place_in(stripes: u32, key: u64) -> u32
     requires { 0 < stripes }
     ensures location { result ≡ key_place stripes key }

@@ -104,7 +104,7 @@ impl<V: Value> MapBase<V> {
         })
     }
 
-    /// What the map holds: copies of its entries.
+    /// What the map holds: copies of its entries. `Memory` where an allocation fails.
     pub fn held(&self) -> Result<Held<V>, Memory>
         ensures { IfOk result (λ held. held ≡ (rules V).held_of self.now.shown) }
     {
@@ -138,7 +138,7 @@ impl<V: Value> MapBase<V> {
         }
     }
 
-    /// The value of the key, as a copy.
+    /// The value of the key, as a copy. `Memory` where an allocation for it fails.
     pub fn entry(&self, key: u64) -> Result<Option<V>, Memory>
         ensures { IfOk result (λ entry. entry ≡ map.get self.now.shown key) }
     {
@@ -148,11 +148,12 @@ impl<V: Value> MapBase<V> {
         })
     }
 
+    /// Where the map's memory comes from.
     pub fn allocator(&self) -> Global {
         self.editions.allocator()
     }
 
-    /// How many keys lie on each stripe, in order.
+    /// How many keys are on each stripe, in order. `Memory` where an allocation for the list fails.
     pub fn counts(&self) -> Result<Items<u64>, Memory>
         ensures { IfOk result (λ counts. counts ≡ stripe_counts self.now.stripes self.now.shown) }
     {
@@ -166,13 +167,14 @@ impl<V: Value> MapBase<V> {
         self.table.len()
     }
 
+    /// In how many stripes the map is.
     pub fn stripes(&self) -> u32
         ensures { result ≡ self.now.stripes }
     {
         self.stripes
     }
 
-    /// The location that the key lies on.
+    /// The location of the key.
     pub fn place(&self, key: u64) -> u32
         ensures location { result ≡ key_place self.now.stripes key }
         ensures within { result < self.now.stripes }
@@ -208,8 +210,8 @@ impl<V: Value> MapBase<V> {
         Ok(changes)
     }
 
-    /// Makes room for the changes. The map stays as it is and keeps its room, also where memory is refused. Where there is
-    /// room already, nothing is refused.
+    /// Makes room for the changes. The map is unchanged and keeps its room, also where an allocation fails. Where there is room already,
+    /// nothing is refused.
     pub fn prepare(&mut self, changes: &[Change<V>]) -> Result<(), Memory>
         ensures shown { self.new.shown ≡ self.old.shown }
         ensures stripes { self.new.stripes ≡ self.old.stripes }
@@ -259,7 +261,7 @@ impl<V: Value> MapBase<V> {
         self.editions.edition(location)
     }
 
-    /// A map that holds the same, with the same editions.
+    /// A map that holds the same, with the same editions. `Memory` where an allocation fails.
     pub fn try_copy(&self) -> Result<MapBase<V>, Memory>
         ensures shown { IfOk result (λ copy. copy.shown ≡ self.now.shown) }
         ensures stripes { IfOk result (λ copy. copy.stripes ≡ self.now.stripes) }

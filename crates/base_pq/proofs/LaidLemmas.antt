@@ -140,7 +140,8 @@ both_among (Some u) None None h = refl
 both_among (Some u) (Some v) None h = refl
 both_among (Some u) b (Some w) h = refl
 
-pub least_of_laid : (m o : Multiset) (x : ℕ) (es : List (ℕ × ℕ)) → IsRising es → m ≡ from_sorted es → HasNoZero (one_fewer (laid m (entries o)) x)
+pub least_of_laid : (m o : Multiset) (x : ℕ) (es : List (ℕ × ℕ)) → IsRising es → m ≡ from_sorted es
+    → HasNoZero (one_fewer (laid m (entries o)) x)
     → lesser (first_kept (λ q. copies (one_fewer (laid m (entries o)) x) q) (entries o))
     (first_kept (λ q. copies (one_fewer (laid m (entries o)) x) q) es)
     ≡ least (one_fewer (laid m (entries o)) x)

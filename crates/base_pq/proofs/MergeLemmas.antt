@@ -16,18 +16,20 @@ use Rattle.seq_model.specs.Entries.{IsPlaceOf, IsRising, rank, has_key}
 use Rattle.seq_model.proofs.EntryLemmas.{below_at, both_true, by_cases, greater_of, entries_of, remove_absent, remove_there, without, without_below}
 use Rattle.base_pq.specs.Laid.{laid, through}
 
--- the entry goes behind those with lesser keys
+-- the entry goes after those with lesser keys
 put_behind : (k c : ℕ) (made rest : List (ℕ × ℕ)) → All (λ e. e.0 < k) made → put nat_cmp k c (made ++ rest) ≡ made ++ put nat_cmp k c rest
 put_behind k c [] rest low = refl
 put_behind k c (e ∷ made) rest low =
     ap (λ r. by_order r ((k, c) ∷ e ∷ made ++ rest) ((e.0, c) ∷ made ++ rest) (e ∷ put nat_cmp k c (made ++ rest)))
-    (greater_of k e.0 (All-head (λ x. x.0 < k) e made low)) ∙ ap (λ t. e ∷ t) (put_behind k c made rest (All-tail (λ x. x.0 < k) e made low))
+    (greater_of k e.0 (All-head (λ x. x.0 < k) e made low))
+    ∙ ap (λ t. e ∷ t) (put_behind k c made rest (All-tail (λ x. x.0 < k) e made low))
 
 without_behind : (k : ℕ) (made rest : List (ℕ × ℕ)) → All (λ e. e.0 < k) made → without k (made ++ rest) ≡ made ++ without k rest
 without_behind k [] rest low = refl
 without_behind k (e ∷ made) rest low =
     ap (λ r. cond (not (is_eq r)) (e ∷ without k (made ++ rest)) (without k (made ++ rest)))
-    (greater_of k e.0 (All-head (λ x. x.0 < k) e made low)) ∙ ap (λ t. e ∷ t) (without_behind k made rest (All-tail (λ x. x.0 < k) e made low))
+    (greater_of k e.0 (All-head (λ x. x.0 < k) e made low))
+    ∙ ap (λ t. e ∷ t) (without_behind k made rest (All-tail (λ x. x.0 < k) e made low))
 
 -- it stands in place of the one that has its key, if there is one
 put_at : (k c : ℕ) (es : List (ℕ × ℕ)) → put nat_cmp k c es ≡ take (rank k es) es ++ (k, c) ∷ drop (through k es) es

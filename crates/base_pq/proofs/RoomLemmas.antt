@@ -154,11 +154,16 @@ module _ {V : Type 0} where
       → IsTaken n (k + 1) all before now then
   taken_some n k j all before free now held then c low at some one left h = record {
     fits = (let more = fallen_more n k all c (Some j) low at some in let was = h.fits in omega (arith, more, was, one));
-    kept = λ i. (let more = falls_more n i k all c (Some j) low at some in let was = h.kept i in let here = left i in omega (arith, more, was, here));
+    kept = λ i.
+        (let more = falls_more n i k all c (Some j) low at some in
+        let was = h.kept i in
+        let here = left i in
+        omega (arith, more, was, here));
   }
 
   -- where there was room for all changes, there is a place for the next one
-  pub taken_next : (n k j : ℕ) (all : List (Change V)) (before free : List ℕ) (held : ℕ) (c : Change V) → k < length all → get_or all k c ≡ c
+  pub taken_next : (n k j : ℕ) (all : List (Change V)) (before free : List ℕ) (held : ℕ) (c : Change V) → k < length all
+      → get_or all k c ≡ c
       → stripe_of n c ≡ Some j → j < n → HasRoom n before all → IsTaken n k all before free held → 0 < get_or free j 0
   taken_next n k j all before free held c low at some inside enough h =
       let more = falls_more n j k all c (Some j) low at some in
@@ -184,7 +189,8 @@ module _ {V : Type 0} where
     given = λ i. (let more = falls_more n i k all c None low at none in let was = h.given i in omega (arith, more, was));
   }
 
-  pub given_some : (n k j : ℕ) (all : List (Change V)) (before free : List ℕ) (held : ℕ) (c : Change V) → k < length all → get_or all k c ≡ c
+  pub given_some : (n k j : ℕ) (all : List (Change V)) (before free : List ℕ) (held : ℕ) (c : Change V) → k < length all
+      → get_or all k c ≡ c
       → stripe_of n c ≡ Some j → j < length free → IsGiven n k all before free held
       → IsGiven n (k + 1) all before (set free j (get_or free j 0 + 1)) held
   given_some n k j all before free held c low at some inside h = record {
@@ -201,7 +207,8 @@ module _ {V : Type 0} where
   }
 
   -- a stripe to which a place is given back has fewer than are held
-  pub given_next : (n k j : ℕ) (all : List (Change V)) (before free : List ℕ) (held : ℕ) (c : Change V) → k < length all → get_or all k c ≡ c
+  pub given_next : (n k j : ℕ) (all : List (Change V)) (before free : List ℕ) (held : ℕ) (c : Change V) → k < length all
+      → get_or all k c ≡ c
       → stripe_of n c ≡ Some j → j < length free → IsGiven n k all before free held → get_or free j 0 < held
   given_next n k j all before free held c low at some inside h =
       let less = fallen_left n k all c (Some j) low at some in

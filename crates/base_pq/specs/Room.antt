@@ -4,7 +4,7 @@ use Rattle.std.specs.Prelude.{slice_index_or}
 use Rattle.conflict.specs.declared.change.Change.{Change}
 use Rattle.conflict.specs.declared.change.Change.TheVariants as change
 
--- how much room of stripe i an element takes which lies in this stripe, if in any
+-- how much room of stripe i an element takes which is in this stripe, if in any
 abbrev pub room_taken : ℕ → Option ℕ → ℕ
 room_taken i None = 0
 room_taken i (Some j) = if nat_eq j i then 1 else 0

@@ -52,6 +52,7 @@ impl Model for Elements {
 }
 
 impl Elements {
+    /// The empty multiset. It takes no memory.
     pub fn new(alloc: Global) -> Elements
         ensures { result.elements ≡ map.empty }
     {
@@ -76,6 +77,7 @@ impl Elements {
         Ok(elements)
     }
 
+    /// A copy of the elements with the numbers of their copies. `Memory` where an allocation fails.
     pub fn to_counts(&self, alloc: Global) -> Result<Counts, Memory>
         ensures { IfOk result (λ counts. counts ≡ self.now.elements) }
     {
@@ -126,6 +128,7 @@ impl Elements {
         }
     }
 
+    /// How many copies of the element there are, 0 for one that is not there.
     pub fn copies(&self, element: u64) -> u64
         ensures { result ≡ copies self.now.elements element }
     {
@@ -200,6 +203,7 @@ impl Elements {
         }
     }
 
+    /// A copy, which shares the list. `Memory` where an allocation for what has changed since fails, or the list can't be shared.
     pub fn try_copy(&self, alloc: Global) -> Result<Elements, Memory>
         ensures { IfOk result (λ copy. copy.elements ≡ self.now.elements) }
     {
@@ -211,7 +215,7 @@ impl Elements {
         })
     }
 
-    /// Becomes a copy of the other, in the memory that it has as far as that suffices. Where memory is refused, it stays as it is.
+    /// Becomes a copy of the other, in the memory that it has as far as that suffices. Where an allocation fails, it is unchanged.
     pub fn copy_from(&mut self, other: &Elements) -> Result<(), Memory>
         ensures { OnOk result (self.new.elements ≡ other.now.elements) }
     {

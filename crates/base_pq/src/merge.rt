@@ -9,7 +9,7 @@ use crate::sorted::place_of;
 use seq_model::Memory;
 use std::alloc::Global;
 
-/// The entries of one list with those of another laid over them, where 0 copies are none.
+/// The entries of one list with those of another laid over them, where 0 copies are none. `Memory` where an allocation fails.
 pub fn merged(
     alloc: Global,
     list: &[(u64, u64)],
@@ -29,8 +29,8 @@ pub fn merged(
     Ok(made)
 }
 
-// Adds what stands before the element in the rest, and the element with its copies, if there are any. It answers how much of the rest
-// is used.
+// Adds what stands before the element in the list that is left, and the element with its copies, if there are any. Returns how much of that
+// list is used.
 fn lay_one(
     made: &mut Vec<(u64, u64)>,
     rest: &[(u64, u64)],

@@ -21,7 +21,7 @@ pub struct Places {
 }
 
 impl Places {
-    /// None in any of so many stripes.
+    /// None in any of so many stripes. `Memory` where an allocation fails.
     pub fn new(alloc: Global, stripes: usize) -> Result<Places, Memory>
         ensures count { IfOk result (λ places. length places.free.items ≡ stripes) }
         ensures fits { IfOk result (λ places. sum places.free.items ≤ places.held) }

@@ -22,12 +22,14 @@ impl Model for Shared {
 }
 
 impl Shared {
+    /// No entries. It takes no memory.
     pub fn empty() -> Shared
         ensures { result ≡ [] }
     {
         Shared { list: None }
     }
 
+    /// These entries, in a list to be shared. `Memory` where an allocation fails.
     pub fn of(alloc: Global, entries: Vec<(u64, u64)>) -> Result<Shared, Memory>
         ensures { IfOk result (λ shared. shared ≡ entries.items) }
     {
@@ -35,12 +37,14 @@ impl Shared {
         Ok(Shared { list: Some(list) })
     }
 
+    /// How many entries there are.
     pub fn len(&self) -> usize
         ensures { result ≡ length self.now }
     {
         self.as_slice().len()
     }
 
+    /// The entries, in order.
     pub fn as_slice(&self) -> &[(u64, u64)]
         ensures { result.now ≡ self.now }
     {
@@ -50,7 +54,7 @@ impl Shared {
         }
     }
 
-    /// One more owner of the list.
+    /// One more owner of the list. `Memory` where it has as many as there may be.
     pub fn share(&self) -> Result<Shared, Memory>
         ensures { IfOk result (λ shared. shared ≡ self.now) }
     {

@@ -33,6 +33,7 @@ impl Model for Sorted {
 }
 
 impl Sorted {
+    /// No element. It takes no memory.
     pub fn new(alloc: Global) -> Sorted
         ensures { result.elements ≡ map.empty }
     {
@@ -48,6 +49,7 @@ impl Sorted {
         self.items.as_slice()
     }
 
+    /// How many elements have a number.
     pub fn len(&self) -> usize
         ensures { result ≡ length (map.entries self.now.elements) }
     {
@@ -64,6 +66,7 @@ impl Sorted {
         }
     }
 
+    /// Where the memory of the list comes from.
     pub fn allocator(&self) -> Global {
         *self.items.allocator()
     }
@@ -105,6 +108,7 @@ impl Sorted {
         }
     }
 
+    /// An equal list. `Memory` where an allocation fails.
     pub fn try_copy(&self, alloc: Global) -> Result<Sorted, Memory>
         ensures { IfOk result (λ copy. copy.elements ≡ self.now.elements) }
     {
@@ -112,7 +116,7 @@ impl Sorted {
         Ok(Sorted { items })
     }
 
-    /// Becomes a copy of the other, in the memory that it has as far as that suffices. Where memory is refused, it stays as it is.
+    /// Becomes a copy of the other, in the memory that it has as far as that suffices. Where an allocation fails, it is unchanged.
     pub fn copy_from(&mut self, other: &Sorted) -> Result<(), Memory>
         ensures ok { OnOk result (self.new.elements ≡ other.now.elements) }
         ensures err { OnErr result (self.new.elements ≡ self.old.elements) }
@@ -123,7 +127,7 @@ impl Sorted {
         Ok(())
     }
 
-    /// Takes all elements out. The memory stays.
+    /// Takes all elements out. The memory is kept.
     pub fn clear(&mut self)
         ensures elements { self.new.elements ≡ map.empty }
         ensures room { self.old.room ≤ self.new.room }
@@ -138,7 +142,7 @@ impl Sorted {
     }
 }
 
-/// Where the element is in the list, or where it would go.
+/// Where the element is in the list, which rises, or (`Err`) where it would go.
 pub fn place_of(list: &[(u64, u64)], element: u64) -> Result<usize, usize>
     requires { IsRising list.now }
     ensures { IsPlaceOf element list.now result }

@@ -38,6 +38,7 @@ impl Model for Striped {
 }
 
 impl Striped {
+    /// No element, in so many stripes, with no room. `Memory` where an allocation fails.
     pub fn new(alloc: Global, stripes: u32) -> Result<Striped, Memory>
         requires { 0 < stripes }
         ensures elements { IfOk result (λ striped. striped.elements ≡ empty) }
@@ -49,7 +50,7 @@ impl Striped {
         })
     }
 
-    /// These elements.
+    /// These elements, with no room. `Memory` where an allocation fails.
     pub fn of_counts(alloc: Global, stripes: u32, counts: Counts) -> Result<Striped, Memory>
         requires { 0 < stripes }
         ensures elements { IfOk result (λ striped. striped.elements ≡ counts) }
@@ -60,12 +61,14 @@ impl Striped {
         Ok(Striped { elements, places })
     }
 
+    /// A copy of the elements with the numbers of their copies. `Memory` where an allocation fails.
     pub fn to_counts(&self, alloc: Global) -> Result<Counts, Memory>
         ensures { IfOk result (λ counts. counts ≡ self.now.elements) }
     {
         self.elements.to_counts(alloc)
     }
 
+    /// How many copies of the element there are, 0 for one that is not there.
     pub fn copies(&self, element: u64) -> u64
         ensures { result ≡ copies self.now.elements element }
     {
@@ -111,7 +114,7 @@ impl Striped {
         Ok(())
     }
 
-    /// A copy has no room.
+    /// A copy, which has no room. `Memory` where an allocation fails.
     pub fn try_copy(&self, alloc: Global) -> Result<Striped, Memory>
         ensures elements { IfOk result (λ copy. copy.elements ≡ self.now.elements) }
         ensures stripes { IfOk result (λ copy. copy.stripes ≡ self.now.stripes) }

@@ -21,7 +21,9 @@ pub frozen_at : (n at : ℕ) (cs : List (List ℕ)) (items : List ℕ)
 frozen_at n at cs items = ap (λ t. flat (cs ++ take n (drop at items) ∷ []) ++ t) (sym (drop-drop n at items)) ∙ frozen n cs (drop at items)
 
 pub of_pushed : (n : ℕ) (c : List ℕ) (cs : List (List ℕ)) → AreOf n cs → length c ≡ n → AreOf n (cs ++ c ∷ [])
-of_pushed n c cs all is = All-append (λ x. length x ≡ n) cs (c ∷ []) all (All-cons (λ x. length x ≡ n) c [] is (All-nil (λ x. length x ≡ n)))
+of_pushed n c cs all is =
+    All-append (λ x. length x ≡ n) cs (c ∷ []) all
+    (All-cons (λ x. length x ≡ n) c [] is (All-nil (λ x. length x ≡ n)))
 
 pub length_flat : (n : ℕ) (cs : List (List ℕ)) → AreOf n cs → length (flat cs) ≡ length cs * n
 length_flat n [] all = omega arith

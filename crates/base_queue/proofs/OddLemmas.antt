@@ -15,7 +15,8 @@ use Rattle.base_queue.specs.Conflicts.{cells_from}
 use Rattle.base_queue.specs.FrameLemmas.{below_cells, next_cell, remove_new}
 use Rattle.base_queue.specs.SharedList.{with_one, with_odd}
 
-pub odd_pushed : (m : FinMap nat_cmp ℕ) (e : ℕ × Option ℕ) (odd : List (ℕ × Option ℕ)) → with_odd m (odd ++ e ∷ []) ≡ with_one (with_odd m odd) e
+pub odd_pushed : (m : FinMap nat_cmp ℕ) (e : ℕ × Option ℕ) (odd : List (ℕ × Option ℕ))
+    → with_odd m (odd ++ e ∷ []) ≡ with_one (with_odd m odd) e
 odd_pushed m e odd = fold-append with_one m odd (e ∷ [])
 
 other_index : (q i : ℕ) → ¬ (i ≡ q) → eq_by_cmp nat_cmp q i ≡ false

@@ -26,7 +26,7 @@ pub record Shown : Type 0 where
   pub head : ℕ
   pub tail : ℕ
 
--- how a proof tells what is shown apart
+-- how a proof distinguishes what is shown
 abbrev pub shown_code : Coded Shown
 shown_code =
     code_by (FinMap nat_cmp ℕ × (ℕ × ℕ)) (coded× (code coded_ℕ coded_ℕ) (coded× coded_ℕ coded_ℕ))

@@ -14,7 +14,7 @@ use std::marker::Model;
 /// Cells that hold items, the index of the first item, and the index that the next one gets.
 #[derive(Drop)]
 pub struct Cells {
-    /// The items from index `first` on, behind as many as are gone.
+    /// The items from index `first` on, after as many as are gone.
     items: SharedList,
     gone: usize,
     first: u64,
@@ -47,13 +47,14 @@ impl Model for Cells {
 }
 
 impl Cells {
+    /// No item, and the next one gets index 0. `Memory` where an allocation fails.
     pub fn new(alloc: Global) -> Result<Cells, Memory>
         ensures { IfOk result (λ cells. cells.shown ≡ queue_view 0 []) }
     {
         Cells::of_items(alloc, 0, &[])
     }
 
-    /// Items from this index on.
+    /// Items from this index on. `Memory` where an allocation fails.
     pub fn of_items(alloc: Global, head: u64, items: &[u64]) -> Result<Cells, Memory>
         requires { head + length items.now ≤ INDEX_LIMIT }
         ensures { IfOk result (λ cells. cells.shown ≡ queue_view head items.now) }
@@ -68,12 +69,14 @@ impl Cells {
         })
     }
 
+    /// The index of the first item.
     pub fn head(&self) -> u64
         ensures { result ≡ self.now.shown.head }
     {
         self.head
     }
 
+    /// The index that the next item gets.
     pub fn tail(&self) -> u64
         ensures { result ≡ self.now.shown.tail }
     {
@@ -170,7 +173,7 @@ impl Cells {
         }
     }
 
-    /// The items, by rising index.
+    /// The items, by rising index. `Memory` where an allocation fails.
     pub fn to_items(&self, alloc: Global) -> Result<QueueItems, Memory>
         ensures { IfOk result (λ items. items ≡ values self.now.shown.cells) }
     {
@@ -197,6 +200,7 @@ impl Cells {
         Ok(items)
     }
 
+    /// A copy, which shares the chunks. `Memory` where an allocation for the last few items fails, or the chunks can't be shared.
     pub fn try_copy(&self) -> Result<Cells, Memory>
         ensures { IfOk result (λ copy. copy.shown ≡ self.now.shown) }
     {
@@ -225,7 +229,7 @@ impl Cells {
     }
 }
 
-// The item of this index, where the items from `first` on stand behind as many as are gone.
+// The item of this index, where the items from `first` on stand after as many as are gone.
 fn standing(items: &SharedList, gone: usize, first: u64, index: u64) -> Option<u64>
     requires gone { gone ≤ length items.now.items }
     ensures { result ≡ get (cells_from first (drop gone items.now.items)) index }

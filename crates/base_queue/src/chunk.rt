@@ -26,6 +26,7 @@ impl Model for Chunk {
 }
 
 impl Chunk {
+    /// A chunk of these items. `Memory` where an allocation fails.
     pub fn of_slice(alloc: Global, items: &[u64]) -> Result<Chunk, Memory>
         ensures { IfOk result (λ chunk. chunk ≡ items.now) }
     {
@@ -35,7 +36,7 @@ impl Chunk {
         })
     }
 
-    /// One more owner of the items.
+    /// One more owner of the items. `Memory` where they have as many as there may be.
     pub fn share(&self) -> Result<Chunk, Memory>
         ensures { IfOk result (λ chunk. chunk ≡ self.now) }
     {
@@ -44,6 +45,7 @@ impl Chunk {
         })
     }
 
+    /// The item at this place of the chunk.
     pub fn at(&self, place: usize) -> u64
         requires { place < length self.now }
         ensures { result ≡ slice_index self.now place }

@@ -110,7 +110,7 @@ impl QueueBase {
         })
     }
 
-    /// What the queue holds: its head, and the items by rising index.
+    /// What the queue holds: its head, and the items by rising index. `Memory` where an allocation fails.
     pub fn held<V>(&self) -> Result<Held<V>, Memory>
         ensures { IfOk result (λ held. held ≡ (rules V).held_of self.now.shown) }
     {
@@ -214,8 +214,8 @@ impl QueueBase {
         Ok(changes)
     }
 
-    /// Makes room for the changes. The queue stays as it is and keeps its room, also where memory is refused. Where there is
-    /// room already, nothing is refused.
+    /// Makes room for the changes. The queue is unchanged and keeps its room, also where an allocation fails. Where there is room already,
+    /// nothing is refused.
     pub fn prepare<V>(&mut self, changes: &[Change<V>]) -> Result<(), Memory>
         ensures shown { self.new.shown ≡ self.old.shown }
         ensures stripes { self.new.stripes ≡ self.old.stripes }
@@ -257,6 +257,7 @@ impl QueueBase {
         self.editions.raise(written);
     }
 
+    /// In how many stripes the queue is.
     pub fn stripes(&self) -> u32
         ensures { result ≡ self.now.stripes }
     {
@@ -271,7 +272,7 @@ impl QueueBase {
         self.editions.edition(location)
     }
 
-    /// A queue that holds the same, with the same editions.
+    /// A queue that holds the same, with the same editions. `Memory` where an allocation fails.
     pub fn try_copy(&self) -> Result<QueueBase, Memory>
         ensures shown { IfOk result (λ copy. copy.shown ≡ self.now.shown) }
         ensures stripes { IfOk result (λ copy. copy.stripes ≡ self.now.stripes) }
@@ -284,8 +285,8 @@ impl QueueBase {
         })
     }
 
-    /// Becomes a queue that holds the same as the other, with its editions, in the memory that it has as far as that suffices. Where
-    /// memory is refused, what it holds is left open.
+    /// Becomes a queue that holds the same as the other, with its editions, in the memory that it has as far as that suffices. Where an
+    /// allocation fails, what it holds is left open.
     pub fn copy_from(&mut self, other: &QueueBase) -> Result<(), Memory>
         ensures shown { OnOk result (self.new.shown ≡ other.now.shown) }
         ensures stripes { OnOk result (self.new.stripes ≡ other.now.stripes) }

@@ -1,6 +1,6 @@
 //! A list of numbers whose copies share what they have in common.
 //!
-//! The items stand in chunks that are never changed, and behind them the last few in a list of each copy's own. The list of the chunks
+//! The items stand in chunks that are never changed, and after them the last few in a list of each copy's own. The list of the chunks
 //! is shared as a whole, so a copy is one more owner of it and a copy of the last few items, however long the list is. Items go out at
 //! the front and come in at the back; `settle` moves what has grown at the back into chunks.
 ghost use Rattle.std.specs.Prelude.{◌≡◌, ◌+◌, ◌-◌, ◌<◌, ◌≤◌, [], ◌∷◌, ◌++◌, IsOk, IfOk, OnOk, OnErr, length, drop, slice_index};
@@ -46,6 +46,7 @@ impl Model for SharedList {
 }
 
 impl SharedList {
+    /// A list of these items. `Memory` where an allocation fails.
     pub fn of_slice(alloc: Global, items: &[u64]) -> Result<SharedList, Memory>
         requires { length items.now ≤ INDEX_LIMIT }
         ensures { IfOk result (λ list. list.items ≡ items.now) }
@@ -61,6 +62,7 @@ impl SharedList {
         })
     }
 
+    /// How many items there are.
     pub fn len(&self) -> usize
         ensures len { result ≡ length self.now.items }
         ensures small { result ≤ INDEX_LIMIT }
@@ -137,6 +139,8 @@ impl SharedList {
         0
     }
 
+    /// A copy, which shares the chunks and makes none. `Memory` where an allocation for the last few items fails, or the chunks can't be
+    /// shared.
     pub fn try_copy(&self) -> Result<SharedList, Memory>
         ensures { IfOk result (λ copy. copy.items ≡ self.now.items) }
     {
@@ -166,7 +170,7 @@ impl SharedList {
     }
 }
 
-// The chunks from this one on, and behind them as many as the items at the back fill, with how many these are.
+// The chunks from this one on, and after them as many as the items at the back fill, with how many these are.
 fn rebuilt(
     alloc: Global,
     chunks: &[Chunk],

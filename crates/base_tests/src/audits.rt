@@ -49,7 +49,7 @@ fn push_calls(alloc: Global, calls: &mut Calls, row: &str) -> Result<(), Refusal
     Ok(())
 }
 
-// `NUMBER KIND`, and the calls behind a comma each.
+// `NUMBER KIND`, and the calls after a comma each.
 fn record_in(alloc: Global, row: &str) -> Result<Record<u64>, Refusal> {
     let (head, made) = match row.split_once(", ") {
         Some((head, made)) => (head, Some(made)),

@@ -2,7 +2,7 @@
 //! as it opens, as changes are replayed on it, and as a log is folded into it.
 //!
 //! They are rows of text in the file `stdin`, one test a row, each of which is printed with its answer; what all must answer
-//! stands in the file `stdout`. So the crate is proved once, however many rows there are. What a row may say is told at
+//! stands in the file `stdout`. So the crate is proved once, however many rows there are. What a row may say stands at
 //! [`rows::answer_all`].
 #![tactic(auto)]
 
@@ -19,7 +19,7 @@ use std::process::ExitCode;
 /// The status of a run that could not read its rows or print its answers.
 const FAILED: u8 = 1;
 
-/// The status of a run that was refused memory. It has printed nothing else.
+/// The status of a run that was out of memory. It has printed nothing else.
 const MEMORY: u8 = 2;
 
 fn main(rt: HostRuntime) -> ExitCode {

@@ -58,7 +58,7 @@ fn tell_lines(
     Ok(())
 }
 
-// The state that a script leaves, whose calls are told.
+// The state that a script leaves, whose calls are printed.
 fn left_by(text: &mut String, row: &str) -> Result<State<u64>, Refusal> {
     let alloc = *text.allocator();
     let script = script_of(alloc, row)?;

@@ -35,7 +35,7 @@ fn set_of(alloc: Global, tokens: &[&str]) -> Result<LocSet, Refusal> {
     }
 }
 
-// The set behind its name.
+// The set after its name.
 fn set_in(alloc: Global, row: &str) -> Result<LocSet, Refusal> {
     let tokens = tokens_of(alloc, row)?;
     match tokens.as_slice() {

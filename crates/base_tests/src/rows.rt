@@ -7,9 +7,9 @@ use seq_model::{Memory, Refusal};
 use std::alloc::Global;
 use std::fmt::Write;
 
-/// The rows, each with its answer. How many have one is said at the end. An empty row and one that begins with `#` have none. A call, and what opens a collection, are
-/// lines of a step script, of which several stand in one row with `; ` between; the script's clock is the index of a queue's first
-/// item. What is refused is answered by the refusal.
+/// The rows, each with its answer. How many have one is said at the end. An empty row and one that begins with `#` have none. A call, and
+/// what opens a collection, are lines of a step script, of which several stand in one row with `; ` between; the script's clock is the
+/// index of a queue's first item. What is refused is answered by the refusal.
 ///
 /// - `as KIND COLLECTION` opens as a base of one kind what a script's header says.
 /// - `new KIND STRIPES` opens an empty base: the editions of its locations. `raised KIND STRIPES at LOCATIONS: CHANGES` replays

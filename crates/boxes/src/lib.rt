@@ -26,12 +26,14 @@ impl<T> Model for Boxed<T> {
 }
 
 impl<T> Boxed<T> {
+    /// The value.
     pub fn get(&self) -> &T
         ensures { result.now ≡ self.now }
     {
         &self.place
     }
 
+    /// The value, to be changed in place.
     pub fn get_mut(&mut self) -> &mut T
         ensures* writes_back { sem 𝓛 (Lends (the_row T.row) T.row self.entry result (λ w. w)) }
         ensures value { result.now ≡ self.old }
@@ -41,7 +43,7 @@ impl<T> Boxed<T> {
 }
 
 impl<T: Drop> Boxed<T> {
-    /// A box for the value. Where memory is refused the value is dropped.
+    /// A box for the value. `Memory`, where an allocation fails, drops the value.
     #[cold]
     #[inline(never)]
     pub fn new(alloc: Global, value: T) -> Result<Boxed<T>, AllocError>
@@ -51,6 +53,7 @@ impl<T: Drop> Boxed<T> {
         Ok(Boxed { place })
     }
 
+    /// The value, out of its box, whose memory is given back.
     pub fn into_inner(self) -> T
         ensures { result ≡ self }
     {

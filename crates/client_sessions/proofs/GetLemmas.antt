@@ -1,4 +1,4 @@
--- A reservation whose replies all tell items asks for the item of the ask whose number is their count.
+-- A reservation whose replies all name items asks for the item of the ask whose number is their count.
 use Rattle.std.proofs.Common.{◌≡◌, ℕ, ◌<◌, Bool, true, false, cond, List, [], ◌∷◌, length, get_or, drop, Option, Some, None, refl, ◌∙◌, ap}
 use Rattle.std.proofs.Common.{arith}
 use Rattle.std.specs.Prelude.{◌&&◌}
@@ -23,7 +23,7 @@ pub both_true : (a b : Bool) → (a && b) ≡ true → (a ≡ true) × (b ≡ tr
 both_true true b e = (refl, e)
 both_true false b e = absurd (cc)
 
--- with a reply that tells an item the program goes on
+-- with a reply that names an item the program continues
 goes_on : (reply : Reply Entry) → tells_item reply ≡ true
     → (item : Option Item) × ((next : Option Item → SessionProgram) → item_in reply next ≡ next item)
 goes_on Nothing e = (None, λ next. refl)

@@ -1,4 +1,4 @@
--- A deletion whose replies come two by two goes on behind each pair, where the first tells the item of its booking with enough units used.
+-- A deletion whose replies come two by two continues after each pair, where the first names the item of its booking with enough units used.
 use Rattle.std.proofs.Common.{◌≡◌, ℕ, ◌+◌, ◌*◌, ◌<◌, ◌≤◌, true, false, cond, Some, inl, inr, refl, ◌∙◌, ap}
 use Rattle.std.proofs.Common.{List, [], ◌∷◌, ◌++◌, length, get_or, drop}
 use Rattle.std.proofs.Common.{arith}

@@ -1,4 +1,4 @@
--- Two lists one behind the other: two others of the same lengths make the same list only where each is the same.
+-- Two lists one after the other: two others of the same lengths make the same list only where each is the same.
 use Rattle.std.proofs.Common.{◌≡◌, List, ◌++◌, length, take, drop, refl, sym, ◌∙◌, ap}
 use Rattle.std.proofs.lemmas.List.{append_assoc, take_at, drop_at}
 

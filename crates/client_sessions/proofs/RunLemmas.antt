@@ -1,7 +1,6 @@
--- A run of sessions is their actions, one after another.
--- By induction on the records: the first session, from the state of balanced tables, answered what its action answers and left the state
--- of the action's tables, which are balanced again. The records up to a number are the first ones of a run in commit order: where a
--- record has a greater number, so have all behind it.
+-- A run of sessions is their actions, one after another. By induction on the records: the first session, from the state of balanced tables,
+-- answered what its action answers and left the state of the action's tables, which are balanced again. The records up to a number are the
+-- first ones of a run in commit order: where a record has a greater number, so have all after it.
 use Rattle.std.proofs.Common.{◌≡◌, ℕ, ◌<◌, ◌≤◌, Bool, true, false, cond, List, [], ◌∷◌, refl, sym, ◌∙◌, ap, subst, arith}
 use Rattle.std.specs.Prelude.{filter, nat_le}
 use Rattle.std.proofs.lemmas.Bool.Decides.{nat_tests}

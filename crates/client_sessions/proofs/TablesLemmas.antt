@@ -1,7 +1,6 @@
--- That tables can be told from their state.
--- The values among entries of one kind, put in one after another, give the same map of entries at each step: so a map whose entries
--- are all of one kind is that of the values among them. Entries that were made of values are all of their kind, since a map keeps
--- what was put in, and a look-up tells the values apart: so those among them are those that they were made of.
+-- That tables can be read from their state. The values among entries of one kind, put in one after another, give the same map of entries at
+-- each step: so a map whose entries are all of one kind is that of the values among them. Entries that were made of values are all of their
+-- kind, since a map keeps what was put in, and a look-up distinguishes the values: so those among them are those that they were made of.
 use Rattle.std.proofs.Common.{◌≡◌, ℕ, ◌<◌, ◌≤◌, Bool, true, false, cond, ◌&&◌, List, [], ◌∷◌, length, get_or, Option, Some, None, Result}
 use Rattle.std.proofs.Common.{zero, suc, Ok, Err, refl, sym, ◌∙◌, ap, subst, arith}
 use Rattle.std.specs.Prelude.{is_some, map, option_map, option_and_then, unwrap_or, IfOk, IfErr}
@@ -60,7 +59,7 @@ some_of : {A : Type 0} (o : Option A) → is_some o ≡ true → (x : A) × (o �
 some_of None e = absurd (let f : ◌≡◌ {A = Bool} false true = e in cc)
 some_of (Some x) e = (x, refl)
 
--- values as entries by f, and told from entries by g
+-- values as entries by f, and read from entries by g
 module _ {X : Type 0} (f : X → Entry) (g : Entry → Option X) (back : (x : X) → g (f x) ≡ Some x)
     (only : (e : Entry) (x : X) → g e ≡ Some x → e ≡ f x) where
   abbrev all_of : List (ℕ × Entry) → Bool

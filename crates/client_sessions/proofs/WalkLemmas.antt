@@ -1,5 +1,5 @@
--- Along a program: what holds of what is left of it holds of it.
--- Each call's contract speaks of every program that goes on behind it, so the steps of a walk are put together by instances alone.
+-- Along a program: what holds of what is left of it holds of it. Each call's contract speaks of every program that continues after it, so
+-- the steps of a walk are put together by instances alone.
 use Rattle.std.proofs.Common.{◌≡◌, ◌≢◌, ℕ, suc, ◌+◌, ◌<◌, ◌≤◌, ◌==◌, true, false, cond, List, [], ◌∷◌, ◌++◌, length, drop, drop-cons}
 use Rattle.std.proofs.Common.{add-one, append_assoc, get_or, Option, Some, Result, sym, ◌∙◌, ap, subst, arith}
 use Rattle.std.specs.Prelude.{nat_lt, nat_le, is_none, ◌&&◌, if◌then◌else◌}

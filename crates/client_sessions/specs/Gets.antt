@@ -14,13 +14,13 @@ use Rattle.client_sessions.specs.Sessions.{map_of, on}
 abbrev pub get_due : Ask → Call Entry
 get_due due = on (map_of due.kind) (Get due.id)
 
--- a program goes on with the item, or with none
+-- a program continues with the item, or with none
 abbrev pub tells_item : Reply Entry → Bool
 tells_item Nothing = true
 tells_item (Value (Stock i)) = is_item_sound i
 tells_item _ = false
 
--- the item that is told
+-- the item that is named
 abbrev pub item_told : Reply Entry → Option Item
 item_told (Value (Stock i)) = Some i
 item_told _ = None

@@ -25,7 +25,7 @@ EndsAsAction =
     → IsAllowed action → IsBalanced tables → Reaches action tables calls (Answers reply)
     → (reply ≡ (action_of action tables).0) × (after_calls calls (state_of tables) ≡ state_of (action_of action tables).1)
 
--- from balanced tables no session gives up
+-- from balanced tables no session aborts
 abbrev pub NeverGivesUp : Type 0
 NeverGivesUp =
     (action : Action) (tables : Holdings) (calls : List (Call Entry × Reply Entry))

@@ -1,4 +1,4 @@
--- The tables in a state, told from the kinds of its collections and of their entries.
+-- The tables in a state, read by the kinds of its collections and of their entries.
 use Rattle.std.specs.Prelude.{ℕ, Bool, true, false, ◌&&◌, if◌then◌else◌, List, [], ◌∷◌, Option, Some, None, is_some, option_map}
 use Rattle.std.specs.List.{filter_map, list_all}
 use Rattle.std.specs.Ordering.{nat_cmp}
@@ -29,12 +29,12 @@ abbrev pub ticket_of : Entry → Option Ticket
 ticket_of (Slip t) = Some t
 ticket_of _ = None
 
--- the values of those that g tells
+-- the values of those that g reads
 abbrev pub kept : {X : Type 0} → (Entry → Option X) → List (ℕ × Entry) → List (ℕ × X)
 kept g es = filter_map (λ e. option_map (λ x. (e.0, x)) (g e.1)) es
 
 -- ---- collections
--- whether it is a map, all of whose entries are of the kind that g tells
+-- whether it is a map, all of whose entries are of the kind that g reads
 abbrev pub is_map_of : {X : Type 0} → (Entry → Option X) → Held Entry → Bool
 is_map_of g (Map m) = list_all (λ e. is_some (g e.1)) (entries m)
 is_map_of g _ = false

@@ -78,7 +78,7 @@ pub record IsUnderWay (action : Action) (calls : List (Call Entry × Reply Entry
   pub follows : Follows (session action) calls rest
   pub saw : IsLegal calls (state_at n records (state_of tables))
 
--- so no session beside such a run gives up
+-- so no session beside such a run aborts
 abbrev pub NoneGivesUp : Type 0
 NoneGivesUp =
     (deals : List Deal) (records : List (ℕ × Record Entry)) (tables : Holdings) (n : ℕ) (action : Action)

@@ -1,4 +1,4 @@
--- How the serving of a queue goes on after a step.
+-- How the serving of a queue continues after a step.
 use Rattle.std.specs.Prelude.{ℕ, ◌≤◌, [], ◌∷◌, ◌++◌, Option, Some, None, unwrap_or, ⊤}
 use Rattle.vac_model.specs.declared.item.Booking.{Booking}
 use Rattle.vac_model.specs.declared.item.Customer.{Customer}
@@ -6,7 +6,7 @@ use Rattle.vac_model.specs.Holdings.{newcomer}
 use Rattle.vac_model.specs.Actions.{without_wait}
 use Rattle.client_sessions.specs.Sessions.{SessionProgram}
 
--- a step that booked so many tickets goes on with the later ones; none: serving ends
+-- a step that booked so many tickets continues with the later ones; none: serving ends
 abbrev pub serves_on : Option ℕ → (ℕ → SessionProgram) → SessionProgram → SessionProgram
 serves_on None later end = end
 serves_on (Some n) later end = later n

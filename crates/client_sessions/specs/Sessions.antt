@@ -53,7 +53,7 @@ queue_of Room = 7
 abbrev pub on : ℕ → Op Entry → Call Entry
 on target op = record { target = target; op = op }
 
--- each goes on with what was replied, and gives up where no balanced tables hold it
+-- each continues with what was replied, and aborts where no balanced tables hold it
 
 abbrev pub item_in : Reply Entry → (Option Item → SessionProgram) → SessionProgram
 item_in Nothing next = next None
@@ -213,7 +213,7 @@ end_wait k t next = dequeue k (remove_ticket t next)
 abbrev pub change_waiter : ℕ → ℕ → (Customer → Customer) → SessionProgram → SessionProgram
 change_waiter c t change next = get_customer c (λ o. put_customer c (change (without_wait t (unwrap_or o newcomer))) next)
 
--- later goes on with the ticket after it, and is told how many were booked; next goes on where serving ends
+-- later continues with the ticket after it, given how many were booked; next continues where serving ends
 abbrev pub serve_item : Kind → ℕ → Ticket → Option Item → (ℕ → SessionProgram) → SessionProgram → SessionProgram
 serve_item k t x None later next = end_wait k t (change_waiter x.customer t (λ who. who) (later 0))
 serve_item k t x (Some i) later next =

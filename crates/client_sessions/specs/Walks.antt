@@ -1,4 +1,4 @@
--- Where the code that walks along a program, by the replies so far, comes to.
+-- Where the code that walks along a program, by the replies so far, arrives.
 use Rattle.std.specs.Prelude.{◌≡◌, ℕ, Result, Ok, Err, ⊤}
 use Rattle.jobs.specs.declared.job.Ask.TheVariants as ask
 use Rattle.jobs.specs.Programs.{asked}
@@ -10,13 +10,13 @@ use Rattle.client_sessions.specs.declared.walk.Stop.{Stop}
 use Rattle.client_sessions.specs.declared.walk.Stop.TheVariants.{Asks, GivesUp, Memory as OutOfMemory}
 use Rattle.client_sessions.specs.Sessions.{SessionProgram, with_booking, with_wait}
 
--- a walk stops at what is left of a program: this call is asked next, the program gives up, or a growth was refused
+-- a walk stops at what is left of a program: this call is asked next, the program aborts, or a growth was refused
 abbrev pub IsStop : Stop → SessionProgram → Type 0
 IsStop (Asks call) p = asked p ≡ ask.Call call
 IsStop GivesUp p = asked p ≡ ask.GiveUp
 IsStop OutOfMemory p = ⊤
 
--- a walk that begins at p comes to the program that goes on with what it found, or it stops
+-- a walk that begins at p arrives at the program that continues with what it found, or it stops
 abbrev pub Comes : {T : Type 0} → SessionProgram → Result T Stop → (T → SessionProgram) → Type 0
 Comes p (Ok x) on = p ≡ on x
 Comes p (Err stop) on = IsStop stop p

@@ -1,4 +1,4 @@
--- Which customers a session goes on with.
+-- Which customers a session continues with.
 use Rattle.std.specs.Prelude.{Bool, ◌&&◌, nat_le}
 use Rattle.std.specs.List.{list_all}
 use Rattle.vac_model.specs.declared.item.Booking.{Booking}

@@ -38,7 +38,7 @@ fn served(
     Ok(who)
 }
 
-/// Whether the reply tells the item that a booking is of, with at least as many units used.
+/// Whether the reply is the item that a booking is of, with at least as many units used.
 fn is_given_back(booking: &Booking, reply: &Reply<Entry>) -> bool
     ensures { result ≡ is_given_back booking.now reply.now }
 {

@@ -193,7 +193,7 @@ fn improve_kind(best: &mut Each<Option<(u64, Item)>>, ask: &Ask, item: &Item)
     }
 }
 
-/// The best candidates of the three kinds, with what the reply to an ask tells: whether it tells an item, or that there is none.
+/// The best candidates of the three kinds, with what the reply to an ask says: whether it is an item, or that there is none.
 #[inline(always)]
 fn improve_told(best: &mut Each<Option<(u64, Item)>>, ask: &Ask, reply: &Reply<Entry>) -> bool
     requires { AreSound best.old }
@@ -216,8 +216,8 @@ fn improve_told(best: &mut Each<Option<(u64, Item)>>, ask: &Ask, reply: &Reply<E
     }
 }
 
-/// The best candidates of the three kinds, with the replies to all asks: whether each tells an item, or that there is none. It stands
-/// apart, so that the candidates lie in memory, and are not moved about at each ask.
+/// The best candidates of the three kinds, with the replies to all asks: whether each is an item, or says that there is none. It stands
+/// apart, so that the candidates are in memory, and are not moved about at each ask.
 #[inline(never)]
 fn improve_all(best: &mut Each<Option<(u64, Item)>>, asks: &[Ask], replies: &[Reply<Entry>]) -> bool
     requires sound { AreSound best.old }
@@ -244,7 +244,7 @@ fn no_candidate(best: &Each<Option<(u64, Item)>>) -> bool
     best.car.is_none() && best.flight.is_none() && best.room.is_none()
 }
 
-/// The ask whose get comes next, where there are fewer replies than asks, each of which tells an item or that there is none.
+/// The ask whose get comes next, where there are fewer replies than asks, each of which is an item or says that there is none.
 pub(crate) fn due_of(asks: &[Ask], replies: &[Reply<Entry>]) -> Option<Ask>
     ensures { (customer units : ℕ) → IfSome result (λ due.
         asked (after (programs.reserve customer units asks.now) replies.now) ≡ NextCall (get_due due)) }
@@ -274,7 +274,7 @@ fn asks_units(kind: Kind, id: u64, units: u64, item: &Item) -> Stop
 }
 
 impl<'a> Walk<'a> {
-    /// The candidates of the three kinds, where not each ask has its reply, or each reply stands behind its call.
+    /// The candidates of the three kinds, where not each ask has its reply, or each reply stands after its call.
     #[cold]
     #[inline(never)]
     fn gather_each(

@@ -43,7 +43,7 @@ impl SharedCustomer {
         &self.customer
     }
 
-    /// Whether a session goes on with it. It was looked at once, as it was made.
+    /// Whether a session continues with it. It was looked at once, as it was made.
     pub fn is_within(&self) -> bool
         ensures { result ≡ is_customer_within self.now }
     {

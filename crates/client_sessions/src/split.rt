@@ -96,8 +96,8 @@ impl Earlier {
     }
 }
 
-/// A customer whose bookings are those of a list that its copies share, and behind them some of its own. So who books once more copies
-/// few bookings, however many there are.
+/// A customer whose bookings are those of a list that its copies share, and after them some of its own. So who books once more copies few
+/// bookings, however many there are.
 #[derive(Drop)]
 pub struct SplitCustomer {
     earlier: Arc<Earlier>,
@@ -173,7 +173,7 @@ impl SplitCustomer {
         })
     }
 
-    /// The bookings: those that are shared, and behind them the others.
+    /// The bookings: those that are shared, and after them the others.
     pub fn bookings(&self) -> (&[Booking], &[Booking])
         ensures { result.0.now ++ result.1.now ≡ self.now.bookings }
     {
@@ -207,7 +207,7 @@ impl SplitCustomer {
             && waits <= PLACE_LIMIT - count - earlier - later
     }
 
-    /// Whether a session goes on with it.
+    /// Whether a session continues with it.
     pub(crate) fn is_within(&self) -> bool
         ensures { result ≡ is_customer_within self.now }
     {
@@ -254,7 +254,7 @@ impl SplitCustomer {
     }
 }
 
-/// Whether a list is two lists, one behind the other.
+/// Whether a list is two lists, one after the other.
 fn is_joined(all: &[Booking], first: &[Booking], then: &[Booking]) -> bool
     ensures { IsTrue result ↔ (all.now ≡ first.now ++ then.now) }
 {
@@ -265,7 +265,7 @@ fn is_joined(all: &[Booking], first: &[Booking], then: &[Booking]) -> bool
     are_same(begins, first) && are_same(ends, then)
 }
 
-/// Whether two lists that stand one behind the other are two others that do.
+/// Whether two lists that stand one after the other are two others that do.
 fn are_joined_same(
     first: &[Booking],
     then: &[Booking],

@@ -27,7 +27,7 @@ use std::alloc::{AllocError, Global};
 use std::marker::Model;
 use vac_model::{Ask, Item, Kind, TICKET_LIMIT, Ticket, is_item_sound};
 
-/// Why a walk does not come to the end of its program.
+/// Why a walk does not reach the end of its program.
 #[derive(Drop)]
 pub(crate) enum Stop {
     /// This call is asked next.
@@ -54,7 +54,7 @@ impl From<AllocError> for Stop {
     }
 }
 
-/// The replies that no call was found for yet: alone, or each behind its call.
+/// The replies that no call was found for yet: alone, or each after its call.
 #[derive(Clone, Copy)]
 pub(crate) enum Left<'a> {
     Replies(&'a [Reply<Entry>]),
@@ -128,7 +128,7 @@ fn item_in(reply: &Reply<Entry>) -> Result<Option<Item>, Stop>
     }
 }
 
-/// Whether the reply tells an item, or that there is none.
+/// Whether the reply is an item, or says that there is none.
 fn tells_item(reply: &Reply<Entry>) -> bool
     ensures { result ≡ tells_item reply.now }
 {
@@ -207,7 +207,7 @@ fn next_in(reply: &Reply<Entry>) -> Result<u64, Stop>
     }
 }
 
-/// How many pairs there are among the replies, up to this many, and what is left behind these.
+/// How many pairs there are among the replies, up to this many, and what is left after these.
 fn behind_pairs(replies: &[Reply<Entry>], most: usize) -> (usize, &[Reply<Entry>])
     ensures few { result.0 ≤ most }
     ensures count { 2 * result.0 ≤ length replies.now }
@@ -377,7 +377,7 @@ impl<'a> Walk<'a> {
         }
     }
 
-    /// Whether the call that is due has its reply: then it is passed over. So what the call would put is made only to be asked.
+    /// Whether the call that is next has its reply: then it is passed over. So what the call would put is made only to be asked.
     pub(crate) fn passes(&mut self) -> bool
         ensures passed { IsTrue result → (reply : AReply AnEntry) × (self.old ≡ reply ∷ self.new) }
         ensures due { result ≡ false → self.old ≡ [] }

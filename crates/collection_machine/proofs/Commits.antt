@@ -137,7 +137,7 @@ module _ {X Op Out : Type 0} (c : Content X Op Out) (f : Frame c) where
       let same_final : (l : ℕ) → touched x.calls l ≡ false → finals (words (insert_commit k h)) l (s.first l) ≡ finals (words h) l
       (s.first l) = λ l n.
       fin l ∙ finals_untouched k.word (words h) l (s.first l) n in
-      -- what this commit writes was at home before
+      -- what this commit writes was in its base before
       let was_home : (l : ℕ) → c.plain l ≡ false → touched x.calls l ≡ true → IsHome c s l = λ l pl y b hf gate. (
       let d : Some a ≡ Some b = sym ((q.written l y).3 pl) ∙ gate in
       let e : a ≡ b = cc in absurd (q.was (subst (λ (i : ℕ). IsHalfDone (s.words.actors i).place) (sym e) hf))) in

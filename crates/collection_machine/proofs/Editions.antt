@@ -74,7 +74,7 @@ count_more : (h : List Record) (n m l : ℕ) → n ≤ m → count h n l ≤ cou
 count_more [] n m l q = omega arith
 count_more (r ∷ rs) n m l q = omega (arith, one_more r n m l q, count_more rs n m l q)
 
--- equal counts: no writer of l lies between
+-- equal counts: no writer of l comes between
 pub no_writer : (h : List Record) (n m l : ℕ) → n ≤ m → AllRecords (λ r. r.number ≤ m) h → count h n l ≡ count h m l
     → AllRecords (λ r. (n < r.number → touched r.calls l ≡ false)) h
 no_writer [] n m l q a e = tt
@@ -95,7 +95,7 @@ AreWriters l h = AllRecords (λ r. (touched r.calls l ≡ true → r.writer ≡ 
 abbrev pub AreAbove : ℕ → ℕ → List Record → Type 0
 AreAbove m l h = AllRecords (λ r. (touched r.calls l ≡ true → m < r.number)) h
 
--- behind a record in commit order the numbers of writers are greater
+-- after a record in commit order the numbers of writers are greater
 above_rest : (r : Record) (h : List Record) (l : ℕ) → AllFrom r h → AreWriters l h → AreAbove r.number l h
 above_rest r [] l a w = tt
 above_rest r (x ∷ xs) l a w = (

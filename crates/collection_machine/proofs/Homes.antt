@@ -1,6 +1,6 @@
--- A base that goes home with the changes of a commit. The history already leaves these changes on top of the base, since
--- the commit is recorded from its first value store on; so as the base takes them in, with the next edition at each written
--- location, it shows what the history leaves there, and nothing is owed any more.
+-- A base that is put back with the changes of a commit. The history already leaves these changes on top of the base, since the commit is
+-- recorded from its first value store on; so as the base takes them in, with the next edition at each written location, it shows what the
+-- history leaves there, and nothing is owed any more.
 use Rattle.std.proofs.Common.{◌≡◌, ℕ, ◌+◌, ◌≤◌, eqb, leb, true, false, Option, Some, None, List, [], ◌∷◌, ◌⊎◌, inl, inr, refl, sym, ap, ◌∙◌}
 use Rattle.std.proofs.Common.{subst, true≢false, eq-eqb, ne_eqb, le-leb, arith}
 use Rattle.std.specs.Prelude.{◌&&◌, nat_le, if◌then◌else◌}

@@ -78,7 +78,7 @@ module _ {X Op Out : Type 0} (c : Content X Op Out) (f : Frame c) where
   changes_only [] v l u = refl
   changes_only (o ∷ os) v l u = changes_only os (c.change o v) l u.1 ∙ f.only o v l u.0
 
-  -- parts that agree where P holds go on to, if each outcome that writes such a part writes such parts alone
+  -- parts that agree where P holds still do, if each outcome that writes such a part writes such parts alone
   pub changes_agree : (P : ℕ → Type 0) (os : List Out) (v w : ℕ → X)
       → AllOut (λ o. ((i j : ℕ) → P i → IsIn i (c.writes o) → IsIn j (c.writes o) → P j)) os → ((l : ℕ) → P l → v l ≡ w l) → (l : ℕ) → P l
       → changes c os v l ≡ changes c os w l

@@ -103,7 +103,7 @@ module _ {X Op Out : Type 0} (c : Content X Op Out) where
     gates = subst (λ (z : Actor). GatesOk c s a z.writes z.place) (sym own) gates;
   }
 
-  -- the sets go on
+  -- the sets after the step
   ShadowOk-sets : (s : Boosted X Out) (x y : Actor) (w : Shadow X Out)
       → ((l e : ℕ) → first_read x.calls l ≡ Some e → first_read y.calls l ≡ Some e) → y.writes ≡ x.writes
       → ShadowOk c s x.calls x.writes w → ShadowOk c s y.calls y.writes w

@@ -1,5 +1,5 @@
--- The words of a world with collections are a world of the word machine. So what the word machine says of every schedule is true of
--- them, as that a number of a transaction which gave up is never used.
+-- The words of a world with collections are a world of the word machine. So what the word machine says of every schedule is true of them,
+-- as that a number of a transaction which aborted is never used.
 use Rattle.std.proofs.Common.{◌≡◌, ℕ, List, [], ◌∷◌, ◌++◌, refl, sym, ap, ◌∙◌, subst, None, Some}
 use Rattle.std.specs.Prelude.{◌&&◌, not, if◌then◌else◌}
 use Rattle.std.proofs.lemmas.Bool.{cond_both}

@@ -1,6 +1,5 @@
--- Steps and requests of the word machine that commit nothing: what they leave of an actor's transaction. First reads and
--- the write set stay, and the places change only within the same part of a transaction. One lemma for each place of the word
--- machine says so.
+-- Steps and requests of the word machine that commit nothing: what they leave of an actor's transaction. First reads and the write set
+-- remain, and the places change only within the same part of a transaction. One lemma for each place of the word machine says so.
 use Rattle.std.proofs.Common.{◌≡◌, ℕ, true, false, eqb, leb, Option, Some, None, List, [], ◌∷◌, ◌++◌, ◌⊎◌, inl, inr, refl, sym, subst}
 use Rattle.std.proofs.lemmas.Bool.{cond_both}
 use Rattle.std.specs.Prelude.{unwrap_or, ◌+◌, nat_le, if◌then◌else◌}

@@ -1,5 +1,5 @@
--- What a history leaves of parts, and a commit put in its place. In the middle of the order a record changes the parts that
--- it writes, and no later record writes these; other parts it leaves. So what was known of a part by its edition stays known.
+-- What a history leaves of parts, and a commit put in its place. In the middle of the order a record changes the parts that it writes, and
+-- no later record writes these; other parts it leaves. So what was known of a part by its edition remains known.
 use Rattle.std.proofs.Common.{◌≡◌, ℕ, ◌-◌, ◌<◌, ◌≤◌, true, false, leb, List, [], ◌∷◌, inl, inr, refl, sym, ap, ◌∙◌, arith, true≢false}
 use Rattle.std.proofs.Common.{leb-false, leb-true, le-leb}
 use Rattle.std.specs.Prelude.{nat_le, if◌then◌else◌}
@@ -61,7 +61,7 @@ module _ {X Op Out : Type 0} (c : Content X Op Out) (f : Frame c) where
         | inr n ↦ only c f x v l fx n ∙ same l u ∙ sym (only c f x w l fx n)
       ]
 
-  -- parts that differ only where r writes stay so, under records that don't write there
+  -- parts that differ only where r writes remain so, under records that don't write there
   view_apart : (r : Committed Out) (xs : List (Committed Out)) (n : ℕ) (v w : ℕ → X) → AllFit c xs → Apart r xs
       → ((l : ℕ) → touched r.word.calls l ≡ false → v l ≡ w l) → (l : ℕ) → touched r.word.calls l ≡ false → view c xs n v l
       ≡ view c xs n w l
@@ -175,7 +175,7 @@ module _ {X Op Out : Type 0} (c : Content X Op Out) (f : Frame c) where
       (cond-false (leb r.word.number m) (changes c r.outcomes v) v (lt-leb r.word.number m lt)))
       (λ _. below_number r xs m (if nat_le x.word.number m then changes c x.outcomes v else v) lt l)
 
-  -- a copied part stays the part of its edition: a commit that writes l gives it another edition
+  -- a copied part remains the part of its edition: a commit that writes l gives it another edition
   pub Knows-insert : (r : Committed Out) (h : List (Committed Out)) (opening : ℕ → ℕ) (parts : ℕ → X) (l edition : ℕ) (part : X)
       → Fits c r → AllFit c h → IsInOrder (words h) → IsNew r.word (words h) → IsLast r h
       → (touched r.word.calls l ≡ true → finals (insert r.word (words h)) l (opening l) ≡ edition → ⊥)

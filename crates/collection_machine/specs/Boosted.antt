@@ -151,7 +151,7 @@ module _ {X Op Out : Type 0} (c : Content X Op Out) where
   take_gate s a k =
       if is_none (s.gates k) && not (is_committing (s.words.actors a).place) then gated s (put s.gates k (Some a)) s.shadows else s
 
-  -- the locations that a copy of k takes: what has been read stays as it was copied
+  -- the locations that a copy of k takes: what has been read remains as it was copied
   abbrev pub is_copied : List Call → ℕ → (ℕ → Bool) → ℕ → Bool
   is_copied calls k which l = which l && (not (c.plain l) && (c.home l == k && is_none (first_read calls l)))
 
@@ -207,7 +207,7 @@ module _ {X Op Out : Type 0} (c : Content X Op Out) where
   abbrev pub go_home : Boosted X Out → ℕ → ℕ → Boosted X Out
   go_home s a k = if is_actor a (s.gates k) && is_stored (s.words.actors a).place then homed s a k else s
 
-  -- the world after an action; one behind a guard that fails changes nothing
+  -- the world after an action; one after a guard that fails changes nothing
   abbrev pub acts : Boosted X Out → Action Op → Boosted X Out
   acts s (OnWords e) = on_event s e
   acts s (TakeGate a k) = take_gate s a k

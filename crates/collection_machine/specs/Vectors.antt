@@ -63,7 +63,7 @@ lock a n = asks a AskLock ++ steps a n ++ steps a n ++ steps a 2
 abbrev prepare : ℕ → ℕ → List (Action Op)
 prepare a n = lock a n ++ TakeGate a 0 ∷ []
 
--- the values of n locations, the base home, and the releases
+-- the values of n locations, the base put back, and the releases
 abbrev finish : ℕ → ℕ → List (Action Op)
 finish a n = asks a AskStore ++ steps a n ++ GoHome a 0 ∷ asks a AskRelease ++ steps a n
 
@@ -134,7 +134,7 @@ gate_held :
 unfolding lookup put with_entry locations comes_before insert insert_commit
 gate_held = refl
 
--- a commit given up before its first value store leaves words and bases as they were
+-- a commit aborted before its first value store leaves words and bases as they were
 given_up :
     shown (begin 1 ++ copy 1 ++ answer 1 (Add 0 5) ++ asks 1 (AskWrite 0 7) ++ prepare 1 2
     ++ PutGate 1 0 (λ l. false) ∷ asks 1 AskCancel ++ steps 1 2 ++ asks 1 AskAbort ++ steps 1 1)

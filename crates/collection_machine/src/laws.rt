@@ -26,7 +26,7 @@ ghost use Rattle.collection_machine.specs.Serial.{
 ///
 /// The committed transactions, in the order of their numbers, are a run of the words and of the collections. Where no commit is
 /// half done, the words and the parts of the collections are what it leaves. Each transaction, whether it commits, is open or
-/// was aborted, got outcomes that are legal at the number at which it began, and this stays so whatever happens later. An
+/// was aborted, got outcomes that are legal at the number at which it began, and this remains so whatever happens later. An
 /// edition that it read is the opening's, and one more for each commit up to that number which writes there; a base with this
 /// edition holds the part of that number. What the calls of a transaction read, it has copied, and read with the edition that it copied. No
 /// edition has risen more often than the clock. The words are a world of the word machine, and their records are its.
@@ -81,7 +81,7 @@ pub fn opacity<X, Op, Out>()
         (words s.history ≡ s.words.history) × (ended s.aborted ≡ s.words.aborted) }
 {}
 
-/// A number that a transaction got which then gave up is no record's of a writer, now and at every later moment.
+/// A number that a transaction got which then aborted is no record's of a writer, now and at every later moment.
 pub fn numbers<X, Op, Out>()
     ensures unused { (c : Content X Op Out) → Frame c →
         (clock : ℕ) (memory : Memory) (parts : ℕ → X) (actions later : List (Action Op)) (a : ℕ) →

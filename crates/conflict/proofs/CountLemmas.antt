@@ -1,5 +1,5 @@
--- How many keys lie on each stripe. A new key is one more on its own stripe, so counting the entries one after another counts the keys; and
--- as each key lies on one stripe, the counts add up to the number of all keys.
+-- How many keys are on each stripe. A new key is one more on its own stripe, so counting the entries one after another counts the keys; and
+-- as each key is on one stripe, the counts add up to the number of all keys.
 use Rattle.std.proofs.Common.{◌≡◌, ◌≢◌, ℕ, zero, suc, ◌+◌, ◌<◌, ◌≤◌, ◌==◌, Bool, true, false, cond, List, [], ◌∷◌, length, get_or, set}
 use Rattle.std.proofs.Common.{replicate, Option, Some, None, is_some, eqb-true, nat_lt, refl, sym, ap, subst, ◌∙◌, arith}
 use Rattle.std.specs.Cmp.{nat_cmp_total}
@@ -190,7 +190,7 @@ module _ {A : Type 0} (n : ℕ) where
       ∙ sym (get_or-map-range_with_len (keys_on n (from_entries es)) 0 n l l 0 under from_zero
       ∙ kept_len (λ k. key_place n k == l) es fresh))
 
-  -- each entry lies on one stripe
+  -- each entry is on one stripe
   found_all : 0 < n → (es : List (ℕ × A)) → sum_by (λ l. found {A = A} (λ k. key_place n k == l) es) (range_with_len 0 n) ≡ length es
   found_all pos [] = no_more (range_with_len 0 n)
   found_all pos (e ∷ es) =

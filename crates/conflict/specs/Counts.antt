@@ -1,4 +1,4 @@
--- How many keys of a finite map lie on each stripe.
+-- How many keys of a finite map are on each stripe.
 use Rattle.std.specs.Prelude.{ℕ, List, map, ◌==◌}
 use Rattle.std.specs.Ordering.{nat_cmp}
 use Rattle.std.specs.FinMap.{FinMap, len, retain_keys}

@@ -1,5 +1,4 @@
--- The conflict table, computed row by row: what each outcome reads and writes in four stripes, and nothing beside it. Key 6 lies on
--- stripe 2.
+-- The conflict table, computed row by row: what each outcome reads and writes in four stripes, and nothing beside it. Key 6 is on stripe 2.
 use Rattle.std.specs.Prelude.{◌≡◌, ℕ, Some, None, List, [], ◌∷◌, refl}
 use Rattle.seq_model.specs.declared.call.Op.{Op}
 use Rattle.seq_model.specs.declared.call.Op.TheVariants.{Get, Put, Remove, Len, Count, Add, Take, Least, Insert, TakeLeast, Enqueue}
@@ -66,7 +65,7 @@ take = refl
 take_absent : on_multiset (Take 6) No ≡ (2 ∷ [], [])
 take_absent = refl
 
--- location 0 is the least element, and the stripes stand behind it
+-- location 0 is the least element, and the stripes stand after it
 least : on_priority_queue Least (Found 6) note.Plain ≡ (0 ∷ [], [])
 least = refl
 
@@ -85,7 +84,7 @@ take_least = refl
 take_least_of_none : on_priority_queue TakeLeast Nothing note.Plain ≡ (0 ∷ [], [])
 take_least_of_none = refl
 
--- location 0 is the head, location 1 the tail, and the stripes stand behind both
+-- location 0 is the head, location 1 the tail, and the stripes stand after both
 enqueue : on_queue (Enqueue 60) Done (note.Index 6) ≡ (1 ∷ 4 ∷ [], 1 ∷ 4 ∷ [])
 enqueue = refl
 

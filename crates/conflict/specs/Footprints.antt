@@ -47,8 +47,8 @@ least_place = 0
 abbrev pub stripe_place : ℕ → ℕ → ℕ
 stripe_place n x = suc (x % n)
 
--- TakeLeast reads every stripe, since what it leaves as the least may lie on any: a second one in the same transaction would
--- otherwise miss an insert between the two that writes its stripe alone
+-- TakeLeast reads every stripe, since what it leaves as the least may be on any: a second one in the same transaction would otherwise miss
+-- an insert between the two that writes its stripe alone
 abbrev pub priority_queue_reads : {V : Type 0} → ℕ → Op V → Reply V → List ℕ
 priority_queue_reads n Least r = least_place ∷ []
 priority_queue_reads n (Insert x) r = least_place ∷ stripe_place n x ∷ []

@@ -60,7 +60,7 @@ module _ (x : ℕ) (g : Option ℕ → Option ℕ) (f : Multiset → Multiset) (
         | false ↦ λ _. same
       ] refl ∙ sym (at t q)
 
-  -- and the others stay
+  -- and the others remain
   pub unchanged_elsewhere : (q : ℕ) (s : Multiset) → ((q ≡ x) → ⊥) → get s q ≡ get (f s) q
   unchanged_elsewhere q s other =
       elim (eq_by_cmp nat_cmp q x) as (λ b. eq_by_cmp nat_cmp q x ≡ b → get s q ≡ cond b (g (get s x)) (get s q))

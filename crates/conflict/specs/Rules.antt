@@ -7,9 +7,8 @@ use Rattle.seq_model.specs.Changes as call
 use Rattle.conflict.specs.declared.change.Change.{Change}
 use Rattle.conflict.specs.declared.outcome.Outcome.{Outcome}
 
--- C is what the collection is to calls, also where no state gives it. It shows an answer, in A, at each point of Q: at each
--- key, or at the least element, the head, the tail. Each point lies on one location. The part of a location is what the
--- points on it show.
+-- C is what the collection is to calls, also where no state gives it. It shows an answer, in A, at each point of Q: at each key, or at the
+-- least element, the head, the tail. Each point is on one location. The part of a location is what the points on it show.
 pub record Rules (V C Q A : Type 0) : Type 0 where
   -- what a call answers; none, if it is of another kind
   pub outcome : Op V → C → Option (Outcome V)

@@ -23,8 +23,7 @@ pub trait Conflict<V: Value>: Drop {
 
     ghost stripes: { Self → ℕ };
 
-    /// The outcome that the call has here. A call of another kind of collection is refused as NoSuch. The collection stays as it
-    /// is.
+    /// The outcome that the call has here. A call of another kind of collection is refused as NoSuch. The collection is unchanged.
     fn outcome(&self, op: &Op<V>) -> Result<Outcome<V>, Refusal>
         ensures ok { IfOk result (λ outcome. rules.outcome op.now (shown self.now) ≡ Some outcome) }
         ensures refused { IfErr result (λ refusal. IsRefusal refusal (rules.outcome op.now (shown self.now) ≡ None)) };

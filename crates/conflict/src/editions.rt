@@ -23,7 +23,7 @@ impl Model for Editions {
 }
 
 impl Editions {
-    /// The edition 0 for so many locations.
+    /// The edition 0 for so many locations. `Memory` where an allocation fails.
     pub fn new(alloc: Global, locations: u32) -> Result<Editions, Memory>
         ensures { IfOk result (λ editions. editions ≡ replicate locations 0) }
     {
@@ -31,6 +31,7 @@ impl Editions {
         Ok(Editions { numbers })
     }
 
+    /// The edition of the location, one of those that there are.
     pub fn edition(&self, location: u32) -> u64
         requires { location < length self.now }
         ensures { result ≡ slice_index self.now location }
@@ -48,6 +49,7 @@ impl Editions {
         raise_numbers(&mut self.numbers, written);
     }
 
+    /// The same editions. `Memory` where an allocation fails.
     pub fn try_copy(&self) -> Result<Editions, Memory>
         ensures { IfOk result (λ copy. copy ≡ self.now) }
     {
@@ -63,6 +65,7 @@ impl Editions {
         self.numbers.copy_from_slice(others.numbers.as_slice());
     }
 
+    /// Where the memory of the list comes from.
     pub fn allocator(&self) -> Global {
         *self.numbers.allocator()
     }

@@ -67,8 +67,8 @@ impl<V: Drop> FewKeys<V> {
         }
     }
 
-    /// Makes room for this many more entries. Where there is room for them, it takes no memory. Keys and room stay, also where memory is
-    /// refused.
+    /// Makes room for this many more entries. Where there is room for them, it takes no memory. Keys and room are kept, also where an
+    /// allocation fails.
     pub fn reserve(&mut self, more: usize) -> Result<(), Memory>
         ensures contents { self.new.contents ≡ self.old.contents }
         ensures ok { OnOk result (more ≤ self.new.room) }
@@ -98,7 +98,7 @@ impl<V: Drop> FewKeys<V> {
         }
     }
 
-    /// Takes all keys out. The memory of list and table stays, and the room is that of the list.
+    /// Takes all keys out. The memory of list and table is kept, and the room is that of the list.
     pub fn clear(&mut self)
         ensures { self.new.contents ≡ map.empty }
     {
@@ -109,7 +109,7 @@ impl<V: Drop> FewKeys<V> {
         }
     }
 
-    /// Takes the key out, if it is there. The room stays.
+    /// Takes the key out, if it is there. The room is kept.
     pub fn remove(&mut self, key: u64)
         ensures contents { self.new.contents ≡ map.remove self.old.contents key }
         ensures room { self.old.room ≤ self.new.room }

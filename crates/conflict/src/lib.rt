@@ -7,7 +7,7 @@
 //! with this library's own rules. Two outcomes *conflict* if a location that one writes is read by the other.
 //!
 //! The trait [`Conflict`] is kept by each kind of collection. Its law is the frame laws: what an outcome answers depends on
-//! the parts that it reads alone, and its changes lie within the parts that it writes. From them [`laws`] proves once, for
+//! the parts that it reads alone, and its changes are within the parts that it writes. From them [`laws`] proves once, for
 //! every collection, that legal outcomes that do not conflict commute.
 //!
 //! Beside it stand the things that all four collections use: [`LocSet`], a small set of locations; [`Editions`], the number of

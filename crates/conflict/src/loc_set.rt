@@ -27,6 +27,7 @@ impl Model for LocSet {
 }
 
 impl LocSet {
+    /// No location.
     pub fn empty(alloc: Global) -> LocSet
         ensures { result ≡ [] }
     {
@@ -35,6 +36,7 @@ impl LocSet {
         }
     }
 
+    /// One location.
     pub fn single(alloc: Global, location: u32) -> LocSet
         ensures { result ≡ location ∷ [] }
     {
@@ -92,6 +94,7 @@ impl LocSet {
         locations
     }
 
+    /// Whether the location is in the set.
     pub fn contains(&self, location: u32) -> bool
         ensures { IsTrue result ↔ Contains self.now location }
     {

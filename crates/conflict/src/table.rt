@@ -31,6 +31,7 @@ impl<V> Model for Table<V> {
 }
 
 impl<V: Drop> Table<V> {
+    /// The empty map. It takes no memory.
     pub fn new(alloc: Global) -> Table<V>
         ensures { result.contents ≡ map.empty }
     {
@@ -40,19 +41,22 @@ impl<V: Drop> Table<V> {
         }
     }
 
+    /// How many keys there are.
     pub fn len(&self) -> usize
         ensures { result ≡ map.len self.now.contents }
     {
         self.entries.len()
     }
 
+    /// The value of the key, if it has one.
     pub fn get(&self, key: u64) -> Option<&V>
         ensures { option_copied result ≡ map.get self.now.contents key }
     {
         self.entries.get(&key)
     }
 
-    /// How many keys lie on each of so many stripes, in order: a key lies on that of its remainder.
+    /// How many keys are on each of so many stripes, in order: a key is on that of its remainder. `Memory` where an allocation for the list
+    /// fails.
     pub fn counts(&self, stripes: u32) -> Result<Items<u64>, Memory>
         requires { 0 < stripes }
         ensures { IfOk result (λ counts. counts ≡ stripe_counts stripes self.now.contents) }
@@ -85,7 +89,7 @@ impl<V: Drop> Table<V> {
         let _ = self.entries.insert(key, value).unwrap();
     }
 
-    /// Takes all keys out. The memory stays.
+    /// Takes all keys out. The memory is kept.
     pub fn clear(&mut self)
         ensures contents { self.new.contents ≡ map.empty }
         ensures room { self.old.room ≤ self.new.room }
@@ -93,7 +97,7 @@ impl<V: Drop> Table<V> {
         self.entries.clear();
     }
 
-    /// Takes the key out, if it is there. The room stays.
+    /// Takes the key out, if it is there. The room is kept.
     pub fn remove(&mut self, key: u64)
         ensures contents { self.new.contents ≡ map.remove self.old.contents key }
         ensures room { self.old.room ≤ self.new.room }
@@ -103,7 +107,7 @@ impl<V: Drop> Table<V> {
 }
 
 impl<V: Value> Table<V> {
-    /// A table of these entries.
+    /// A table of these entries. `Memory` where an allocation fails; the entries are dropped then.
     pub fn of_entries(alloc: Global, entries: Entries<V>) -> Result<Table<V>, Memory>
         ensures { IfOk result (λ table. table.contents ≡ entries) }
     {
@@ -115,7 +119,7 @@ impl<V: Value> Table<V> {
         Ok(table)
     }
 
-    /// A table with copies of the values.
+    /// A table with copies of the values. `Memory` where an allocation fails.
     pub fn try_copy(&self) -> Result<Table<V>, Memory>
         ensures { IfOk result (λ copy. copy.contents ≡ self.now.contents) }
     {
@@ -124,7 +128,8 @@ impl<V: Value> Table<V> {
         Ok(copy)
     }
 
-    /// Becomes a copy of the other, in the memory that it has as far as that suffices. Where memory is refused, what it holds is left open.
+    /// Becomes a copy of the other, in the memory that it has as far as that suffices. Where an allocation fails, what it holds is left
+    /// open.
     pub fn copy_from(&mut self, other: &Table<V>) -> Result<(), Memory>
         ensures { OnOk result (self.new.contents ≡ other.now.contents) }
     {
@@ -136,7 +141,7 @@ impl<V: Value> Table<V> {
         Ok(())
     }
 
-    /// Copies of the entries, in the order of their keys.
+    /// Copies of the entries, in the order of their keys. `Memory` where an allocation fails.
     pub fn to_entries(&self) -> Result<Entries<V>, Memory>
         ensures { IfOk result (λ entries. entries ≡ self.now.contents) }
     {

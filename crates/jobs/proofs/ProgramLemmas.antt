@@ -1,6 +1,5 @@
--- Legal calls that a program asked lead where its run leads.
--- By induction on the calls: the first is the one that the program asks, and its reply is that of the sequential call, so the run
--- goes on with what is left of the program at the state after the call.
+-- Legal calls that a program asked lead where its run leads. By induction on the calls: the first is the one that the program asks, and its
+-- reply is that of the sequential call, so the run continues with what is left of the program at the state after the call.
 use Rattle.std.proofs.Common.{◌≡◌, zero, suc, arith, Option, Some, None, refl, List, [], ◌∷◌, sym, ◌∙◌, ap}
 use Rattle.std.specs.Prelude.{option_and_then, option_map}
 use Rattle.std.specs.Option.{option_map_or}

@@ -24,7 +24,7 @@ asked (Asks call next) = ask.Call call
 asked (Answers a) = ask.Done
 asked GivesUp = ask.GiveUp
 
--- a run to the end: the answer, and what the calls leave. There is none where a call is refused, or the program gives up
+-- a run to the end: the answer, and what the calls leave. There is none where a call is refused, or the program aborts
 abbrev pub run : {V A : Type 0} → Program V A → Contents V → Option (A × Contents V)
 run (Asks call next) s = option_and_then (λ r. run (next r.0) r.1) (call_of call s)
 run (Answers a) s = Some (a, s)

@@ -1,6 +1,6 @@
--- What stays so of a transaction beside which no other steps, through each action of its own: every lock is free or its own, each of its
--- places is one at which no word refuses it (the word machine's law), every gate is free or its own, and what it has copied has the
--- edition that the base has.
+-- What remains so of a transaction beside which no other steps, through each action of its own: every lock is free or its own, each of its
+-- places is one at which no word refuses it (the word machine's law), every gate is free or its own, and what it has copied has the edition
+-- that the base has.
 use Rattle.std.proofs.Common.{◌≡◌, ℕ, Bool, true, false, cond, ◌&&◌, List, [], ◌∷◌, Option, Some, None, inl, inr, refl, sym, ◌∙◌, ap, subst}
 use Rattle.std.proofs.Common.{true≢false, eqb}
 use Rattle.std.specs.Prelude.{nat_le, nat_lt, not, if◌then◌else◌}

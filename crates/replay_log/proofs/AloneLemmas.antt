@@ -1,10 +1,10 @@
 -- A transaction beside which no other steps, at whose begin no lock and no gate is held, is refused for no conflict.
 --
--- Through its own actions every lock and gate stays free or its own, and what it has copied has the edition of the base
--- (`AloneActions`). So the word machine tells it no conflict; each gate that it tries is free; and what its read set or a load has of a
--- collection's location is the base's edition, since no commit is half done (`now_edition`). What a call still has to judge was copied
--- with that edition too (`AllNow`). `Fine` says so of what each function of the definition leaves, with the causes (P) for which the
--- transaction may be given up: a want of memory alone, or none.
+-- Through its own actions every lock and gate remains free or its own, and what it has copied has the edition of the base (`AloneActions`).
+-- So the word machine answers it no conflict; each gate that it tries is free; and what its read set or a load has of a collection's
+-- location is the base's edition, since no commit is half done (`now_edition`). What a call still has to judge was copied with that edition
+-- too (`AllNow`). `Fine` says so of what each function of the definition leaves, with the causes (P) for which the transaction may be
+-- aborted: a failed allocation alone, or none.
 use Rattle.std.proofs.Common.{◌≡◌, ℕ, zero, suc, ◌≤◌, Bool, true, false, cond, ◌&&◌, List, [], ◌∷◌, ◌++◌, length, Option, Some, None, inl}
 use Rattle.std.proofs.Common.{inr, refl, sym, ◌∙◌, ap, subst, true≢false, arith, eqb, eq-eqb}
 use Rattle.std.specs.Prelude.{nat_lt, nat_le}
@@ -112,7 +112,7 @@ none_half s a v h m b half =
           )
     ]
 
--- what the last load of a read tells is what the location holds
+-- what the last load of a read answers is what the location holds
 abbrev NumberIs : ℕ → told.Notice → Type 0
 NumberIs m (told.Number v) = m ≡ v
 NumberIs m n = Unit {0}
@@ -534,7 +534,7 @@ module _ {V : Type 0} (P : Refusal → Type 0) (a : ℕ) where
     alone : AloneIn w.boosted a
     fine : FineAt w
 
-  -- where a wants memory it may be given up for that
+  -- where a is out of memory it may be aborted for that
   abbrev MayStarve : Event V → Type 0
   MayStarve (Starve b) = b ≡ a → P refusal.Memory
   MayStarve e = Unit {0}

@@ -1,7 +1,7 @@
--- What a refusal says as it is answered. A request that is refused changes nothing; a step is refused where none is due, as a
--- transaction begins at the limit of the clock, as a call that was copied for finds no room, and by its last step, which tells the
--- cause; and nowhere else, so never after the first value store. For a want of memory a begin is refused at once, and any other request
--- is given up, but there and while a transaction is being given up it changes nothing.
+-- What a refusal says as it is answered. A request that is refused changes nothing; a step is refused where none is next, as a transaction
+-- begins at the limit of the clock, as a call that was copied for finds no room, and by its last step, which answers the cause; and nowhere
+-- else, so never after the first value store. For a failed allocation a begin is refused at once, and any other request is aborted, but
+-- there and while a transaction is being aborted it changes nothing.
 use Rattle.std.proofs.Common.{◌≡◌, ℕ, zero, suc, ◌≤◌, Bool, true, false, cond, ◌&&◌, List, [], ◌∷◌, ◌++◌, length, Option, Some, None, inl}
 use Rattle.std.proofs.Common.{inr, refl, sym, ◌∙◌, ap, subst, true≢false, arith, eqb}
 use Rattle.std.specs.Prelude.{nat_lt}
@@ -261,7 +261,7 @@ module _ {V : Type 0} where
       (IsRefusedAt w a (w.seats a).stage r.0) r.1
   refused_step w a k = step_says w a (w.seats a) (w.seats a).stage refl (k.seats a).stage
 
-  -- ---- wants of memory
+  -- ---- failed allocations
   abbrev IsGivenUp : ℕ → Seat V → Type 0
   IsGivenUp a x = (is_ending x.stage ≡ true) × (x.cause ≡ Some refusal.Memory)
 
@@ -315,7 +315,7 @@ module _ {V : Type 0} where
   pub starved_end : (w : World V) (a : ℕ) → is_ending (w.seats a).stage ≡ true → happens w (Starve a) ≡ (w, Quiet)
   starved_end w a h = starve_end w a (w.seats a) (w.seats a).stage h
 
-  -- ---- a commit goes on
+  -- ---- a commit continues
   seated_half : (u : World V) (a : ℕ) (x : Seat V) → is_half_done x.stage ≡ true → is_half_done ((seated u a x).seats a).stage ≡ true
   seated_half u a x h = ap (λ (q : Seat V). is_half_done q.stage) (put-same u.seats a x) ∙ h
 

@@ -1,6 +1,6 @@
--- A request that is under way is answered within 1,000,000 steps of its actor. What a step or a want of memory tells leaves its actor at
--- rest, where nothing is left; what tells nothing is bounded, as a request is asked, and from then on by what it was before. So no request
--- is ever further off than that, and each own step that tells nothing brings it nearer.
+-- A request that is under way is answered within 1,000,000 steps of its actor. What a step or a failed allocation answers leaves its actor
+-- idle, where nothing is left; what answers nothing is bounded, as a request is asked, and from then on by what it was before. So no
+-- request is ever further off than that, and each own step that answers nothing brings it nearer.
 use Rattle.std.proofs.Common.{◌≡◌, ℕ, zero, suc, ◌+◌, ◌<◌, ◌≤◌, Bool, true, false, cond, ◌&&◌, List, [], ◌∷◌, ◌++◌, length, Option, Some, None}
 use Rattle.std.proofs.Common.{◌⊎◌, inl, inr, refl, sym, subst, arith, eqb, eq-eqb, ne_eqb}
 use Rattle.std.specs.Prelude.{nat_lt}
@@ -45,7 +45,7 @@ use Rattle.replay_log.proofs.AskLemmas.{under_way}
 use Rattle.replay_log.proofs.StarveLemmas.{starve_no_further}
 
 module _ {V : Type 0} where
-  -- ---- what is told leaves the actor at rest
+  -- ---- what is answered leaves the actor idle
   abbrev Rests : ℕ → After V → Type 0
   Rests a r = (IsQuiet r.1 → ⊥) → IsAtRest (r.0.seats a).stage
 
@@ -108,7 +108,9 @@ module _ {V : Type 0} where
 
   op_rests : (u : World V) (a : ℕ) (x : Seat V) (t : ℕ) (op : Op V) → u.seats a ≡ x → x.stage ≡ Open → Rests a (ask_op u a x t op)
   op_rests u a x t Read seat at = allowed_rests u a x _ _ _ seat at (reads_rests u a x t _)
-  op_rests u a x t (Write v) seat at = allowed_rests u a x _ _ _ seat at (λ q. put_rests u.seats a (with_call x (record { target = t; op = Write v }) reply.Done) tt)
+  op_rests u a x t (Write v) seat at =
+      allowed_rests u a x _ _ _ seat at
+      (λ q. put_rests u.seats a (with_call x (record { target = t; op = Write v }) reply.Done) tt)
   op_rests u a x t op seat at = allowed_rests u a x _ _ _ seat at (calls_on_rests u a x (record { collection = t; op = op }))
 
   commits_rests : (u : World V) (a : ℕ) (x : Seat V) (es : Entries) → Rests a (commits u a x es)
@@ -205,7 +207,7 @@ module _ {V : Type 0} where
   step_rests w a x Cancelling seat at = has_cancelled_rests (acted w (moves a ∷ [])) a x (word_notice w a)
   step_rests w a x Leaving seat at = λ q. put_rests w.seats a no_one tt
 
-  -- ---- wants of memory
+  -- ---- failed allocations
   starve_rests : (w : World V) (a : ℕ) (x : Seat V) (st : Stage V) → w.seats a ≡ x → x.stage ≡ st → Rests a (starve_at w a x st)
   starve_rests w a x Idle seat at = same_rests w a x Idle (Refused a refusal.NoTransaction) seat at tt
   starve_rests w a x Open seat at = same_rests w a x Open (Refused a refusal.NoTransaction) seat at tt
@@ -241,7 +243,7 @@ module _ {V : Type 0} where
   quiet_or Quiet = inl tt
   quiet_or n = inr (λ h. h)
 
-  -- nothing is left at rest
+  -- nothing is left where the actor is idle
   rests_left : (st : Stage V) (y : Actor) → IsAtRest st → measure.left_at st y ≡ 0
   rests_left Idle y h = refl
   rests_left Open y h = refl
@@ -256,7 +258,8 @@ module _ {V : Type 0} where
     reached events = run_linked events (opened blocks clock values held) (opened_linked blocks clock values held stripes)
 
     own_few : (events : List (Event V)) (e : Event V)
-        → let w = run (opened blocks clock values held) events in left_of w (whose e) < 1000000 → left_of (happens w e).0 (whose e) < 1000000
+        → let w = run (opened blocks clock values held) events in left_of w (whose e) < 1000000
+        → left_of (happens w e).0 (whose e) < 1000000
     own_few events (Ask a q) h =
         let w = run (opened blocks clock values held) events in
         let r = happens w (Ask a q) in

@@ -1,7 +1,7 @@
--- When a request is refused as it is asked, and when it begins to give its transaction up. What is asked while another request is under
--- way, or begins where a transaction is open, is NotIdle; a call of what is not there is NoSuch, and only then one past the limit
--- TooLong. A call that has copied what it touches finds in the read set the edition that was copied, so it is never stale as it is
--- asked; so only an Abort gives a transaction up at once.
+-- When a request is refused as it is asked, and when it begins to abort its transaction. What is asked while another request is under way,
+-- or begins where a transaction is open, is NotIdle; a call of what is not there is NoSuch, and only then one past the limit TooLong. A
+-- call that has copied what it touches finds in the read set the edition that was copied, so it is never stale as it is asked; so only an
+-- Abort aborts a transaction at once.
 use Rattle.std.proofs.Common.{◌≡◌, ◌≢◌, ℕ, ◌≤◌, Bool, true, false, cond, ◌&&◌, List, [], ◌∷◌, length, Option, Some, None, ◌⊎◌, inl, inr}
 use Rattle.std.proofs.Common.{refl, sym, ◌∙◌, ap, subst, true≢false, eqb, eq-eqb, arith}
 use Rattle.std.specs.Prelude.{nat_lt}
@@ -99,7 +99,7 @@ module _ {V : Type 0} where
       → happens w (Ask a (request.Call (record { target = t; op = op }))) ≡ (w, Refused a refusal.TooLong)
   too_long w a t op at h long = asked_at w a _ Open at ∙ too_long_op w a (w.seats a) t op h long
 
-  -- ---- given up at once
+  -- ---- aborted at once
   abbrev GoesOn : ℕ → After V → Type 0
   GoesOn a r = is_ending (r.0.seats a).stage ≡ false
 

@@ -197,7 +197,7 @@ module _ {V : Type 0} where
           (sym h ∙ ap (λ q. not (is_missing q)) (knows_its_calls b.stripes b.kind op (λ i. v (f + i)) (λ i. OfMap empty) e)))
       by (Some r) e = (r, e)
 
-  -- what a call reads lies in its collection, and is covered by what it touches
+  -- what a call reads is in its collection, and is covered by what it touches
   pub record ReadsOk (n : ℕ) (bs : List Block) (asked : Asked V) (l : ℕ) : Type 0 where
     pub plain : is_plain n bs l ≡ false
     pub home : home_of n bs l ≡ asked.collection

@@ -1,5 +1,5 @@
 -- The sequential collections, as a model of the content of a world. The collection of a block is found by going along blocks and
--- collections together; a call changes that one alone, and what it shows lies on the block's locations.
+-- collections together; a call changes that one alone, and what it shows is on the block's locations.
 use Rattle.std.proofs.Common.{◌≡◌, ℕ, zero, suc, ◌+◌, ◌-◌, ◌<◌, ◌≤◌, ◌⊎◌, ltb, List, [], ◌∷◌, Option, Some, None, Contains, inl, inr, refl}
 use Rattle.std.proofs.Common.{sym, ap, ◌∙◌, subst, arith, lt-ltb, le-ltb}
 use Rattle.std.specs.Prelude.{option_map}

@@ -32,7 +32,7 @@ in_shifted f l (x ∷ ls) h =
       | inr m ↦ (let z = in_shifted f l ls m in (z.0, z.1, (suc z.2.0, omega (arith, z.2.1), z.2.2)))
     ]
 
--- where blocks lie
+-- where blocks are
 pub first_above : (w : ℕ) (bs : List Block) (k : ℕ) → w ≤ first_of w bs k
 first_above w [] k = omega arith
 first_above w (b ∷ bs) zero = omega arith

@@ -1,5 +1,5 @@
--- An event that answers nothing leaves a step due: each function of the definition either answers, or seats its actor at a stage that is
--- not at rest, or leaves the seat at the stage of the request, which is none.
+-- An event that answers nothing leaves a step to take: each function of the definition either answers, or seats its actor at a stage that
+-- is not idle, or leaves the seat at the stage of the request, which is none.
 use Rattle.std.proofs.Common.{◌≡◌, ℕ, zero, suc, Bool, true, false, cond, ◌&&◌, List, [], ◌∷◌, ◌++◌, length, Option, Some, None, refl, sym}
 use Rattle.std.proofs.Common.{subst, eqb}
 use Rattle.std.specs.Prelude.{nat_lt}
@@ -203,7 +203,7 @@ module _ {V : Type 0} where
   step_on w a x Cancelling seat at = has_cancelled_on (acted w (moves a ∷ [])) a x (word_notice w a) seat at
   step_on w a x Leaving seat at = λ q. absurd (why_answers V a x.cause q)
 
-  -- ---- wants of memory
+  -- ---- failed allocations
   starve_on : (w : World V) (a : ℕ) (x : Seat V) (st : Stage V) → w.seats a ≡ x → x.stage ≡ st → GoesOn a (starve_at w a x st)
   starve_on w a x Idle seat at = λ q. absurd q
   starve_on w a x Open seat at = λ q. absurd q

@@ -347,7 +347,8 @@ module _ {V : Type 0} where
     shown_then : (k l : ℕ) → view (content n bs) u.boosted.history k (shown_at n bs hs) l ≡ part_at n bs (state_at k u.records opening) l
     shown_then k l =
         let q = u.boosted.history in
-        view_state (content n bs) (content_frame n bs stripes) sequential (Suit bs) (collections V n bs stripes) q k (shown_at n bs hs) hs suit
+        view_state (content n bs) (content_frame n bs stripes) sequential (Suit bs) (collections V n bs stripes) q k
+        (shown_at n bs hs) hs suit
         (λ i. refl) read_there.runs read_there.order l
         ∙ ap (λ (gs : List (Held V)). shown_at n bs gs l) (sym
         (at_number n k u.records q hs m opening (record { count = refl; same = λ i lt. refl; held = refl }) same_records).held)
@@ -355,7 +356,8 @@ module _ {V : Type 0} where
     suit_then : (k : ℕ) → Suit bs (state_at k u.records opening).held
     suit_then k =
         subst (Suit bs) (sym
-        (at_number n k u.records u.boosted.history hs m opening (record { count = refl; same = λ i lt. refl; held = refl }) same_records).held)
+        (at_number n k u.records u.boosted.history hs m opening (record { count = refl; same = λ i lt. refl; held = refl })
+        same_records).held)
         (suit_at n bs stripes u.boosted.history k hs suit)
 
     edition_is : (k l : ℕ) → serial.edition_at (content n bs) u.boosted.history k l ≡ edition_at n bs k l u.records opening

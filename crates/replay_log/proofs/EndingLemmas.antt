@@ -1,6 +1,6 @@
--- What a step leaves of values, bases and records. Before the first value store a step stores no value, and only the step that takes a
--- base home changes one; so a transaction that is being given up leaves them, gives each lock back at the version at which it took it,
--- and at rest holds no lock and no gate.
+-- What a step leaves of values, bases and records. Before the first value store a step stores no value, and only the step that puts a base
+-- back changes one; so a transaction that is being aborted leaves them, gives each lock back at the version at which it took it, and an
+-- idle actor holds no lock and no gate.
 use Rattle.std.proofs.Common.{◌≡◌, ℕ, zero, suc, Bool, false, ◌&&◌, List, [], ◌∷◌, ◌++◌, Some, None, refl, sym, ◌∙◌, ap, subst, true≢false}
 use Rattle.std.proofs.Common.{eqb, eq-eqb}
 use Rattle.std.specs.Prelude.{not, if◌then◌else◌}
@@ -285,7 +285,7 @@ module _ {V : Type 0} where
   pub locks_held : (w : World V) (a l k : ℕ) → Linked w → lookup (actor_of w a).held l ≡ Some k → w.boosted.words.locks l ≡ Locked k
   locks_held w a l k linked h = (linked.base.inv.machine.actors a).held l k h
 
-  -- ---- at rest
+  -- ---- an idle actor
   pub holds_nothing : (w : World V) (a : ℕ) → Linked w → (w.seats a).stage ≡ Idle → ((actor_of w a).held ≡ [])
       × ((k : ℕ) → w.boosted.gates k ≡ Some a → ⊥)
   holds_nothing w a linked at =

@@ -1,5 +1,5 @@
--- Every event keeps what a world of words and collections has of its machine: by the stage of its actor the lemma of the
--- function that is due serves, a list of events is an induction, and the opening has it, as nobody holds or has read anything.
+-- Every event keeps what a world of words and collections has of its machine: by the stage of its actor the lemma of the function that is
+-- next serves, a list of events is an induction, and the opening has it, as nobody holds or has read anything.
 use Rattle.std.proofs.Common.{◌≡◌, ℕ, ◌<◌, Bool, true, false, not, ◌&&◌, List, [], ◌∷◌, ◌++◌, length, Option, Some, None, refl, sym, ◌∙◌}
 use Rattle.std.proofs.Common.{ap, subst, true≢false}
 use Rattle.std.specs.Prelude.{nat_lt, get_or}
@@ -298,7 +298,7 @@ module _ {V : Type 0} where
   ask_linked w a x Open q k held h = open_linked w a x q k held h.0 h.1
   ask_linked w a x st q k held h = k
 
-  -- ---- wants of memory
+  -- ---- failed allocations
   starved : (w : World V) (a : ℕ) (x : Seat V) (ks : List ℕ) → Linked w → Held-by w a ks → Differ ks → CanLeave (y_of w a).place
       → InTx w.words x (y_of w a) (z_of w a)
       → Linked (gives_up w a (because x refusal.Memory) ks).0

@@ -1,5 +1,5 @@
--- No guard of the machine refuses what the next step of a request does: each stage holds the gates that its step needs, and the
--- machine's actor stands where a step, or the request that it asks, is due.
+-- No guard of the machine refuses what the next step of a request does: each stage holds the gates that its step needs, and the machine's
+-- actor stands where a step, or the request that it asks, is next.
 use Rattle.std.proofs.Common.{◌≡◌, ℕ, Bool, true, false, ◌||◌, List, [], ◌∷◌, inl, inr, sym, ◌∙◌, ap, subst}
 use Rattle.std.specs.Prelude.{nat_lt, if◌then◌else◌}
 use Rattle.std.proofs.lemmas.Bool.{cases_Bool}
@@ -26,7 +26,7 @@ use Rattle.replay_log.proofs.SeatLemmas.{CommitOk, gates_of, StageOk}
 use Rattle.replay_log.proofs.StageLemmas.{every_all, first_has}
 use Rattle.replay_log.proofs.EventLemmas.{run_linked, opened_linked}
 
--- a step is due
+-- a step is next
 abbrev IsDue : Words → Actor → Place → Type 0
 IsDue s y p = notice s y p ≡ told.NoTransaction → ⊥
 

@@ -1,6 +1,6 @@
--- Numbers of commits that gave up. While a transaction can give up, no writer has its number, and once its locks go back none will ever
--- have it: both the word machine says. In between its gates go back, one a step, and neither these steps nor any other event change its
--- number. So by induction over the events that follow, it is nobody's at each of them.
+-- Numbers of commits that aborted. While a transaction can abort, no writer has its number, and once its locks go back none will ever have
+-- it: both the word machine says. In between its gates go back, one a step, and neither these steps nor any other event change its number.
+-- So by induction over the events that follow, it is nobody's at each of them.
 use Rattle.std.proofs.Common.{◌≡◌, ℕ, Bool, true, false, cond, List, [], ◌∷◌, ◌++◌, length, ◌⊎◌, inl, inr, refl, sym, ◌∙◌, ap, subst}
 use Rattle.std.proofs.Common.{true≢false}
 use Rattle.std.specs.Prelude.{get_or}
@@ -80,7 +80,7 @@ module _ {V : Type 0} where
   none_written n k (r ∷ rs) (q ∷ qs) g f h =
       elim h [ inl is ↦ f.0 (sym g.0.writes ∙ is.1) (sym g.0.number ∙ is.0) | inr more ↦ none_written n k rs qs g.1 f.1 more ]
 
-  -- ---- where one stands that gives up
+  -- ---- where one stands that aborts
   given_up_at : (n : ℕ) (bs : List Block) (x : Seat V) (y : Actor) (z : Copy V) (st : Stage V) (p : Place) → StageOk n bs x y z st p
       → is_ending st ≡ true
       → GivesUp p
@@ -105,7 +105,7 @@ module _ {V : Type 0} where
   returns_or_ends n bs x y z st p h e = absurd (true≢false (sym e))
 
   -- ---- gates go back
-  -- it is given up still, with this number
+  -- it is aborted still, with this number
   abbrev GoesOn : ℕ → ℕ → World V → Type 0
   GoesOn a wv u = (is_ending (u.seats a).stage ≡ true) × ((actor_of u a).wv ≡ wv)
 
@@ -168,7 +168,7 @@ module _ {V : Type 0} where
         )
   ]
 
-  -- ---- the number of one that gives up
+  -- ---- the number of one that aborts
   module _ (bs : List Block) (stripes : HaveStripes bs) (clock : ℕ) (values : List ℕ) (hs : List (Held V)) where
     abbrev start : World V
     start = opened bs clock values hs

@@ -1,6 +1,6 @@
--- Parts and wholes, for each kind, from what they show at each point. A part shows a collection's answers at the points that
--- lie on its location and nothing elsewhere, the whole of parts at each point what the part of its location shows. Collections
--- that show the same at all points are the same, so all that is said of parts and wholes follows point by point.
+-- Parts and wholes, for each kind, from what they show at each point. A part shows a collection's answers at the points that are on its
+-- location and nothing elsewhere, the whole of parts at each point what the part of its location shows. Collections that show the same at
+-- all points are the same, so all that is said of parts and wholes follows point by point.
 use Rattle.std.proofs.Common.{◌≡◌, ℕ, zero, suc, ◌<◌, Bool, true, false, cond, eqb, List, Option, Some, None, Contains, inl, inr, refl, sym}
 use Rattle.std.proofs.Common.{ap, ◌∙◌, arith, eq-eqb, ne_eqb}
 use Rattle.std.proofs.Math.Nat.{mod-lt}

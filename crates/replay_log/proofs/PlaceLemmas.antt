@@ -1,5 +1,5 @@
--- What a step of the word machine makes of its actor's record at each place, by what it tells. The stages of a world know the
--- place only by sort (within a read, among the locks, among the stores), so the places of one sort share a lemma.
+-- What a step of the word machine makes of its actor's record at each place, by what it answers. The stages of a world know the place only
+-- by sort (within a read, among the locks, among the stores), so the places of one sort share a lemma.
 use Rattle.std.proofs.Common.{◌≡◌, ℕ, ◌+◌, true, false, cond, List, [], ◌∷◌, Option, Some, None, refl, ap, eqb}
 use Rattle.std.specs.Prelude.{nat_le}
 use Rattle.vlock_word.specs.declared.lock_word.LockWord.{LockWord}

@@ -1,8 +1,8 @@
--- What an event leaves of the records and of its actor's seat. Only the first value store of a commit and the last load of a reader
--- record, and what they record are the calls that the seat has then. A request, a want of memory and any other step leave the records;
--- what they begin is not committed, and if it tries a gate it is the first try. So whoever has committed and not ended yet has a record
--- of its own, under its number; and since the records are in commit order, and no two writers share a number, the half-done commits
--- stand in it once each, rising.
+-- What an event leaves of the records and of its actor's seat. Only the first value store of a commit and the last load of a reader record,
+-- and what they record are the calls that the seat has then. A request, a failed allocation and any other step leave the records; what they
+-- begin is not committed, and if it tries a gate it is the first try. So whoever has committed and not ended yet has a record of its own,
+-- under its number; and since the records are in commit order, and no two writers share a number, the half-done commits stand in it once
+-- each, rising.
 use Rattle.std.proofs.Common.{◌≡◌, ℕ, zero, suc, ◌<◌, Bool, true, false, cond, ◌&&◌, List, [], ◌∷◌, ◌++◌, length, Option, Some, None, ◌⊎◌}
 use Rattle.std.proofs.Common.{inl, inr, refl, sym, ◌∙◌, ap, subst, true≢false, eqb, eq-eqb, eqb-true, ne_eqb, ltb-true}
 use Rattle.std.specs.Prelude.{nat_lt}
@@ -260,7 +260,7 @@ module _ {V : Type 0} where
       ahead w a x st u.records _ (gives_up_begins u a (because x (refusal.GateBusy k)) got)
   tried_begins w u a x st false k got again next (suc n) f g = sits u a (Turns w x st) (at_stage x (again n)) (inr (inr (g n refl refl)))
 
-  -- a commit goes on under its number
+  -- a commit continues under its number
   goes_home_on : (w u : World V) (a : ℕ) (x : Seat V) (st : Stage V) (ks : List ℕ) → IsCommitting st
       → Leaves a u.records (Turns w x st) (goes_home u a x ks).0
   goes_home_on w u a x st [] h = sits (acted u (asks a word.AskRelease ∷ [])) a (Turns w x st) (at_stage x Releasing)
@@ -378,7 +378,7 @@ module _ {V : Type 0} where
   record_more w (Step a) b n h =
       subst (HasOwn b n) (sym (stepped_turns w a).records) (own_more a (w.seats a) (w.seats a).stage w.records b n h)
 
-  -- a commit that goes on has its record, or has it by this step
+  -- a commit that continues has its record, or has it by this step
   committing_own : (w : World V) (a : ℕ) (x : Seat V) (st : Stage V) → IsCommitting st → (is_half_done st ≡ true → HasOwn a x.wv w.records)
       → HasOwn a x.wv (with_record a (committed_by x st) w.records)
   committing_own w a x (Ready ks) h f = own_new a x.wv (a, record { number = x.wv; writes = true; calls = x.calls }) w.records
@@ -437,7 +437,7 @@ module _ {V : Type 0} where
       → (r.1.writes ≡ true) × (is_half_done (seats r.0).stage ≡ true) × (eqb r.1.number (seats r.0).wv ≡ true)
   half_parts seats r h = three r.1.writes (is_half_done (seats r.0).stage) (eqb r.1.number (seats r.0).wv) h
 
-  -- a number that is told is that of a record which is half done
+  -- a number that is answered is that of a record which is half done
   abbrev IsTold : (ℕ → Seat V) → ℕ → List (ℕ × Record V) → Type 0
   IsTold seats n rs = (r : ℕ × Record V) × (r.1.number ≡ n) × (is_half seats r ≡ true) × HasWritten n rs
 

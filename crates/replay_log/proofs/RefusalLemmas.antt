@@ -1,6 +1,6 @@
--- A step that begins to give a transaction up has found the cause that it notes: the word machine's refusals are true of the word that
--- the step loads, a copy is stale where the two editions differ, and a gate that was tried in vain is another's. The last step of the
--- request tells that cause.
+-- A step that begins to abort a transaction has found the cause that it notes: the word machine's refusals are true of the word that the
+-- step loads, a copy is stale where the two editions differ, and a gate that was tried in vain is another's. The last step of the request
+-- answers that cause.
 use Rattle.collection_machine.specs.Content.{IsIn, has}
 use Rattle.std.proofs.Common.{◌≡◌, ◌≢◌, ℕ, zero, suc, ◌+◌, Bool, true, false, cond, List, [], ◌∷◌, ◌++◌, Option, Some, None, ◌⊎◌, Contains}
 use Rattle.std.proofs.Common.{refl, sym, ◌∙◌, ap, subst, true≢false, eqb, eq-eqb, ne_eqb, inl, inr}
@@ -224,7 +224,7 @@ aborted_calls y (machine.Store (l ∷ ls)) = refl
 aborted_calls y p = refl
 
 module _ {V : Type 0} where
-  -- a seat that goes on
+  -- a seat that continues
   going : (w u : World V) (a : ℕ) (x : Seat V) → u.seats a ≡ x → is_ending x.stage ≡ false → is_ending (u.seats a).stage ≡ true → ⊥
   going w u a x e h q = true≢false (sym q ∙ ap (λ (s : Seat V). is_ending s.stage) e ∙ h)
 
@@ -258,7 +258,7 @@ module _ {V : Type 0} where
   choose_for w a st true u v h g = h refl
   choose_for w a st false u v h g = g refl
 
-  -- what the word machine told is true of w
+  -- what the word machine answered is true of w
   abbrev TrueAt : World V → ℕ → told.Notice → Type 0
   TrueAt w a n =
       IsTrue w.boosted.words (w.boosted.words.actors a) (w.boosted.words.actors a).place n
@@ -469,7 +469,7 @@ module _ {V : Type 0} where
       by_stage Cancelling at on held h = absurd (true≢false on)
       by_stage Leaving at on held h = absurd (true≢false on)
 
-  -- ---- the cause stays, and is told by the last step
+  -- ---- the cause remains, and is answered by the last step
   gives_up_keeps : (u : World V) (a : ℕ) (x : Seat V) (ks : List ℕ) → ((gives_up u a x ks).0.seats a).cause ≡ x.cause
   gives_up_keeps u a x [] =
       let v = acted u (asks a word.AskCancel ∷ asks a word.AskAbort ∷ []) in

@@ -1,6 +1,6 @@
--- What becomes of the calls of a transaction. One pass over the functions of a call: each answers it with the reply that it puts behind
--- the calls before it, or leaves the calls, with the same call under way, refused or given up. One over all others: they leave the
--- calls, but for the one that begins a transaction and those that end one.
+-- What becomes of the calls of a transaction. One pass over the functions of a call: each answers it with the reply that it puts after the
+-- calls before it, or leaves the calls, with the same call under way, refused or aborted. One over all others: they leave the calls, but
+-- for the one that begins a transaction and those that end one.
 use Rattle.std.proofs.Common.{◌≡◌, ◌≢◌, ℕ, zero, suc, Bool, true, false, cond, ◌&&◌, List, [], ◌∷◌, ◌++◌, length, Option, Some, None}
 use Rattle.std.proofs.Common.{inl, inr, refl, sym, ◌∙◌, ap, subst, eqb}
 use Rattle.std.specs.Prelude.{nat_lt}

@@ -189,7 +189,7 @@ module _ {V : Type 0} where
         actors = λ b ne. all_other (content u.words u.blocks) a b ne es u.boosted own ∙ r.actors b ne;
       }
 
-  -- only the seat of a, records and what is told have changed
+  -- only the seat of a, records and what is answered have changed
   same : (a : ℕ) (v u t : World V) → t.words ≡ u.words → t.blocks ≡ u.blocks → t.boosted ≡ u.boosted
       → ((b : ℕ) → (b ≡ a → ⊥) → t.seats b ≡ u.seats b)
       → ReachedBy a v u → ReachedBy a v t

@@ -1,6 +1,6 @@
 -- Whether a call that was copied for finds room. Putting its gate back leaves the sets, the bases and their editions; so where its copy is
--- found stale without a further step, the definition asks for room for the outcome that the call has of the bases, and else for that of
--- its transaction's copies. One that finds room is answered, judged further or given up, and never refused.
+-- found stale without a further step, the definition asks for room for the outcome that the call has of the bases, and else for that of its
+-- transaction's copies. One that finds room is answered, judged further or aborted, and never refused.
 use Rattle.std.proofs.Common.{◌≡◌, ℕ, Bool, true, false, cond, List, [], ◌∷◌, Option, Some, None, inl, inr, refl, sym, ◌∙◌, ap, subst}
 use Rattle.std.proofs.Common.{eqb, eq-eqb, ne_eqb}
 use Rattle.std.proofs.lemmas.Bool.{cases_eq, cond-true, cond-false}

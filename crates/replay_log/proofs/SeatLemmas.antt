@@ -58,7 +58,7 @@ abbrev pub AtStoring : Place → Type 0
 AtStoring (machine.Store (l ∷ ls)) = Unit {0}
 AtStoring p = ⊥
 
--- a place of a transaction that can still be given up
+-- a place of a transaction that can still be aborted
 abbrev pub CanLeave : Place → Type 0
 CanLeave machine.Open = Unit {0}
 CanLeave (machine.Look k) = Unit {0}
@@ -108,7 +108,7 @@ pub Differ-front : (ks js : List ℕ) → Differ (ks ++ js) → Differ ks
 Differ-front [] js d = tt
 Differ-front (k ∷ ks) js d = (has-append ks js k d.0, Differ-front ks js d.1)
 
--- ---- what is left of a transaction that is given up
+-- ---- what is left of a transaction that is aborted
 pub record LeftAt (y z : Actor) : Type 0 where
   pub rv : z.rv ≡ y.rv
   pub wv : z.wv ≡ y.wv
@@ -352,7 +352,7 @@ module _ {V : Type 0} where
       (ask_goes (content w.words w.blocks) w.boosted a p q (ap (λ (u : Actor). u.place) k.own.actor ∙ e) f)
       (ap (λ (u : Actor). ask u p q) k.own.actor) k.own.shadow k.own.gates
 
-  -- ---- a transaction that is given up
+  -- ---- a transaction that is aborted
   pub cancels_linked : (w : World V) (a : ℕ) (x : Seat V) (y : Actor) (z : Copy V) (g : ℕ → Bool) → At w a y z g → ((k : ℕ) → g k ≡ false)
       → CanLeave y.place → InTx w.words x y z → Linked (cancels w a x)
   cancels_linked w a x y z g k none leave tx =

@@ -275,7 +275,7 @@ module _ {V : Type 0} where
       judges_sized u a x o d es (loads u a x o es) (lookup (actor_of u a).reads d.0) e refl h f
       (λ v old. loads_sized es u a x o e is h (fit_old y d.0 v (locations es) ws old (subst (λ ls. Fit y ls ws) (locations-cons d es) f)))
 
-  -- with a stale one among those that are judged without a step, the call is given up at once
+  -- with a stale one among those that are judged without a step, the call is aborted at once
   differs_sized : (u : World V) (a : ℕ) (x : Seat V) (o : Answered V) (d : ℕ × ℕ) (es : Entries) (next : After V) (others : Bool)
       (r : Option ℕ) → SmallAt u a → (others ≡ true → SizedAt next.0 a) → differs d others r ≡ true
       → SizedAt (judges u a x o d es next r).0 a
@@ -291,7 +291,7 @@ module _ {V : Type 0} where
       let reads = (u.boosted.words.actors a).reads in
       differs_sized u a x o d es (loads u a x o es) (is_stale reads es) (lookup reads d.0) h (stale_sized es u a x o h) e
 
-  -- the locations of a call fit the sets, or it is given up at once
+  -- the locations of a call fit the sets, or it is aborted at once
   abbrev FitsOrEnds : Content (Shown V) (Asked V) (Answered V) → Actor → Answered V → (ℕ → ℕ) → Type 0
   FitsOrEnds c y o editions = Fit y (c.reads o) (c.writes o) ⊎ (is_stale y.reads (with_editions editions (c.reads o)) ≡ true)
 

@@ -1,6 +1,6 @@
--- Each step, request and want of memory keeps what a world has of its machine: one lemma for each function of the definition,
--- in its order. The lemma takes the actor's own seat, record, shadow and gates as variables with their invariant, does the
--- actions of that function, and gives the invariant of the stage that it leads to; the other actors are handled once.
+-- Each step, request and failed allocation keeps what a world has of its machine: one lemma for each function of the definition, in its
+-- order. The lemma takes the actor's own seat, record, shadow and gates as variables with their invariant, does the actions of that
+-- function, and gives the invariant of the stage that it leads to; the other actors are handled once.
 use Rattle.std.proofs.Common.{◌≡◌, ℕ, zero, suc, ◌<◌, Bool, true, false, cond, not, ◌&&◌, ◌||◌, List, [], ◌∷◌, ◌++◌, filter, Some, ◌⊎◌, inl}
 use Rattle.std.proofs.Common.{inr, refl, sym, ◌∙◌, ap, subst, true≢false, arith, eqb, eq-eqb, ne_eqb, None}
 use Rattle.std.specs.Prelude.{nat_lt, if◌then◌else◌, ◌==◌}

@@ -1,5 +1,5 @@
--- A want of memory of an actor takes its request no further from its answer. Up to the first value store of a commit it gives the request
--- up, with the gates of its stage and the locks of its actor to be put back; and no stage is nearer to its answer than those are.
+-- A failed allocation of an actor takes its request no further from its answer. Up to the first value store of a commit it aborts the
+-- request, with the gates of its stage and the locks of its actor to be put back; and no stage is nearer to its answer than those are.
 use Rattle.std.proofs.Common.{◌≡◌, ℕ, ◌+◌, ◌<◌, ◌≤◌, List, [], ◌∷◌, length, refl, sym, ap, subst, arith}
 use Rattle.word_machine.proofs.Invariant.{PlaceOk}
 use Rattle.seq_model.specs.declared.refusal.Refusal.TheVariants as refusal
@@ -13,7 +13,7 @@ use Rattle.replay_log.proofs.SeatLemmas.{StageOk, Linked, CanLeave, at_of, readi
 use Rattle.replay_log.proofs.ProgressLemmas.{reading_held, read_nears, cancels_near, gives_up_nears}
 
 module _ {V : Type 0} where
-  -- it stays where it is
+  -- it remains where it is
   stays : (w : World V) (a : ℕ) (x : Seat V) (st : Stage V) → w.seats a ≡ x → x.stage ≡ st
       → left_of w a < measure.left_at st (w.boosted.words.actors a) + 1
   stays w a x st seat at =
@@ -22,7 +22,7 @@ module _ {V : Type 0} where
       subst (λ (q : Seat V). measure.left_at q.stage y < m + 1) (sym seat)
       (subst (λ (q : Stage V). measure.left_at q y < m + 1) (sym at) (omega arith))
 
-  -- it is given up, and these gates go back
+  -- it is aborted, and these gates go back
   ends : (w : World V) (a : ℕ) (x : Seat V) (ks : List ℕ) (m : ℕ) → Linked w → CanLeave (w.boosted.words.actors a).place
       → length ks + length (w.boosted.words.actors a).held + 2 < m → Nears a m (gives_up w a (because x refusal.Memory) ks)
   ends w a x ks m k leave less =

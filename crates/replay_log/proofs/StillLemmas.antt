@@ -1,4 +1,4 @@
--- A request and a want of memory do no atomic step: they leave the clock, the words and their locks, the gates and the bases, and the
+-- A request and a failed allocation do no atomic step: they leave the clock, the words and their locks, the gates and the bases, and the
 -- shadows of the other actors. One lemma for each function of the definition that an Ask or a Starve leads to.
 use Rattle.std.proofs.Common.{◌≡◌, ℕ, ◌+◌, Bool, true, false, cond, ◌&&◌, List, [], ◌∷◌, length, Option, Some, None, refl, ◌∙◌, eqb}
 use Rattle.std.specs.Prelude.{nat_lt}

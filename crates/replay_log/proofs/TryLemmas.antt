@@ -1,7 +1,7 @@
 -- How often a gate was tried. Where a request tries a gate for the first time, 63 tries are left after it. A step that tries it in vain
 -- leaves one less; no other step of the actor leads to a try, and what others do leaves its stage. So the steps of the actor before this
--- one, as many as are missing to 63, all tried this gate, and each found another's name in it; and whoever gives up for a busy gate has
--- done so 64 times.
+-- one, as many as are missing to 63, all tried this gate, and each found another's name in it; and whoever aborts for a busy gate has done
+-- so 64 times.
 use Rattle.std.proofs.Common.{◌≡◌, ◌≢◌, ℕ, suc, ◌+◌, true, false, cond, List, [], ◌∷◌, ◌++◌, Option, Some, None, inl, inr, refl, sym, ◌∙◌}
 use Rattle.std.proofs.Common.{ap, subst, true≢false, eq-eqb, ne_eqb, arith}
 use Rattle.std.proofs.lemmas.Bool.{cases_eq}

@@ -49,7 +49,7 @@ key_after_number :
 unfolding lookup put with_entry locations comes_before insert insert_commit
 key_after_number = refl
 
--- the number of keys is copied of all stripes, each with its edition: it is told again also where both had been written before
+-- the number of keys is copied of all stripes, each with its edition: it is answered again also where both had been written before
 number_again :
     told (begins 2 ∷ calls 2 0 (Put 1 10) ∷ calls 2 0 (Put 2 20) ∷ commits 2 ∷ begins 1 ∷ calls 1 0 Len ∷ calls 1 0 Len ∷ []) two_stripes
     ≡ Begun 2 0 ∷ Replied 2 ∷ Replied 2 ∷ Committed 2 1 ∷ Begun 1 1 ∷ Replied 1 ∷ Replied 1 ∷ []

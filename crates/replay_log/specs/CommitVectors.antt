@@ -26,7 +26,7 @@ one_key :
 unfolding lookup put with_entry locations comes_before insert insert_commit
 one_key = refl
 
--- two whose keys lie on different stripes both commit
+-- two whose keys are on different stripes both commit
 two_keys :
     told (begins 1 ∷ begins 2 ∷ calls 1 0 (Put 1 10) ∷ calls 2 0 (Put 2 20) ∷ asks_commit 1 ∷ asks_commit 2
     ∷ Steps 1 3 ∷ Steps 2 3 ∷ goes_on 1 ∷ goes_on 2 ∷ []) two_stripes
@@ -48,7 +48,7 @@ reader_first :
 unfolding lookup put with_entry locations comes_before insert insert_commit
 reader_first = refl
 
--- want of memory between the locks and the first value store: the number is lost, and what was held goes back
+-- an allocation fails between the locks and the first value store: the number is lost, and what was held is put back
 starved :
     leaves (begins 1 ∷ begins 3 ∷ calls 1 0 (Put 5 1) ∷ begins 2 ∷ calls 2 0 (Write 1) ∷ commits 2 ∷ asks_commit 1 ∷ Steps 1 5 ∷ Starves 1
     ∷ goes_on 1 ∷ begins 2 ∷ calls 2 0 (Write 2) ∷ commits 2 ∷ calls 3 0 (Get 5) ∷ commits 3 ∷ []) word_and_map
@@ -80,8 +80,8 @@ one_gate :
 unfolding lookup put with_entry locations comes_before insert insert_commit
 one_gate = refl
 
--- a second gate that stays busy for 64 tries: after four steps for the locks, the number, the first gate and the tries it takes four more,
--- which give the gate and both locks back and load the clock. So others find the gate and the locks free.
+-- a second gate that remains busy for 64 tries: after four steps for the locks, the number, the first gate and the tries it takes four
+-- more, which give the gate and both locks back and load the clock. So others find the gate and the locks free.
 busy_second_gate :
     leaves (begins 1 ∷ calls 1 0 (Put 1 10) ∷ calls 1 1 (Put 1 10) ∷ begins 2 ∷ asks_call 2 1 (Get 5) ∷ Steps 2 1 ∷ asks_commit 1
     ∷ Steps 1 73 ∷ Asks 1 request.Abort ∷ Steps 1 1 ∷ begins 3 ∷ calls 3 0 (Put 1 30) ∷ commits 3 ∷ goes_on 2 ∷ []) two_maps
@@ -116,7 +116,7 @@ stopped k =
     leaves (begins 1 ∷ calls 1 0 (Put 5 1) ∷ calls 1 0 (Write 7) ∷ asks_commit 1 ∷ Steps 1 k ∷ begins 2 ∷ calls 2 0 (Get 5) ∷ [])
     word_and_map
 
--- before its first value store: what is told of the other, and how that ends
+-- before its first value store: what the other is answered, and how that ends
 abbrev not_committed : List Told → List Lost → Left
 not_committed ts es = record { told = Begun 1 0 ∷ Replied 1 ∷ Replied 1 ∷ ts; records = []; aborted = es; half = []; words = 0 ∷ [] }
 
@@ -184,7 +184,7 @@ stopped_never :
 unfolding lookup put with_entry locations comes_before insert insert_commit
 stopped_never = refl
 
--- ---- a want of memory after so many steps of a request; then another gets the key, so nothing is held
+-- ---- a failed allocation after so many steps of a request; then another gets the key, so nothing is held
 abbrev starved_call : ℕ → List Told
 starved_call k =
     told (begins 1 ∷ asks_call 1 0 (Put 5 1) ∷ Steps 1 k ∷ Starves 1 ∷ goes_on 1 ∷ begins 2 ∷ calls 2 0 (Get 5) ∷ []) word_and_map

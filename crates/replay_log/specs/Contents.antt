@@ -28,7 +28,7 @@ block_of [] k = None
 block_of (b ∷ bs) zero = Some b
 block_of (b ∷ bs) (suc k) = block_of bs k
 
--- its first location, behind w words
+-- its first location, after w words
 abbrev pub first_of : ℕ → List Block → ℕ → ℕ
 first_of w [] k = w
 first_of w (b ∷ bs) zero = w
@@ -39,12 +39,12 @@ abbrev pub end_of : ℕ → List Block → ℕ
 end_of w [] = w
 end_of w (b ∷ bs) = end_of (w + size b) bs
 
--- the collection that a location lies in
+-- the collection that a location is in
 abbrev pub home_of : ℕ → List Block → ℕ → ℕ
 home_of w [] l = 0
 home_of w (b ∷ bs) l = if nat_lt l (w + size b) then 0 else suc (home_of (w + size b) bs l)
 
--- a location that lies in none
+-- a location that is in none
 abbrev pub is_plain : ℕ → List Block → ℕ → Bool
 is_plain w bs l = nat_lt l w || not (nat_lt l (end_of w bs))
 

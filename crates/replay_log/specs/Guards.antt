@@ -13,7 +13,7 @@ use Rattle.replay_log.specs.Contents.{Asked, content}
 use Rattle.replay_log.specs.Pieces.{covers_at}
 use Rattle.replay_log.specs.Worlds.{World, Stage, Idle, Open, Trying, Copying, Loading, Gating, Ready, Homing, Returning, asks, moves}
 
--- The machine does the action: its guard holds, and a step or a guarded request is due at the place of its actor. A try on a gate that
+-- The machine does the action: its guard holds, and a step or a guarded request is next at the place of its actor. A try on a gate that
 -- another holds is done too, and fails.
 abbrev pub Allows : {X Op Out : Type 0} → Content X Op Out → Boosted X Out → Action Op → Type 0
 Allows c s (OnWords (Ask a (AskWrite l v))) =

@@ -12,7 +12,7 @@ use Rattle.base_pq.specs.Conflicts as pq
 use Rattle.base_queue.specs.Conflicts as queue
 use Rattle.replay_log.specs.Base.{Shown, OfMap, OfBag, OfPq, OfQueue, after, changes_of, outcome_of, reads_of, writes_of}
 
--- the entries whose keys lie on this location
+-- the entries whose keys are on this location
 abbrev pub kept : {X : Type 0} → (ℕ → ℕ) → ℕ → FinMap nat_cmp X → FinMap nat_cmp X
 kept place l m = retain_keys m (λ k. place k == l)
 
@@ -21,7 +21,7 @@ abbrev pub overlaid : {X : Type 0} → List (ℕ × X) → FinMap nat_cmp X → 
 overlaid [] m = m
 overlaid (e ∷ es) m = insert (overlaid es m) e.0 e.1
 
--- of each of n locations the entries that lie on it
+-- of each of n locations the entries that are on it
 abbrev pub joined : {X : Type 0} → (ℕ → ℕ) → ℕ → (ℕ → FinMap nat_cmp X) → FinMap nat_cmp X
 joined place zero v = empty
 joined place (suc n) v = overlaid (entries (kept place n (v n))) (joined place n v)

@@ -26,7 +26,7 @@ pub data Stage (V : Type 0) : Type 0 where
   Gating : (got ks : List ℕ) → (tries : ℕ) → Stage V  -- the gate of the first of ks is tried
   Ready : (ks : List ℕ) → Stage V  -- all is locked, checked and held: the first value store, which commits
   Storing : (ks : List ℕ) → Stage V  -- the next value store
-  Homing : (ks : List ℕ) → Stage V  -- the base of the first of ks goes home
+  Homing : (ks : List ℕ) → Stage V  -- the base of the first of ks is put back
   Returning : (ks : List ℕ) → Stage V  -- refused: the gate of the first of ks is put back, its base unchanged
 
 -- An actor, and its transaction.
@@ -53,7 +53,7 @@ pub record World (V : Type 0) : Type 0 where
   pub records : List (ℕ × Record V)  -- committed, in commit order
   pub aborted : List (Ended V)  -- in the order of their ending
 
--- what an event leaves, and what it tells
+-- what an event leaves, and what it answers
 abbrev pub After : Type 0 → Type 0
 After V = World V × Notice V
 
@@ -84,6 +84,6 @@ module _ {V : Type 0} where
   abbrev pub actor_of : World V → ℕ → Actor
   actor_of w a = w.boosted.words.actors a
 
-  -- what the word machine's next step of a tells
+  -- what the word machine's next step of a answers
   abbrev pub word_notice : World V → ℕ → told.Notice
   word_notice w a = told.notice w.boosted.words (actor_of w a) (actor_of w a).place

@@ -19,7 +19,7 @@ IsConflict (Invalid l word) = Unit {0}
 IsConflict cause = ⊥
 
 module _ {V : Type 0} where
-  -- only a steps; the others may ask, and want memory
+  -- only a steps; the others may ask, and be out of memory
   abbrev pub IsAlone : ℕ → List (Event V) → Type 0
   IsAlone a [] = Unit {0}
   IsAlone a (Ask b q ∷ es) = IsAlone a es

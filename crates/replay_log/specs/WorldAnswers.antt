@@ -45,8 +45,8 @@ module _ {V : Type 0} where
       × (has_word_room (actor_of w a) call.target call.op ≡ true)
   IsCallAdmitted w a q = Unit {0}
 
-  -- The request is refused neither as NotIdle, NoTransaction or NoSuch, nor as TooLong for the limit of calls or for want of room for its
-  -- word.
+  -- The request is refused neither as NotIdle, NoTransaction or NoSuch, nor as TooLong for the limit of calls or since its word finds no
+  -- room.
   pub record IsAdmitted (w : World V) (a : ℕ) (q : Request V) : Type 0 where
     pub stands : (w.seats a).stage ≡ Open
     pub call : IsCallAdmitted w a q
@@ -55,9 +55,9 @@ module _ {V : Type 0} where
   IsRefusal (Refused a cause) = Unit {0}
   IsRefusal n = ⊥
 
-  -- A step of a at this stage, which leads from w to u, is refused so: none is due; the clock that it loads is at its limit; the
-  -- locations of a call don't fit the sets, and its transaction is as before it; or its transaction has ended, and the cause that was
-  -- found is told.
+  -- A step of a at this stage, which leads from w to u, is refused so: none is next; the clock that it loads is at its limit; the locations
+  -- of a call don't fit the sets, and its transaction is as before it; or its transaction has ended, and the cause that was found is
+  -- answered.
   abbrev pub IsRefusedAt : World V → ℕ → Stage V → World V → Refusal → Type 0
   IsRefusedAt w a Idle u cause = (cause ≡ NoTransaction) × Same w u
   IsRefusedAt w a Open u cause = (cause ≡ NoTransaction) × Same w u
@@ -67,7 +67,7 @@ module _ {V : Type 0} where
   IsRefusedAt w a Leaving u cause = ((w.seats a).cause ≡ Some cause) × ((u.seats a).stage ≡ Idle)
   IsRefusedAt w a stage u cause = ⊥
 
-  -- where this is told, P is so of the cause
+  -- where this is answered, P is so of the cause
   abbrev pub RefusedBy : ℕ → (Refusal → Type 0) → Notice V → Type 0
   RefusedBy a P (Refused b cause) = (b ≡ a) × P cause
   RefusedBy a P n = Unit {0}
@@ -76,13 +76,13 @@ module _ {V : Type 0} where
   abbrev pub copied_outcome : World V → ℕ → Asked V → Answered V
   copied_outcome w a asked = outcome_at (acted w (PutGate a asked.collection (covers_at w.words w.blocks asked) ∷ [])) a asked
 
-  -- TooLong is told where there is no room, and no refusal where there is
+  -- TooLong is answered where there is no room, and no refusal where there is
   abbrev pub IsTooLongUnless : ℕ → (room : Bool) → Notice V → Type 0
   IsTooLongUnless a true n = IsRefusal n → ⊥
   IsTooLongUnless a false n = n ≡ Refused a TooLong
 
-  -- What comes of a want of memory of a at this stage: it is refused where no request is under way; a begin is refused for it at once; up
-  -- to the first value store a request is given up for it; and then, and where it is given up already, nothing comes of it.
+  -- What comes of a failed allocation of a at this stage: it is refused where no request is under way; a begin is refused for it at once;
+  -- up to the first value store a request is aborted for it; and then, and where it is aborted already, nothing comes of it.
   abbrev pub IsStarved : World V → ℕ → Stage V → After V → Type 0
   IsStarved w a Idle r = r ≡ (w, Refused a NoTransaction)
   IsStarved w a Open r = r ≡ (w, Refused a NoTransaction)
@@ -95,7 +95,7 @@ module _ {V : Type 0} where
   IsStarved w a Leaving r = r ≡ (w, Quiet)
   IsStarved w a stage r = (is_ending (r.0.seats a).stage ≡ true) × ((r.0.seats a).cause ≡ Some OutOfMemory) × (r.1 ≡ Quiet)
 
-  -- a step at this stage stores a value, or takes a base home
+  -- a step at this stage stores a value, or puts a base back
   abbrev pub changes_at : Stage V → Bool
   changes_at (Ready ks) = true
   changes_at (Storing ks) = true

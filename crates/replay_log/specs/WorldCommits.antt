@@ -1,4 +1,4 @@
--- Commits in a world: locks, stamp and check; the gates of the written collections; the values; the bases home; the releases.
+-- Commits in a world: locks, stamp and check; the gates of the written collections; the values; the bases put back; the releases.
 use Rattle.std.specs.Prelude.{ℕ, Bool, true, not, if◌then◌else◌, List, [], ◌∷◌, filter}
 use Rattle.tx_sets.specs.Entries.{Entries, locations}
 use Rattle.word_machine.specs.Requests as word
@@ -54,7 +54,7 @@ module _ {V : Type 0} where
   has_locked w a x (told.Invalid l word) = gives_up w a (because x (refusal.Invalid l word)) []
   has_locked w a x n = (w, Quiet)
 
-  -- the bases go home one after another, and then the locks are released
+  -- the bases are put back one after another, and then the locks are released
   abbrev pub goes_home : World V → ℕ → Seat V → List ℕ → After V
   goes_home w a x [] = (seated (acted w (asks a word.AskRelease ∷ [])) a (at_stage x Releasing), Quiet)
   goes_home w a x (k ∷ ks) = (seated w a (at_stage x (Homing (k ∷ ks))), Quiet)

@@ -28,7 +28,7 @@ module _ {V : Type 0} where
   gives_up w a x [] = (cancels w a x, Quiet)
   gives_up w a x (k ∷ ks) = (seated w a (at_stage x (Returning (k ∷ ks))), Quiet)
 
-  -- an aborted transaction is told of by its last step
+  -- what the last step of an aborted transaction answers
   abbrev pub why : ℕ → Option Refusal → Notice V
   why a None = Answered a answer.Aborted
   why a (Some cause) = Refused a cause

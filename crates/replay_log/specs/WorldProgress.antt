@@ -78,8 +78,8 @@ module _ {V : Type 0} where
   steps_of a (Step b ∷ es) = if b == a then steps_of a es + 1 else steps_of a es
   steps_of a (e ∷ es) = steps_of a es
 
-  -- What this event tells answers the request of a that is under way, or refuses it: a step or a want of memory of a tells it. What a asks
-  -- for meanwhile is another request.
+  -- What this event answers is the answer to the request of a that is under way, or refuses it: a step or a failed allocation of a answers
+  -- it. What a asks for meanwhile is another request.
   abbrev pub IsAnswer : ℕ → Event V → Notice V → Type 0
   IsAnswer a (Ask b q) n = ⊥
   IsAnswer a (Step b) n = (b ≡ a) × (IsQuiet n → ⊥)

@@ -10,7 +10,7 @@ use Rattle.seq_model.specs.declared.refusal.Refusal.TheVariants.{Moved, Busy, St
 use Rattle.replay_log.specs.Worlds.{World, Stage, Open, Trying, Copying, Loading, Gating, Cancelling, Leaving, Returning, actor_of}
 
 module _ {V : Type 0} where
-  -- the transaction is being given up
+  -- the transaction is being aborted
   abbrev pub is_ending : Stage V → Bool
   is_ending Cancelling = true
   is_ending Leaving = true
@@ -24,7 +24,7 @@ module _ {V : Type 0} where
   is_calling (Copying asked) = true
   is_calling stage = false
 
-  -- at this stage the last try on the gate of k is due
+  -- at this stage the last try on the gate of k is next
   abbrev pub IsLastTry : Stage V → ℕ → Type 0
   IsLastTry (Trying asked tries) k = (asked.collection ≡ k) × (tries ≡ 0)
   IsLastTry (Gating got (i ∷ ks) tries) k = (i ≡ k) × (tries ≡ 0)
@@ -36,7 +36,7 @@ module _ {V : Type 0} where
   IsCopied w (Loading o es) l edition = Contains es (l, edition)
   IsCopied w stage l edition = ⊥
 
-  -- the step of a that is due touches the lock word of l, and finds it so
+  -- the step of a that is next touches the lock word of l, and finds it so
   abbrev pub IsFound : World V → ℕ → (l word : ℕ) → Type 0
   IsFound w a l word = (word_of (plan (actor_of w a) (actor_of w a).place) ≡ Some (LockCell l)) × (word ≡ bits (w.boosted.words.locks l))
 
@@ -51,7 +51,7 @@ module _ {V : Type 0} where
   IsCause w a stage u (GateBusy k) = IsLastTry stage k × ((b : ℕ) × (w.boosted.gates k ≡ Some b) × (b ≢ a))
   IsCause w a stage u cause = ⊥
 
-  -- where a's step from w to u begins to give its transaction up, the cause that it notes is true
+  -- where a's step from w to u begins to abort its transaction, the cause that it notes is true
   abbrev pub HasCause : World V → ℕ → Stage V → World V → Type 0
   HasCause w a stage u = is_ending (u.seats a).stage ≡ true → (cause : Refusal) × ((u.seats a).cause ≡ Some cause)
       × IsCause w a stage u cause

@@ -1,4 +1,4 @@
--- What a transaction keeps of its calls, and what is told of them.
+-- What a transaction keeps of its calls, and what they are answered.
 use Rattle.std.specs.Prelude.{◌≡◌, ◌⊎◌, ℕ, true, [], ◌∷◌, ◌++◌, Option, Some, None}
 use Rattle.seq_model.specs.declared.call.Call.{Call}
 use Rattle.seq_model.specs.declared.call.Op.TheVariants.{Read}
@@ -21,20 +21,21 @@ module _ {V : Type 0} where
   call_at (Loading o left) = Some (call_of o)
   call_at stage = None
 
-  -- What comes of a call of a, whose seat was x and is u: it is answered, and stands with the reply that is told behind those before it; or
-  -- it is refused; or it is under way still, or its transaction is being given up. But for the first nothing has joined the calls.
+  -- What comes of a call of a, whose seat was x and is u: it is answered, and stands with the reply that is returned after those before it;
+  -- or it is refused; or it is under way still, or its transaction is being aborted. But for the first nothing has joined the calls.
   abbrev pub IsMade : ℕ → Call V → (x u : Seat V) → Notice V → Type 0
   IsMade a call x u (Answered b (answer.Replied reply)) = (b ≡ a) × (u.stage ≡ Open) × (u.calls ≡ x.calls ++ (call, reply) ∷ [])
   IsMade a call x u (Answered b n) = ⊥
   IsMade a call x u (Refused b cause) = (b ≡ a) × (u.calls ≡ x.calls)
   IsMade a call x u Quiet = (u.calls ≡ x.calls) × ((call_at u.stage ≡ Some call) ⊎ (is_ending u.stage ≡ true))
 
-  -- The number of the record that a step at this stage tells of: a transaction without writes has that at which it began.
+  -- The number of the record that a step at this stage returns: a transaction without writes has that at which it began.
   abbrev pub number_at : Seat V → Stage V → ℕ
   number_at x Closing = x.rv
   number_at x stage = x.wv
 
-  -- What comes of anything else: the calls stay; one that begins, or has ended, has none. A commit is told with the number of its record.
+  -- What comes of anything else: the calls remain; one that begins, or has ended, has none. A commit is answered with the number of its
+  -- record.
   abbrev pub IsKept : ℕ → (stage : Stage V) → (x u : Seat V) → Notice V → Type 0
   IsKept a stage x u (Answered b (answer.Replied reply)) = ⊥
   IsKept a stage x u (Answered b (answer.Committed n)) = (b ≡ a) × (u.stage ≡ Idle) × (n ≡ number_at x stage)

@@ -1,5 +1,5 @@
--- Scripts of a world, to be computed: lines that ask and step, what they tell, and what they leave. Replies stay out, since finite maps
--- don't compute.
+-- Scripts of a world, to be computed: lines that ask and step, what they answer, and what they leave. Replies are left out, since finite
+-- maps don't compute.
 use Rattle.std.specs.Prelude.{ℕ, zero, suc, Bool, List, [], ◌∷◌, ◌++◌, length, Option}
 use Rattle.std.specs.FinMap.{empty}
 use Rattle.seq_model.specs.declared.call.Op.{Op}
@@ -31,13 +31,13 @@ hears (Answered a (answer.Committed n)) = Committed a n ∷ []
 hears (Answered a answer.Aborted) = Aborted a ∷ []
 hears (Refused a cause) = IsRefused a cause ∷ []
 
--- One line of a script: a request alone; with steps until it is answered; so many steps, up to the first notice; a want of memory.
+-- One line of a script: a request alone; with steps until it is answered; so many steps, up to the first notice; a failed allocation.
 pub data Line : Type 0 where
   Asks Does : (a : ℕ) → (q : Request ℕ) → Line
   Steps : (a n : ℕ) → Line
   Starves : (a : ℕ) → Line
 
--- what was told, or else what comes next
+-- what was answered, or else what comes next
 abbrev pub or_next : List Told → World ℕ → (World ℕ → World ℕ × List Told) → World ℕ × List Told
 or_next [] w next = next w
 or_next ts w next = (w, ts)

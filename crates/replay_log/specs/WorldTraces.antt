@@ -10,7 +10,7 @@ use Rattle.replay_log.specs.Base.{Shown, held_of}
 use Rattle.replay_log.specs.Contents.{Block, size, seen}
 use Rattle.replay_log.specs.Seats.{Stage, Releasing, Closing, Leaving, Ready, Storing, Homing, Seat, Ended, World}
 
--- what is told of a world at a moment
+-- the trace of a world at a moment
 pub record Trace (V : Type 0) : Type 0 where
   pub records : List (ℕ × Record V)
   pub aborted : List (Ended V)

@@ -1,4 +1,4 @@
--- A world of words and collections in which transactions overlap: what each event changes, and what it tells. A step is one atomic step,
+-- A world of words and collections in which transactions overlap: what each event changes, and what it answers. A step is one atomic step,
 -- a load or a change of one word of the table, with what follows of it without a step.
 use Rattle.std.specs.Prelude.{ℕ, false, List, [], ◌∷◌, ◌++◌, length, get_or, None}
 use Rattle.word_machine.specs.Requests as word
@@ -57,7 +57,7 @@ module _ {V : Type 0} where
   ask_at w a x Open q = ask_open w a x q
   ask_at w a x stage q = (w, Refused a refusal.NotIdle)
 
-  -- ---- a step, by what the word machine told of it
+  -- ---- a step, by what the word machine answered of it
   abbrev pub has_begun : World V → ℕ → Seat V → told.Notice → After V
   has_begun w a x (told.Begun rv) = (seated w a (record no_one { stage = Open; rv = rv }), Answered a (answer.Begun rv))
   has_begun w a x (told.Exhausted clock) = (seated w a no_one, Refused a (refusal.Exhausted clock))
@@ -90,7 +90,7 @@ module _ {V : Type 0} where
   step_at w a x Cancelling = has_cancelled (acted w (moves a ∷ [])) a x (word_notice w a)
   step_at w a x Leaving = ended (acted w (moves a ∷ [])) a x
 
-  -- ---- a want of memory: it ends a request up to the first value store
+  -- ---- a failed allocation: it ends a request up to the first value store
   abbrev pub starve_at : World V → ℕ → Seat V → Stage V → After V
   starve_at w a x Idle = (w, Refused a refusal.NoTransaction)
   starve_at w a x Open = (w, Refused a refusal.NoTransaction)

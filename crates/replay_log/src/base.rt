@@ -81,7 +81,7 @@ impl<V: Value> Base<V> {
         })
     }
 
-    /// What the collection holds, as a copy.
+    /// What the collection holds, as a copy. `Memory` where an allocation fails.
     pub fn held(&self) -> Result<Held<V>, Memory>
         ensures { IfOk result (λ held. held ≡ held_of (shown_of self.now)) }
     {
@@ -145,7 +145,8 @@ impl<V: Value> Base<V> {
         }
     }
 
-    /// Puts what the outcome changes, in order, into the list, in place of what that held.
+    /// Puts what the outcome changes, in order, into the list, in place of what that held. `Memory` where an allocation fails, which leaves
+    /// in the list what was put there.
     pub fn changes_into(
         &self,
         outcome: &Outcome<V>,
@@ -161,8 +162,8 @@ impl<V: Value> Base<V> {
         }
     }
 
-    /// Makes room for the changes. The collection stays as it is and keeps its room, also where memory is refused. Where there is
-    /// room already, nothing is refused. Of a priority queue only the stripes that the changes fall on are looked at.
+    /// Makes room for the changes. The collection is unchanged and keeps its room, also where an allocation fails. Where there is room
+    /// already, nothing is refused. Of a priority queue only the stripes that the changes fall on are looked at.
     #[inline(always)]
     pub fn prepare(&mut self, changes: &[Change<V>]) -> Result<(), Memory>
         ensures shown { shown_of self.new ≡ shown_of self.old }
@@ -249,8 +250,8 @@ impl<V: Value> Base<V> {
     }
 
     /// What `touch` copies, with the number of all keys in place of those of each stripe, which takes no pass over them, and with the
-    /// editions of all stripes in the memory of the list that is lent: it goes out with the touch, and the list is left empty. For one
-    /// key it stays as it is.
+    /// editions of all stripes in the memory of the list that is lent: it goes out with the touch, and the list is left empty. For one key
+    /// it is left as it is.
     pub fn touch_summed(&self, op: &Op<V>, lent: &mut LocationEditions) -> Result<Touch<V>, Refusal>
         ensures editions { IfOk result (λ touch. touch.editions
             ≡ editions_at (touched_places (stripes_of self.now) touch.held) (editions_of self.now)) }
@@ -281,7 +282,7 @@ impl<V: Value> Base<V> {
         }
     }
 
-    /// A collection that holds the same, with the same editions.
+    /// A collection that holds the same, with the same editions. `Memory` where an allocation fails.
     pub fn try_copy(&self) -> Result<Base<V>, Memory>
         ensures shown { IfOk result (λ copy. shown_of copy ≡ shown_of self.now) }
         ensures stripes { IfOk result (λ copy. stripes_of copy ≡ stripes_of self.now) }
@@ -296,7 +297,7 @@ impl<V: Value> Base<V> {
     }
 
     /// Becomes a collection that holds the same as the other, with its editions. A priority queue and a queue become it in the memory that
-    /// they have, as far as that suffices. Where memory is refused, what it holds is left open.
+    /// they have, as far as that suffices. Where an allocation fails, what it holds is left open.
     pub fn copy_from(&mut self, other: &Base<V>) -> Result<(), Memory>
         ensures shown { OnOk result (shown_of self.new ≡ shown_of other.now) }
         ensures stripes { OnOk result (stripes_of self.new ≡ stripes_of other.now) }

@@ -52,10 +52,10 @@ ghost use Rattle.replay_log.specs.Guards.{IsAllowed, IsAtRest, step_action};
 
 use seq_model::Value;
 
-/// What a call on a base answers depends on the locations that it reads alone, and what it changes lies in those that it writes,
-/// for each kind. So calls on one base that do not conflict commute, and changes that leave all parts but those of some locations
-/// commute with changes that leave all but those of others, on whatever a base shows. The changes of an outcome leave all but those of the
-/// locations that it writes.
+/// What a call on a base answers depends on the locations that it reads alone, and what it changes is on those that it writes, for each
+/// kind. So calls on one base that do not conflict commute, and changes that leave all parts but those of some locations commute with
+/// changes that leave all but those of others, on whatever a base shows. The changes of an outcome leave all but those of the locations
+/// that it writes.
 pub fn frame_laws<V: Value>()
     ensures map { FrameLaws (map.rules V) }
     ensures bag { FrameLaws (bag.rules V) }
@@ -91,8 +91,8 @@ pub fn part_laws<V: Value>()
     ensures by_part { ChangesByPart V }
 {}
 
-/// The collections of a world, whose locations stand behind its words, one block after another, keep the frame laws of a content.
-/// So whatever `collection_machine::laws` says of a world with collections holds of these four kinds, in any number and stripes.
+/// The collections of a world, whose locations come after its words, one block after another, keep the frame laws of a content. So whatever
+/// `collection_machine::laws` says of a world with collections holds of these four kinds, in any number and stripes.
 pub fn contents<V: Value>()
     ensures frame { (words : ℕ) (blocks : List Block) → HaveStripes blocks → Frame (content {V = V} words blocks) }
 {}
@@ -134,11 +134,11 @@ pub fn serial_worlds<V: Value>()
         commits_at x.stage ≡ true → IsLegal x.calls (state_at x.rv (run w later).records (record { words = values; held = held })) }
 {}
 
-/// What is told of a world at a moment. Where no commit is half done, the words and collections that it shows, each collection put
-/// together of the parts of its locations, are what its records leave, one whole transaction after another. A step commits by the
-/// first value store of a writer, or by the load of the clock that ends a transaction without writes, and puts the record of all its
-/// calls into its place in commit order; an aborted transaction is told of behind those that ended before it, with its actor, its
-/// number, its calls and its cause. Nothing else adds to the records or to the aborted transactions.
+/// The trace of a world at a moment. Where no commit is half done, the words and collections that it shows, each collection put together of
+/// the parts of its locations, are what its records leave, one whole transaction after another. A step commits by the first value store of
+/// a writer, or by the load of the clock that ends a transaction without writes, and puts the record of all its calls into its place in
+/// commit order; an aborted transaction is listed after those that ended before it, with its actor, its number, its calls and its cause.
+/// Nothing else adds to the records or to the aborted transactions.
 pub fn traces<V: Value>()
     ensures state { (blocks : List Block) (clock : ℕ) (values : List ℕ) (held : List (Held V)) (events : List (Event V)) →
         HaveStripes blocks → Suit blocks held →
@@ -155,10 +155,10 @@ pub fn traces<V: Value>()
         ((happens w (Starve a)).0.records ≡ w.records) × ((happens w (Starve a)).0.aborted ≡ w.aborted) }
 {}
 
-/// A transaction has the calls that were asked for, each once, with the reply that was told. A call that is asked is answered, refused,
-/// or under way; each step of its answers it, leaves it under way, refuses it, or gives its transaction up; and it joins the calls by
-/// its answer alone. Whatever else happens leaves the calls, until the transaction has ended; one that begins has none, and the number
-/// that was told. A commit is told with the number of its record.
+/// A transaction has the calls that were asked for, each once, with the reply that was returned. A call that is asked is answered, refused,
+/// or under way; each step of its answers it, leaves it under way, refuses it, or aborts its transaction; and it joins the calls by its
+/// answer alone. Whatever else happens leaves the calls, until the transaction has ended; one that begins has none, and the number that was
+/// returned. A commit returns the number of its record.
 pub fn calls<V: Value>()
     ensures asked { (w : World V) (a t : ℕ) (op : Op V) → (w.seats a).stage ≡ Open →
         let call : Call V = record { target = t; op = op } in
@@ -178,10 +178,9 @@ pub fn calls<V: Value>()
         IsKept a (w.seats a).stage (w.seats a) (r.0.seats a) r.1 }
 {}
 
-/// Half-done commits and numbers. The half-done commits are told by their numbers, each once and rising; each is the number of a
-/// writer's record, and of an actor that is between its first value store and its last release. A number that a commit took
-/// which is then given up is no writer's, from the step on that gives it up, while its gates and locks go back, and at every later
-/// moment.
+/// Half-done commits and numbers. The half-done commits are listed by their numbers, each once and rising; each is the number of a writer's
+/// record, and of an actor that is between its first value store and its last release. A number that a commit took which is then aborted is
+/// no writer's, from the step on that aborts it, while its gates and locks are put back, and at every later moment.
 pub fn numbers<V: Value>()
     ensures half_done { (blocks : List Block) (clock : ℕ) (values : List ℕ) (held : List (Held V)) (events : List (Event V)) →
         HaveStripes blocks → Suit blocks held →
@@ -193,8 +192,8 @@ pub fn numbers<V: Value>()
         is_ending (w.seats a).stage ≡ true → HasWritten (actor_of w a).wv (run w later).records → ⊥ }
 {}
 
-/// No guard of the machine refuses what a request does: wherever a request is under way, its next step does an action whose guard
-/// holds, at a place where it is due. So a request is never stuck.
+/// No guard of the machine refuses what a request does: wherever a request is under way, its next step does an action whose guard holds, at
+/// a place where it is next. So a request is never stuck.
 pub fn guards<V: Value>()
     ensures allowed { (blocks : List Block) (clock : ℕ) (values : List ℕ) (held : List (Held V)) (events : List (Event V)) (a : ℕ) →
         HaveStripes blocks →
@@ -202,11 +201,11 @@ pub fn guards<V: Value>()
         IsAllowed w (w.seats a).stage (step_action w a (w.seats a).stage) }
 {}
 
-/// Each own step of a request answers it, or brings it nearer to its answer; a want of memory of its actor, if it does not refuse it,
-/// takes it no further from its answer; and what others do leaves it where it is. Both sets of a transaction have at most 4,096
-/// locations at every moment, and no request is ever 1,000,000 own steps from its answer, where no call reads more locations than a
-/// set may have. What answers nothing leaves a step due, and what a step or a want of memory tells leaves none. So a request that is
-/// under way at any moment is answered within 1,000,000 of its actor's steps, whatever the others do, and whoever wants memory.
+/// Each own step of a request answers it, or brings it nearer to its answer; a failed allocation of its actor, if it does not refuse it,
+/// takes it no further from its answer; and what others do leaves it where it is. Both sets of a transaction have at most 4,096 locations
+/// at every moment, and no request is ever 1,000,000 own steps from its answer, where no call reads more locations than a set may have.
+/// What answers nothing leaves a step to take, and what a step or a failed allocation answers leaves none. So a request that is under way
+/// at any moment is answered within 1,000,000 of its actor's steps, whatever the others do, and whoever is out of memory.
 pub fn progress<V: Value>()
     ensures nearer { (blocks : List Block) (clock : ℕ) (values : List ℕ) (held : List (Held V)) (events : List (Event V)) (a : ℕ) →
         HaveStripes blocks → AreSmall blocks →
@@ -236,10 +235,10 @@ pub fn progress<V: Value>()
         (IsAtRest (w.seats a).stage → ⊥) → step_limit ≤ steps_of a later → IsAnsweredWithin a later w }
 {}
 
-/// A refusal is true. A step that begins to give a transaction up has found the cause that it notes: the word of which it loads or
-/// would exchange is named with its location, and stops its request; or the edition that was copied for the call is not the one
-/// that the transaction has read; or it is the last try on the gate, which another holds. The cause stays until the last step of the
-/// request tells it.
+/// A refusal is true. A step that begins to abort a transaction has found the cause that it notes: the word of which it loads or would
+/// exchange is named with its location, and stops its request; or the edition that was copied for the call is not the one that the
+/// transaction has read; or it is the last try on the gate, which another holds. The cause is unchanged until the last step of the request
+/// returns it.
 pub fn refusals<V: Value>()
     ensures causes { (blocks : List Block) (clock : ℕ) (values : List ℕ) (held : List (Held V)) (events : List (Event V)) (a : ℕ) →
         HaveStripes blocks →
@@ -250,9 +249,9 @@ pub fn refusals<V: Value>()
     ensures told { (w : World V) (a : ℕ) → (w.seats a).stage ≡ Leaving → (happens w (Step a)).1 ≡ why a (w.seats a).cause }
 {}
 
-/// A gate is tried 64 times. Where a request tries a gate, and `n` tries are left after this one, the last steps of its actor before
-/// it, as many as with this one and `n` make 64, all tried this gate, and each found it held by another. So a request that is given up
-/// for a busy gate has tried it 64 times, one step after another, and found it held by another each time.
+/// A gate is tried 64 times. Where a request tries a gate, and `n` tries are left after this one, the last steps of its actor before it, as
+/// many as with this one and `n` make 64, all tried this gate, and each found it held by another. So a request that is aborted for a busy
+/// gate has tried it 64 times, one step after another, and found it held by another each time.
 pub fn tries<V: Value>()
     ensures before { (blocks : List Block) (clock : ℕ) (values : List ℕ) (held : List (Held V)) (events : List (Event V)) (a k n : ℕ) →
         HaveStripes blocks →
@@ -267,12 +266,12 @@ pub fn tries<V: Value>()
         InVain start (events ++ Step a ∷ []) a k gate_tries }
 {}
 
-/// What a refusal says as it is answered. A request that is refused changes nothing. A step is refused where none is due, as a
-/// transaction begins at the limit of the clock, as a call that was copied for finds no room in the sets (its transaction is as
-/// before the call, with the same pieces copied), and by the last step of a request, which tells the cause that was found; and
-/// nowhere else. So a commit goes on from its first value store to its last release. A want of memory is refused where no request is
-/// under way. A begin is refused for it at once, and any other request is given up for it up to the first value store of a commit;
-/// from there on, and while a transaction is being given up, it changes nothing.
+/// What a refusal means as it is answered. A request that is refused changes nothing. A step is refused where none is to be taken, as a
+/// transaction begins at the limit of the clock, as a call that was copied for finds no room in the sets (its transaction is as before the
+/// call, with the same pieces copied), and by the last step of a request, which returns the cause that was found; and nowhere else. So a
+/// commit runs from its first value store to its last release. A failed allocation is refused where no request is under way. A begin is
+/// refused for it at once, and any other request is aborted for it up to the first value store of a commit; from there on, and while a
+/// transaction is being aborted, it changes nothing.
 pub fn answers<V: Value>()
     ensures asked { (w : World V) (a : ℕ) (q : Request V) → IsRefusal (happens w (Ask a q)).1 → Same w (happens w (Ask a q)).0 }
     ensures stepped { (blocks : List Block) (clock : ℕ) (values : List ℕ) (held : List (Held V)) (events : List (Event V)) (a : ℕ) →
@@ -302,10 +301,9 @@ pub fn rooms<V: Value>()
         IsTooLongUnless a (has_room (actor_of w a) (c.reads o) (c.writes o)) (happens w (Step a)).1 }
 {}
 
-/// When a request is refused as it is asked. While another is under way it is NotIdle, and so is one that begins where a transaction
-/// is open; where none is open and it begins none, it is NoTransaction. A call of what is not there is NoSuch, whatever else would
-/// refuse it, and only then one past the limit of calls is TooLong. None of them changes anything. Only an Abort gives a transaction
-/// up as it is asked.
+/// When a request is refused as it is asked. While another is under way it is NotIdle, and so is one that begins where a transaction is
+/// open; where none is open and it begins none, it is NoTransaction. A call of what is not there is NoSuch, whatever else would refuse it,
+/// and only then one past the limit of calls is TooLong. None of them changes anything. Only an Abort aborts a transaction as it is asked.
 pub fn asked<V: Value>()
     ensures under_way { (w : World V) (a : ℕ) (q : Request V) → (IsAtRest (w.seats a).stage → ⊥) →
         happens w (Ask a q) ≡ (w, Refused a NotIdle) }
@@ -324,9 +322,9 @@ pub fn asked<V: Value>()
         is_ending (w.seats a).stage ≡ false → is_ending ((happens w (Ask a q)).0.seats a).stage ≡ true → q ≡ Request.Abort }
 {}
 
-/// What a refusal leaves. A step stores a value only where a commit does, and changes a base only where a commit takes it home; so a
-/// transaction that is being given up leaves them. A lock that it holds keeps its old version until it goes back with it, one lock a
-/// step. An actor at rest holds no lock and no gate.
+/// What a refusal leaves. A step stores a value only where a commit does, and changes a base only where a commit puts it back; so a
+/// transaction that is being aborted leaves them. A lock that it holds keeps its old version until it is put back with it, one lock a step.
+/// An idle actor holds no lock and no gate.
 pub fn given_up<V: Value>()
     ensures untouched { (blocks : List Block) (clock : ℕ) (values : List ℕ) (held : List (Held V)) (events : List (Event V)) (a : ℕ) →
         HaveStripes blocks →
@@ -349,7 +347,8 @@ pub fn given_up<V: Value>()
 {}
 
 /// A transaction beside which no other actor steps between its begin and its end, and at whose begin no lock and no gate is held, is
-/// refused for no conflict; and for want of memory only where its own actor wants it. Meanwhile others may ask and want memory.
+/// refused for no conflict; and as Memory only where an allocation of its own actor fails. Meanwhile others may ask, and their allocations
+/// fail.
 pub fn alone<V: Value>()
     ensures never { (blocks : List Block) (clock : ℕ) (values : List ℕ) (held : List (Held V)) (events later : List (Event V)) (a : ℕ) →
         HaveStripes blocks →
@@ -363,8 +362,8 @@ pub fn alone<V: Value>()
         (e : Event V) → whose e ≡ a → IsUnstarved a (e ∷ []) → TellsMemory (happens (run w later) e).1 → ⊥ }
 {}
 
-/// A request and a want of memory do no atomic step: they leave the clock, the words and their locks, the gates, the bases and what
-/// the other actors have copied.
+/// A request and a failed allocation do no atomic step: they leave the clock, the words and their locks, the gates, the bases and what the
+/// other actors have copied.
 pub fn without_steps<V: Value>()
     ensures asked { (w : World V) (a : ℕ) (q : Request V) → Still a w.boosted (happens w (Ask a q)).0.boosted }
     ensures starved { (w : World V) (a : ℕ) → Still a w.boosted (happens w (Starve a)).0.boosted }
@@ -395,10 +394,10 @@ pub fn bounds<V: Value>()
 {}
 
 /// Editions. Each location that a call of an open transaction reads, at its place in the transaction, was read with the edition that the
-/// location has at the number at which the transaction began: how many records up to that number have calls that write it, each
-/// at its place in the run. So has whatever else it has read of a collection. Where a base has the edition that was read, it has the part
-/// that the location has in the state which the records up to that number leave; and so has what the transaction copied there. All of
-/// it stays so whatever happens later.
+/// location has at the number at which the transaction began: how many records up to that number have calls that write it, each at its
+/// place in the run. So has whatever else it has read of a collection. Where a base has the edition that was read, it has the part that the
+/// location has in the state which the records up to that number leave; and so has what the transaction copied there. All of it remains so
+/// whatever happens later.
 pub fn editions<V: Value>()
     ensures read { (blocks : List Block) (clock : ℕ) (values : List ℕ) (held : List (Held V)) (events later : List (Event V)) (a l : ℕ) →
         HaveStripes blocks → Suit blocks held →

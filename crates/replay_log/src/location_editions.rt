@@ -21,6 +21,7 @@ impl Model for LocationEditions {
 }
 
 impl LocationEditions {
+    /// No location. It takes no memory.
     pub fn new(alloc: Global) -> LocationEditions
         ensures { result ≡ [] }
     {
@@ -45,13 +46,14 @@ impl LocationEditions {
         self.entries.capacity()
     }
 
-    /// No location any more. The memory stays.
+    /// Takes all locations out. The memory is kept.
     pub fn clear(&mut self)
         ensures { self.new ≡ [] }
     {
         self.entries.clear();
     }
 
+    /// Adds a location with its edition after the last. `Memory` where an allocation fails, which leaves the list as it was.
     pub fn push(&mut self, entry: (u32, u64)) -> Result<(), Memory>
         ensures ok { OnOk result (self.new ≡ self.old ++ entry ∷ []) }
         ensures err { OnErr result (self.new ≡ self.old) }
@@ -60,6 +62,7 @@ impl LocationEditions {
         Ok(())
     }
 
+    /// The locations with their editions, as they were added.
     pub fn as_slice(&self) -> &[(u32, u64)]
         ensures { result.now ≡ self.now }
     {

@@ -49,7 +49,7 @@ impl<V: Drop> Log<V> {
         }
     }
 
-    /// Drops all changes, with their locations. The memory stays.
+    /// Drops all changes, with their locations. The memory is kept.
     pub fn clear(&mut self)
         ensures changes { self.new.changes ≡ [] }
         ensures locations { self.new.locations ≡ [] }
@@ -78,8 +78,8 @@ impl<V: Value> Log<V> {
         Ok(())
     }
 
-    /// Makes room for so many more changes, each with two locations. The log stays as it is and keeps its room, also where memory
-    /// is refused. Where there is room already, nothing is refused.
+    /// Makes room for so many more changes, each with two locations. The log is unchanged and keeps its room, also where an allocation
+    /// fails. Where there is room already, nothing is refused.
     #[inline(always)]
     pub fn reserve(&mut self, more: usize) -> Result<(), Memory>
         ensures changes { self.new.changes ≡ self.old.changes }

@@ -21,7 +21,7 @@ pub enum Touched<V> {
     Entry(u64, Option<V>),
     /// In a multiset, the element with the number of its copies.
     Copies(u64, u64),
-    /// Of a map, the number of keys on each stripe, in order: a key lies on that of its remainder.
+    /// Of a map, the number of keys on each stripe, in order: a key is on that of its remainder.
     Counts(Items<u64>),
     /// Of a map, the number of all its keys.
     Total(u64),

@@ -190,7 +190,7 @@ abbrev number_is : Option ℕ → ℕ → Bool
 number_is None n = false
 number_is (Some m) n = m == n
 
--- the search, behind a writer with the number last
+-- the search, after a writer with the number last
 abbrev pub double_behind : Option ℕ → List Turn → Option ℕ
 double_behind last [] = None
 double_behind last (t ∷ ts) = cond t.1 (double_behind last ts) (cond (number_is last t.0) (Some t.0) (double_behind (Some t.0) ts))
@@ -291,7 +291,7 @@ first_behind : (last : Option ℕ) (t : Turn) (ts : List Turn) → AllBehind las
 first_behind None t ts h = tt
 first_behind (Some w) t ts h = h.0
 
--- the counts behind a writer, with those of a writer before it
+-- the counts after a writer, with those of a writer before it
 abbrev both : Option ℕ → ℕ → List Turn → ℕ → ℕ
 both last k ts n = cond (number_is last n) 1 0 + (cond (k == n) 1 0 + count_by (writes_at n) ts)
 

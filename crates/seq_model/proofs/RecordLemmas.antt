@@ -29,7 +29,7 @@ module _ {V : Type 0} where
   pub later : (r x y : ℕ × Record V) → comes_before r x ≡ true → comes_before y x ≡ false → comes_before r y ≡ true
   later r x y h g = before_later r.1.number x.1.number y.1.number r.1.writes x.1.writes y.1.writes r.0 x.0 y.0 h g
 
-  -- every place behind one that the record comes before is one too
+  -- every place after one that the record comes before is one too
   after_first : (r x : ℕ × Record V) (xs : List (ℕ × Record V)) → comes_before r x ≡ true → IsInCommitOrder (x ∷ xs)
       → (j : ℕ) (d : ℕ × Record V) → j < length xs → comes_before r (get_or xs j d) ≡ true
   after_first r x [] h ordered j d lt = absurd (omega arith)

@@ -22,7 +22,7 @@ use Rattle.seq_model.proofs.AuditLemmas.{double_behind, tested_same}
 one_more : (i : ℕ) → suc i ≡ i + 1
 one_more i = omega arith
 
--- ---- the search for a shared number: behind turn i
+-- ---- the search for a shared number: after turn i
 at_writer : (t : Turn) (ts : List Turn) (last : Option ℕ) → t.1 ≡ false → last ≡ Some t.0 → double_behind last (t ∷ ts) ≡ Some t.0
 at_writer t ts last writes again =
     ap (λ o. double_behind o (t ∷ ts)) again ∙ cond-false t.1 _ _ writes ∙ cond-true (t.0 == t.0) _ _ (tested_same t.0)

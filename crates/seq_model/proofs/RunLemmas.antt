@@ -73,7 +73,7 @@ module _ {V : Type 0} where
   AllReadBehind r [] = Unit {0}
   AllReadBehind r (x ∷ xs) = (comes_before r x ≡ true → AllRead (x ∷ xs)) × AllReadBehind r xs
 
-  -- a reader that is legal at the end is legal in its place, where those behind it are readers too
+  -- a reader that is legal at the end is legal in its place, where those after it are readers too
   pub reader_inserted : (r : ℕ × Record V) (rs : List (ℕ × Record V)) (s : Contents V) → is_writer r.1.calls ≡ false → AllReadBehind r rs
       → IsRun rs s → IsLegal r.1.calls (after_run rs s) → IsRun (insert_record r rs) s × (after_run (insert_record r rs) s ≡ after_run rs s)
   reader_inserted r [] s reads behind h g = ((g, tt), after_reads r.1.calls s reads g)

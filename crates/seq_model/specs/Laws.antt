@@ -15,7 +15,7 @@ CallsDetermineReplies V =
     (one other : List (Call V × Reply V)) (s : Contents V) → IsLegal one s → IsLegal other s → map (λ c. c.0) one ≡ map (λ c. c.0) other
     → one ≡ other
 
--- calls after calls: legal where the second are legal at what the first leave, and that is where they go on from
+-- calls after calls: legal where the second are legal at what the first leave, and that is where they continue from
 abbrev pub CallsCompose : Type 0 → Type 0
 CallsCompose V =
     (first second : List (Call V × Reply V)) (s : Contents V)
@@ -53,13 +53,13 @@ abbrev pub AreReadersBehind : {V : Type 0} → ℕ × Record V → List (ℕ × 
 AreReadersBehind r [] = ⊤
 AreReadersBehind r (x ∷ xs) = (comes_before r x ≡ true → AreReaders (x ∷ xs)) × AreReadersBehind r xs
 
--- a reader that is legal at the end of a run is legal in its place, where those behind it are readers, and changes nothing there
+-- a reader that is legal at the end of a run is legal in its place, where those after it are readers, and changes nothing there
 abbrev pub InsertingAReaderKeepsTheRun : Type 0 → Type 0
 InsertingAReaderKeepsTheRun V =
     (r : ℕ × Record V) (rs : List (ℕ × Record V)) (s : Contents V) → is_writer r.1.calls ≡ false → AreReadersBehind r rs → IsRun rs s
     → IsLegal r.1.calls (after_run rs s) → IsRun (insert_record r rs) s × (after_run (insert_record r rs) s ≡ after_run rs s)
 
--- records that are a run between two states have no fault but a want of memory
+-- records that are a run between two states have no fault but a failed allocation
 abbrev pub RunsHaveNoFault : Type 0 → Type 0
 RunsHaveNoFault V = (opening last : Contents V) (records : List (Record V)) (fault : AuditFault) → IsRunBetween opening records last
     → IsAuditFault opening records last fault → fault ≡ OutOfMemory

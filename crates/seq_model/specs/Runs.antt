@@ -41,7 +41,7 @@ comes_before r x =
     else if x.1.writes then false
     else nat_lt r.0 x.0
 
--- a record in its place, behind those that it does not come before
+-- a record in its place, after those that it does not come before
 abbrev pub insert_record : {V : Type 0} → ℕ × Record V → List (ℕ × Record V) → List (ℕ × Record V)
 insert_record r [] = r ∷ []
 insert_record r (x ∷ xs) = if comes_before r x then r ∷ x ∷ xs else x ∷ insert_record r xs

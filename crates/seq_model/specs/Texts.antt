@@ -13,7 +13,7 @@ memory_text = codes "Memory"
 abbrev pub too_long_text : List ℕ
 too_long_text = codes "TooLong"
 
--- a fault of the records is told as one; its numbers are for the caller
+-- a fault of the records is reported as one; its numbers are for the caller
 abbrev pub audit_fault_text : AuditFault → List ℕ
 audit_fault_text fault.Memory = memory_text
 audit_fault_text _ = codes "audit fault"

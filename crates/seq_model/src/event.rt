@@ -1,4 +1,4 @@
-//! What happens in a world, and what its actors are told.
+//! What happens in a world, and what its actors are answered.
 ghost use Rattle.std.specs.Prelude.{◌≡◌, IfOk};
 
 use crate::call::{Call, Reply};
@@ -26,12 +26,12 @@ pub enum Request<V> {
     Abort,
 }
 
-/// What happens in a world: one actor asks, one atomic step of one actor's request, or a want of memory.
+/// What happens in a world: one actor asks, one atomic step of one actor's request, or an allocation that fails.
 #[derive(Debug, Drop)]
 pub enum Event<V> {
     Ask(u32, Request<V>),
     Step(u32),
-    /// The actor's request is refused memory, where it may still be.
+    /// An allocation for the actor's request fails, where one still may.
     Starve(u32),
 }
 
@@ -46,7 +46,7 @@ pub enum Answer<V> {
     Aborted,
 }
 
-/// What an event tells.
+/// What an event answers.
 #[derive(Debug, Drop)]
 pub enum Notice<V> {
     Quiet,
@@ -55,6 +55,7 @@ pub enum Notice<V> {
 }
 
 impl<V: Value> Request<V> {
+    /// An equal event. `Memory` where an allocation for its value fails.
     pub fn try_copy(&self) -> Result<Request<V>, Memory>
         ensures { IfOk result (λ copy. copy ≡ self.now) }
     {
@@ -69,6 +70,7 @@ impl<V: Value> Request<V> {
 }
 
 impl<V: Value> Event<V> {
+    /// An equal request. `Memory` where an allocation for its value fails.
     pub fn try_copy(&self) -> Result<Event<V>, Memory>
         ensures { IfOk result (λ copy. copy ≡ self.now) }
     {

@@ -51,7 +51,8 @@ impl<V> Reply<V> {
 }
 
 impl<V: Value> Entries<V> {
-    /// The sequential call on one map.
+    /// The sequential call on one map. `NoSuch` where a map doesn't know the call, `Memory` where an allocation fails; either leaves the
+    /// map as it was.
     pub fn apply(&mut self, op: &Op<V>) -> Result<Reply<V>, Refusal>
         ensures ok { IfOk result (λ reply. map_call op.now self.old ≡ Some (reply, self.new)) }
         ensures refused { IfErr result (λ refusal. IsRefusal refusal (map_call op.now self.old ≡ None)) }
@@ -201,7 +202,8 @@ impl<V> Held<V> {
 }
 
 impl<V: Value> Held<V> {
-    /// The sequential call on one collection.
+    /// The sequential call on one collection. `NoSuch` where it is of a kind that doesn't know the call, `Memory` where an allocation
+    /// fails; either leaves the collection as it was.
     pub fn apply(&mut self, op: &Op<V>) -> Result<Reply<V>, Refusal>
         requires { IsWithinLimits self.old }
         ensures within { IsWithinLimits self.new }
@@ -218,6 +220,7 @@ impl<V: Value> Held<V> {
         }
     }
 
+    /// An equal collection. `Memory` where an allocation fails.
     pub fn try_copy(&self, alloc: Global) -> Result<Held<V>, Memory>
         ensures { IfOk result (λ copy. copy ≡ self.now) }
     {

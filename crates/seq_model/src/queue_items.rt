@@ -22,6 +22,7 @@ impl Model for QueueItems {
 }
 
 impl QueueItems {
+    /// No items. It takes no memory.
     pub fn new(alloc: Global) -> QueueItems
         ensures { result ≡ [] }
     {
@@ -30,6 +31,7 @@ impl QueueItems {
         }
     }
 
+    /// These items, first to last, in the memory that they have.
     pub fn from_vec(items: Vec<u64>) -> QueueItems
         ensures { result ≡ items.items }
     {
@@ -38,6 +40,7 @@ impl QueueItems {
         }
     }
 
+    /// The items, first to last, in a vector. It takes no memory.
     pub fn into_vec(self) -> Vec<u64>
         ensures { result.items ≡ self }
     {
@@ -51,19 +54,21 @@ impl QueueItems {
         self.items.as_slices()
     }
 
+    /// How many items there are.
     pub fn len(&self) -> usize
         ensures { result ≡ length self.now }
     {
         self.items.len()
     }
 
+    /// The first item, if there is one.
     pub fn first(&self) -> Option<u64>
         ensures { result ≡ first_of self.now }
     {
         self.items.front().copied()
     }
 
-    /// Adds an item behind the last.
+    /// Adds an item after the last. `Memory` where an allocation fails, which leaves the items as they were.
     pub fn push(&mut self, item: u64) -> Result<(), Memory>
         ensures ok { OnOk result (self.new ≡ self.old ++ item ∷ []) }
         ensures err { OnErr result (self.new ≡ self.old) }
@@ -79,7 +84,7 @@ impl QueueItems {
         self.items.get(place).copied()
     }
 
-    /// Adds items behind the last.
+    /// Adds copies of items after the last. `Memory` where an allocation fails, which leaves the items as they were.
     pub fn append(&mut self, more: &QueueItems) -> Result<(), Memory>
         ensures ok { OnOk result (self.new ≡ self.old ++ more.now) }
         ensures err { OnErr result (self.new ≡ self.old) }
@@ -104,6 +109,7 @@ impl QueueItems {
         self.items.pop_front()
     }
 
+    /// Equal items. `Memory` where an allocation fails.
     pub fn try_copy(&self) -> Result<QueueItems, Memory>
         ensures { IfOk result (λ copy. copy ≡ self.now) }
     {
@@ -113,6 +119,7 @@ impl QueueItems {
         Ok(QueueItems::from_vec(items))
     }
 
+    /// Whether both have the same items in the same order.
     pub fn same(&self, other: &QueueItems) -> bool
         ensures { IsTrue result ↔ (self.now ≡ other.now) }
     {

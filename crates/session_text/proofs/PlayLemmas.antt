@@ -244,7 +244,8 @@ turns_done n k a b c d ws vs xs ms lt after first second turns = done_turns n k 
     (rw after at second) turns
 
 -- one more line
-plays_on : (ws : List Bool) (lines : List EventLine) (line : EventLine) (xs ys : List (Event ℕ)) (ms ns : List (Notice ℕ)) → length ns ≡ length ys
+plays_on : (ws : List Bool) (lines : List EventLine) (line : EventLine) (xs ys : List (Event ℕ)) (ms ns : List (Notice ℕ))
+    → length ns ≡ length ys
     → ArePlays ws lines xs ms → IsPlay (waiting_after ws xs ms) line ys ns → ArePlays ws (lines ++ line ∷ []) (xs ++ ys) (ms ++ ns)
 plays_on ws [] line xs ys ms ns paired none play =
     let now : IsPlay ws line ys ns = rw none.0 at play in (

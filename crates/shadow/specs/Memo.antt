@@ -58,7 +58,7 @@ counted_up n = if nat_lt n COPY_LIMIT then suc n else n
 abbrev pub with_key : {A : Type 0} → FinMap nat_cmp A → ℕ → A → FinMap nat_cmp A
 with_key known k a = if has_key known k then known else insert known k a
 
--- with the number of all keys; a total that is held stays
+-- with the number of all keys; a total that is held remains
 abbrev pub with_number : ℕ → Option ℕ → Option ℕ
 with_number n None = Some n
 with_number n (Some total) = Some total

@@ -16,17 +16,17 @@ ghost use Rattle.shadow.specs.Shadow.{IsFolded};
 
 use seq_model::Value;
 
-/// The log folded into the base that was copied gives what the shadow shows: it is so before the first call, and stays so with
-/// each acceptance, which appends its changes to the log and makes them on the copy.
+/// The log folded into the base that was copied gives what the shadow shows: it is so before the first call, and after each acceptance,
+/// which appends its changes to the log and makes them on the copy.
 pub fn folds<V: Value>()
     ensures first { (copied : Shown V) → IsFolded copied [] copied }
     ensures next { (copied shown : Shown V) (changes more : List (Change V)) →
         IsFolded copied changes shown → IsFolded copied (changes ++ more) (after more shown) }
 {}
 
-/// A memo is of a collection where that collection, after the accepted changes, shows what the memo keeps of each key held. With no
-/// key it is of every map, or of every multiset. It stays so as it holds what was touched of that collection, and with each
-/// acceptance, which holds the same keys. Its answer on a key that is held is then that collection's after the accepted changes.
+/// A memo is of a collection where that collection, after the accepted changes, shows what the memo keeps of each key held. With no key it
+/// is of every map, or of every multiset. It still is as it holds what was touched of that collection, and after each acceptance, which
+/// holds the same keys. Its answer on a key that is held is then that collection's after the accepted changes.
 pub fn memos<V: Value>()
     ensures map { (m : FinMap nat_cmp V) → IsOfBy (OfMap empty) empty empty [] (OfMap m) }
     ensures bag { (m : Multiset) → (let none : Shown V = OfBag empty in IsOfBy none empty empty [] (OfBag m)) }
@@ -45,10 +45,10 @@ pub fn memos<V: Value>()
         holds_by b es cs o.op ≡ true → holds_by b (entries_kept b o es) (copies_kept b o cs) op ≡ holds_by b es cs op }
 {}
 
-/// A memo of a map knows by how many keys the accepted calls made it grow and shrink, and with the number of keys, or the counts of
-/// all stripes, which may be touched before or after them, how many there were before. It is so with no key, and stays so as it holds
-/// what was touched of that map, and with each acceptance of a call that has the outcome that it has there. Its answer on the number
-/// of all keys, where that is held, is then that map's after the accepted changes.
+/// A memo of a map knows by how many keys the accepted calls made it grow and shrink, and with the number of keys, or the counts of all
+/// stripes, which may be touched before or after them, how many there were before. It is so with no key, as it holds what was touched of
+/// that map, and after each acceptance of a call that has the outcome that it has there. Its answer on the number of all keys, where that
+/// is held, is then that map's after the accepted changes.
 pub fn lengths<V: Value>()
     ensures map { (m : FinMap nat_cmp V) → IsCountedBy (OfMap empty) None 0 0 [] (OfMap m) }
     ensures added { (n : ℕ) (t : Touched V) (b s : Shown V) (total : Option ℕ) (grown shrunk : ℕ) (changes : List (Change V)) → 0 < n →
@@ -63,10 +63,10 @@ pub fn lengths<V: Value>()
         IsCountedBy b total (grown_kept b o grown) (shrunk_kept b o shrunk) (changes ++ changes_of o b) s }
 {}
 
-/// A memo is a copy of a collection where what it keeps is of each that answers alike every call whose key is held: so it stays one
-/// while other keys of the collection change. It is so with no key, stays so with what is touched of the collection, and with each
-/// acceptance of an answer of its own, after which the same keys are held. On a key that is held it answers as the collection does
-/// after the accepted changes.
+/// A memo is a copy of a collection where what it keeps is of each that answers alike every call whose key is held: so it still is one
+/// while other keys of the collection change. It is so with no key, with what is touched of the collection, and after each acceptance of an
+/// answer of its own, after which the same keys are held. On a key that is held it answers as the collection does after the accepted
+/// changes.
 pub fn copies<V: Value>()
     ensures map { (m : FinMap nat_cmp V) → IsCopyBy (OfMap empty) empty empty None 0 0 [] (OfMap m) }
     ensures bag { (m : Multiset) → (let none : Shown V = OfBag empty in IsCopyBy none empty empty None 0 0 [] (OfBag m)) }

@@ -54,7 +54,7 @@ pub struct Memo<V> {
     grown: u64,
     shrunk: u64,
     log: Log<V>,
-    // Whether the next acceptance is ready: the change that it appends, and the location that it writes. Else both are of no meaning.
+    // Whether the next acceptance is ready: the change that it appends, and the location that it writes. Else both are unused.
     is_ready: bool,
     change: Option<Change<V>>,
     written: Option<u32>,
@@ -99,7 +99,7 @@ impl<V> Model for Memo<V> {
 }
 
 impl<V: Drop> Memo<V> {
-    /// Keeps no key any more, and no accepted call. The memory stays.
+    /// Keeps no key any more, and no accepted call. The memory is kept.
     pub fn clear(&mut self)
         ensures blank { self.new.blank ≡ self.old.blank }
         ensures entries { self.new.entries ≡ map.empty }
@@ -119,7 +119,7 @@ impl<V: Drop> Memo<V> {
         self.log.clear();
     }
 
-    /// Hands the log of the accepted changes out, and keeps no key any more. The other memory stays.
+    /// Hands the log of the accepted changes out, and keeps no key any more. The other memory is kept.
     pub fn take_log(&mut self) -> Log<V>
         ensures changes { result.changes ≡ self.old.changes }
         ensures locations { result.locations ≡ self.old.locations }
@@ -226,8 +226,8 @@ impl<V: Value> Memo<V> {
         }
     }
 
-    /// Holds from now on the key that was touched, or the number of all; what is held stays as it is, and what was made ready is so no
-    /// more. A memo that is refused memory stays as it was; 2^63 keys or more are refused so.
+    /// Holds from now on the key that was touched, or the number of all; what is held is unchanged, and what was made ready is so no more.
+    /// `Memory`, where an allocation fails or the map has 2^63 keys or more, leaves what is held.
     pub fn add(&mut self, touch: Touch<V>) -> Result<(), Memory>
         ensures blank { self.new.blank ≡ self.old.blank }
         ensures entries { OnOk result (self.new.entries ≡ with_entry touch.held self.old.entries) }
@@ -334,7 +334,7 @@ impl<V: Value> Memo<V> {
         (self.total.unwrap_or(0) + self.grown).saturating_sub(self.shrunk)
     }
 
-    /// Makes ready what accepting the outcome will take. But for that the memo stays as it is, also where memory is refused.
+    /// Makes ready what accepting the outcome will take. But for that the memo is unchanged, also where an allocation fails.
     pub fn ready(&mut self, outcome: &Outcome<V>) -> Result<(), Memory>
         ensures ok { OnOk result (IsReadyFor outcome.now self.new) }
         ensures blank { self.new.blank ≡ self.old.blank }
@@ -377,7 +377,7 @@ impl<V: Value> Memo<V> {
         self.accept_in_place(&mut outcome);
     }
 
-    /// What `accept` does, of an outcome that is lent: its reply stays, its operation is left open.
+    /// What `accept` does, of an outcome that is lent: its reply is unchanged, its operation is left open.
     pub fn accept_in_place(&mut self, outcome: &mut Outcome<V>)
         requires ready { IsReadyFor outcome.old self.old }
         ensures entries { self.new.entries ≡ entries_kept (shown_of self.old.blank) outcome.old self.old.entries }
@@ -404,7 +404,8 @@ impl<V: Value> Memo<V> {
         }
     }
 
-    /// The locations that an outcome reads, as in an empty collection of its kind and stripes.
+    /// The locations that an outcome reads, as in an empty collection of its kind and stripes. `Memory` where an allocation fails; up to
+    /// eight locations take none.
     pub fn reads(&self, outcome: &Outcome<V>) -> Result<LocSet, Memory>
         ensures { IfOk result (λ set. set ≡ reads_of (stripes_of self.now.blank) outcome.now (shown_of self.now.blank)) }
     {
@@ -425,7 +426,7 @@ impl<V: Value> Memo<V> {
         }
     }
 
-    /// The locations that an outcome writes there.
+    /// The locations that an outcome writes there, one at most. They take no memory.
     pub fn writes(&self, outcome: &Outcome<V>) -> Result<LocSet, Memory>
         ensures { IfOk result (λ set. set ≡ writes_of (stripes_of self.now.blank) outcome.now (shown_of self.now.blank)) }
     {
@@ -435,8 +436,8 @@ impl<V: Value> Memo<V> {
         }
     }
 
-    /// Where the key of an outcome lies, which is all that it reads, and whether it writes there, which is all that it writes; none for
-    /// an outcome on no key.
+    /// The location of the key of an outcome, which is all that it reads, and whether it writes there, which is all that it writes; none
+    /// for an outcome on no key.
     pub fn key_place(&self, outcome: &Outcome<V>) -> Option<KeyPlace>
         ensures reads { IfSome result (λ at.
             reads_of (stripes_of self.now.blank) outcome.now (shown_of self.now.blank) ≡ at.location ∷ []) }

@@ -64,7 +64,7 @@ impl<V: Drop> Shadow<V> {
         log
     }
 
-    /// Hands the log of the accepted changes out. The other memory stays.
+    /// Hands the log of the accepted changes out. The other memory is kept.
     pub fn take_log(&mut self) -> Log<V>
         ensures changes { result.changes ≡ self.old.changes }
         ensures locations { result.locations ≡ self.old.locations }
@@ -103,8 +103,8 @@ impl<V: Value> Shadow<V> {
         self.log.clear();
     }
 
-    /// The copy becomes one of this base, in the memory that it has as far as that suffices. Where memory is refused, what it shows is left
-    /// open. The log of other calls stays, so this is for one that is renewed then.
+    /// The copy becomes one of this base, in the memory that it has as far as that suffices. Where an allocation fails, what it shows is
+    /// left open. The log of other calls is kept, so this is for one that is renewed then.
     pub fn copy_from(&mut self, base: &Base<V>) -> Result<(), Memory>
         ensures shown { OnOk result (shown_of self.new.base ≡ shown_of base.now) }
         ensures stripes { OnOk result (stripes_of self.new.base ≡ stripes_of base.now) }
@@ -129,8 +129,8 @@ impl<V: Value> Shadow<V> {
         self.base.outcome(op)
     }
 
-    /// Makes ready what accepting the outcome will take. What the shadow shows, its editions and its log stay as they are, also
-    /// where memory is refused.
+    /// Makes ready what accepting the outcome will take. What the shadow shows, its editions and its log are unchanged, also where an
+    /// allocation fails.
     pub fn ready(&mut self, outcome: &Outcome<V>) -> Result<(), Memory>
         ensures ok { OnOk result (IsReadyFor outcome.now self.new) }
         ensures shown { shown_of self.new.base ≡ shown_of self.old.base }
@@ -150,8 +150,8 @@ impl<V: Value> Shadow<V> {
         Ok(())
     }
 
-    /// Accepts the outcome, which has been made ready: its changes are made on the copy and appended to the log. It takes no
-    /// memory and is never refused. The editions stay those of the copy.
+    /// Accepts the outcome, which has been made ready: its changes are made on the copy and appended to the log. It takes no memory and is
+    /// never refused. The editions are those of the copy.
     pub fn accept(&mut self, outcome: Outcome<V>)
         requires ready { IsReadyFor outcome self.old }
         ensures shown { shown_of self.new.base ≡ after (changes_of outcome (shown_of self.old.base)) (shown_of self.old.base) }
@@ -164,7 +164,7 @@ impl<V: Value> Shadow<V> {
         self.accept_in_place(&outcome);
     }
 
-    /// What `accept` does, of an outcome that stays where it lies.
+    /// What `accept` does, of an outcome that is left in its place.
     pub fn accept_in_place(&mut self, outcome: &Outcome<V>)
         requires ready { IsReadyFor outcome.now self.old }
         ensures shown { shown_of self.new.base ≡ after (changes_of outcome.now (shown_of self.old.base)) (shown_of self.old.base) }

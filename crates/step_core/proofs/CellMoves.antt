@@ -1,6 +1,6 @@
--- A step of the cells is the machine's. The world that has these cells and this actor is given: what the step finds there is what the
--- cells hold, so the machine's actor becomes the code's, its word becomes the one that was stored, and it tells what the code answers.
--- A load leaves the cells; a store puts one number in the place of another.
+-- A step of the cells is the machine's. The world that has these cells and this actor is given: what the step finds there is what the cells
+-- hold, so the machine's actor becomes the code's, its word becomes the one that was stored, and it answers what the code answers. A load
+-- leaves the cells; a store puts one number in the place of another.
 use Rattle.std.proofs.Common.{◌≡◌, ℕ, zero, suc, ◌+◌, ◌<◌, ◌≤◌, ◌^◌, ◌*◌, List, [], ◌∷◌, Ok, Err, Option, Some, None, length, get_or, set}
 use Rattle.std.proofs.Common.{refl, sym, ap, ◌∙◌, subst, inl, inr, arith, drop, eqb, eq-eqb, ne_eqb, get_or-set_same, get_or-set_other}
 use Rattle.std.specs.Prelude.{unwrap_or}
@@ -332,7 +332,7 @@ undoes w x y r e word at_p hs inn is own says = let es = drop 1 x.held.items in 
       says ∙ ap (λ (z : Entries). result_of (last_notice z Cancelled)) (sym hs),
     )))
 
--- where no step is due, none is taken
+-- where no step is next, none is taken
 pub rests : (w : Cells) (x : Actor) (p : Place) → x.place ≡ p
     → ((s : World) (a : ℕ) → step s a (actor_of x) (place_of x.reads.entries x.writes.entries p) ≡ s)
     → ((s : World) → notice s (actor_of x) (place_of x.reads.entries x.writes.entries p) ≡ NoTransaction)

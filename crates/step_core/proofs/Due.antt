@@ -1,5 +1,5 @@
--- A request that is not refused and not answered at once leaves its actor a step to do. What the phase allows goes to a place where a
--- step is due, or is answered; so the cases are those of the table of phases.
+-- A request that is not refused and not answered at once leaves its actor a step to do. What the phase allows goes to a place where a step
+-- is next, or is answered; so the cases are those of the table of phases.
 use Rattle.std.proofs.Common.{◌≡◌, ℕ, ◌<◌, Bool, true, false, Option, Some, None, Result, Ok, Err, [], ◌∷◌, length, refl, sym, ap, ◌∙◌}
 use Rattle.std.proofs.Common.{subst, arith, true≢false}
 use Rattle.std.specs.Prelude.{IfOk}

@@ -22,7 +22,7 @@ All-one : (P : ℕ × ℕ → Type 0) (e : ℕ × ℕ) → P e → All P (e ∷ 
 All-one P e p zero d h = p
 All-one P e p (suc k) d h = absurd (omega (arith, h))
 
--- a set within its limit stays so, where a new location finds a place left
+-- a set within its limit remains so, where a new location finds a place left
 few-with_entry : (es : Entries) (l v : ℕ) → IsRising es → length es ≤ LOCATION_LIMIT → (lookup es l ≡ None → length es < LOCATION_LIMIT)
     → length (with_entry es l v) ≤ LOCATION_LIMIT
 few-with_entry es l v rise few room = go (lookup es l) refl

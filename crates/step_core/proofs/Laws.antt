@@ -80,7 +80,7 @@ opaque_of v r = record {
   aborted = λ q later. aborted_later later (world_of v q) (reached q.clock q.opening q.events);
 }
 
--- the numbers of records, and of commits that gave up
+-- the numbers of records, and of commits that aborted
 pub numbered_of : (v : Shown) → Reached v → AreNumbered v
 numbered_of v r =
     let s = world_of v r in
@@ -145,7 +145,7 @@ begins_above v u a answer r st at_begin at_open =
     subst (λ (x : machine.Actor). AllUpto x.rv (in_order [] v.history)) (after.actors a)
     (subst (λ (h : List Record). AllUpto ((happens s (Step a)).actors a).rv h) r.shows.history all)
 
--- a step that goes on answers nothing
+-- a step that continues answers nothing
 goes_on : (n : Notice) → result_of n ≡ Ok None → IsAnswered n → ⊥
 goes_on Quiet e h = h
 goes_on NoTransaction e h = (let b : ⊥ = cc in b)

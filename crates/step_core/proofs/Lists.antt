@@ -75,7 +75,7 @@ quick x i wv e some n = drop_end x.reads.entries i (omega (arith, n))
 pub slow : (x : Actor) (wv : ℕ) → (x.rv ≡ wv - 1 → ⊥) → locations x.reads.entries ≡ to_check (actor_of x) wv
 slow x wv ne = sym (cond-false (eqb (x.rv + 1) wv) [] (locations x.reads.entries) (ne_eqb (x.rv + 1) wv (λ q. ne (omega (arith, q)))))
 
--- nothing is left behind the last
+-- nothing is left after the last
 pub none_left : (es : Entries) (i : ℕ) (n : Notice) → length es ≤ i → when_none_left (drop i (locations es)) n ≡ n
 none_left es i n h = ap (λ (z : List ℕ). when_none_left z n) (drop_end es i h)
 

@@ -275,7 +275,7 @@ owed_here w a x v got = omega (arith, v.clock, among w.actors.items a got)
         ap (λ (u : Actor). owed u.place) e in omega (arith, g))
     among (z ∷ zs) (suc i) h = omega (arith, among zs i h)
 
--- a step keeps the bounds: it takes no number that was not owed, and adds no record that was not due
+-- a step keeps the bounds: it takes no number that was not owed, and adds no record that was not to come
 pub sound_next : (w t : Machine) (a : ℕ) (x y : Actor) → Sound w → slice_get w.actors.items a ≡ Some x
     → Fits (length w.cells.locks.items) y → HaveLength w.cells t.cells → Grows w.cells x t.cells y
     → t.actors.items ≡ slice_set w.actors.items a y → vec_len t.history + due y.place ≤ vec_len w.history + due x.place
@@ -299,7 +299,7 @@ sound_next w t a x y v got fits like grows xs dues most =
       room = omega (arith, v.room, dued, all, dues, most);
     }
 
--- there is room for a record that is due
+-- there is room for a record that is next
 pub due_here : (w : Machine) (a : ℕ) (x : Actor) → slice_get w.actors.items a ≡ Some x → Sound w → due x.place ≡ 1
     → vec_len w.history < vec_capacity w.history
 due_here w a x got v one = omega (arith, v.room, among w.actors.items a got, one)

@@ -18,7 +18,7 @@ pub record AreCells (w : Cells) (s : World) : Type 0 where
   pub locks : (l : ℕ) → s.locks l ≡ unbits (get_or w.locks.items l 0)
   pub values : (l : ℕ) → s.values l ≡ get_or w.values.items l 0
 
--- In every world with the cells w, of which x is an actor, the next step of x leaves the cells t and the actor y, and tells r.
+-- In every world with the cells w, of which x is an actor, the next step of x leaves the cells t and the actor y, and answers r.
 abbrev pub StepsOn : Cells → Actor → Cells → Actor → Result (Option WordAnswer) WordRefusal → Type 0
 StepsOn w x t y r =
     (s : World) (a : ℕ) → AreCells w s → s.actors a ≡ actor_of x

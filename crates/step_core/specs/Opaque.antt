@@ -39,7 +39,7 @@ IsAnswerOf s x answer = let n = notice s x x.place in (answer ≡ result_of n) �
 abbrev pub IsAtRest : Shown → Type 0
 IsAtRest v = (a : ℕ) → IsHalfDone (actor_in v a).place → ⊥
 
--- The calls of actor a's transaction are legal at the words of number n, and stay so whatever happens later, also if it then commits.
+-- The calls of actor a's transaction are legal at the words of number n, and remain so whatever happens later, also if it then commits.
 pub record Saw (v : Shown) (a n : ℕ) : Type 0 where
   pub now : (r : Reached v) → IsLegal (words_at r.opening v n) (actor_in v a).calls
   pub later : (r : Reached v) (events : List Event) → IsLegal (memory_at (run events (world_of v r)) n) (actor_in v a).calls
@@ -55,7 +55,7 @@ pub record Opaque (v : Shown) : Type 0 where
   pub aborted : (r : Reached v) (later : List Event)
       → let s = world_of v r in AllEnded (λ e. IsLegal (memory_at (run later s) e.rv) e.calls) s.aborted
 
--- No record's number is above the clock, and the number of a commit that gives up is no writer's, now and at every later moment.
+-- No record's number is above the clock, and the number of a commit that aborts is no writer's, now and at every later moment.
 pub record AreNumbered (v : Shown) : Type 0 where
   pub upto : AllUpto v.clock (in_order [] v.history)
   pub unused : (r : Reached v) (a : ℕ) (later : List Event) → IsEnding (actor_in v a).place

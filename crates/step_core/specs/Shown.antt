@@ -43,12 +43,12 @@ place_of r w Undo = machine.Undo
 place_of r w Leave = machine.Leave
 place_of r w Close = machine.Close
 
--- a call as the machine has it
+-- a call of the machine
 abbrev pub call_of : WordCall → machine.Call
 call_of (Read l v) = machine.Read l v
 call_of (Write l v) = machine.Write l v
 
--- an actor's record as the machine has it
+-- an actor's record in the machine
 abbrev pub actor_of : Actor → machine.Actor
 actor_of x =
     record {
@@ -74,7 +74,7 @@ asked x request = ask (actor_of x) (actor_of x).place request
 abbrev pub Replies : Actor → Request → Option WordAnswer → Type 0
 Replies x request answer = Ok answer ≡ result_of (reply (actor_of x) (actor_of x).place request)
 
--- a committed transaction as the machine has it
+-- a committed transaction of the machine
 abbrev pub record_of : WordRecord → world.Record
 record_of r = record { actor = r.actor; number = r.number; writer = r.writes; calls = map call_of r.calls }
 
@@ -115,7 +115,7 @@ listed rs GoesOn = rs
 listed rs (Commits r) = rs ++ r ∷ []
 listed rs (Aborts e) = rs
 
--- u has as many words as v, and lists behind the records of v what a step with this outcome has committed
+-- u has as many words as v, and lists after the records of v what a step with this outcome has committed
 abbrev pub Lists : Shown → Outcome → Shown → Type 0
 Lists v o u = (length u.values ≡ length v.values) × (u.history ≡ listed v.history o)
 
@@ -141,7 +141,7 @@ abbrev pub refusal_of : Shown → ℕ → Request → Option WordRefusal
 refusal_of v a request =
     if is_actor a then refusal_at (length v.values) (actor_in v a) (actor_in v a).place request else Some NoSuch
 
--- a refusal is the one named, or else want of memory
+-- a refusal is the one named, or else an allocation failed
 abbrev pub IsRefusal : Option WordRefusal → WordRefusal → Type 0
 IsRefusal (Some named) refusal = refusal ≡ named
 IsRefusal None refusal = refusal ≡ OutOfMemory

@@ -83,7 +83,7 @@ IsLoad (Fetch l k) = Unit {0}
 IsLoad (Again l k v) = Unit {0}
 IsLoad p = ⊥
 
--- what a load takes that leaves its actor here: room for one read, where it was told, and else none
+-- what a load takes that leaves its actor here: room for one read, where it was answered, and else none
 abbrev pub taken_at : Place → ℕ
 taken_at Open = 1
 taken_at p = 0

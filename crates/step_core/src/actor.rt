@@ -125,7 +125,8 @@ impl Actor {
         self.writes.in_order()[i]
     }
 
-    /// The load of the clock that begins a transaction.
+    /// The load of the clock that begins a transaction, at this reading (TL2, DISC 2006). `Exhausted` from `CLOCK_LIMIT` on, which leaves
+    /// the actor without a transaction.
     pub fn begin(&mut self, clock: u64) -> Result<Option<WordAnswer>, WordRefusal>
         ensures actor { actor_of self.new ≡ begun (actor_of self.old) clock }
         ensures answer { result ≡ result_of (begin_notice clock) }
@@ -147,7 +148,7 @@ impl Actor {
         Ok(Some(WordAnswer::Begun(clock)))
     }
 
-    /// The first load of a lock word.
+    /// The first load of a lock word. `Moved` where it is locked, or newer than the transaction, which is then to be undone.
     pub fn look(&mut self, location: u32, word: u64) -> Result<Option<WordAnswer>, WordRefusal>
         requires place { self.old.place ≡ Look location }
         ensures actor { actor_of self.new ≡ seen (actor_of self.old) location (unbits word) }
@@ -167,7 +168,7 @@ impl Actor {
         }
     }
 
-    /// The load of a value.
+    /// The load of a value. It is never refused.
     pub fn fetch(
         &mut self,
         location: u32,
@@ -184,7 +185,8 @@ impl Actor {
         Ok(None)
     }
 
-    /// The second load of a lock word.
+    /// The second load of a lock word: the read is kept. `Moved` where the word is not free at the version of the first load; the
+    /// transaction is then to be undone.
     #[inline(always)]
     pub fn again(
         &mut self,
@@ -216,7 +218,8 @@ impl Actor {
         }
     }
 
-    /// The load of a lock word of the write set.
+    /// The load of a lock word of the write set, which is to be locked next. `Busy` where it is locked; the locks taken so far are then to
+    /// be given back.
     pub fn to_lock(
         &mut self,
         location: u32,
@@ -244,8 +247,8 @@ impl Actor {
         }
     }
 
-    /// Where the check begins that a commit of this number has to make: behind the last entry of
-    /// the read set where no other commit took a number since the transaction began.
+    /// Where the check begins that a commit of this number has to make: after the last entry of the read set where no other commit took a
+    /// number since the transaction began.
     fn first_to_check(&self, clock: u64) -> usize
         requires positive { 0 < clock }
         ensures left { drop result (locations self.now.reads.entries) ≡ to_check (actor_of self.now) clock }
@@ -258,7 +261,8 @@ impl Actor {
         }
     }
 
-    /// The number of the commit, from the clock.
+    /// The number of the commit, which the clock has now. Where no other commit took a number since the transaction began, nothing is to be
+    /// checked. It is never refused.
     pub fn stamp(&mut self, clock: u64) -> Result<Option<WordAnswer>, WordRefusal>
         requires clock { clock < 2 ^ 63 }
         requires positive { 0 < clock }
@@ -289,7 +293,7 @@ impl Actor {
         self.place = Place::Lock(i);
     }
 
-    /// The next place of a check that went on, and its answer.
+    /// The next place of a check that has passed, and its answer.
     fn pass(&mut self, i: usize) -> Option<WordAnswer>
         requires place { self.old.place ≡ Check i }
         requires inside { i < length self.old.reads.entries }
@@ -318,7 +322,8 @@ impl Actor {
         WordRefusal::Invalid { location, word }
     }
 
-    /// The load of a lock word of the read set.
+    /// The load of a lock word of the read set. `Invalid` where it is newer than the transaction, or locked by another; the locks are then
+    /// to be given back.
     pub fn check(
         &mut self,
         location: u32,

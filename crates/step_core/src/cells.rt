@@ -159,7 +159,7 @@ impl Cells {
         Ok(Some(WordAnswer::Ended))
     }
 
-    /// The load of the clock that commits a transaction without writes.
+    /// The load of the clock that commits a transaction without writes. It is never refused.
     pub fn close(&self, actor: &mut Actor) -> Result<Option<WordAnswer>, WordRefusal>
         requires place { actor.old.place ≡ Close }
         ensures steps { StepsOn self.now actor.old self.now actor.new result }
@@ -170,7 +170,7 @@ impl Cells {
         Ok(Some(WordAnswer::Ended))
     }
 
-    /// The first value store, which commits.
+    /// The first value store, which commits. It is never refused.
     pub fn first(&mut self, actor: &mut Actor) -> Result<Option<WordAnswer>, WordRefusal>
         requires fits { Fits (length self.old.locks.items) actor.old }
         requires same { length self.old.values.items ≡ length self.old.locks.items }
@@ -234,7 +234,8 @@ impl Cells {
         self.locks[entry.0 as usize] = 2 * entry.1;
         Ok(answer)
     }
-    /// The next atomic step of an actor, where one is due.
+    /// The next atomic step of an actor, and the answer to its request, if this step brings it. `Exhausted`, `Moved`, `Busy` and `Invalid`
+    /// as TL2 has them (DISC 2006), which the actor's place says; `NoTransaction` where there is no step to take, which changes nothing.
     pub fn step(&mut self, actor: &mut Actor) -> Result<Option<WordAnswer>, WordRefusal>
         requires fits { Fits (length self.old.locks.items) actor.old }
         requires same { length self.old.values.items ≡ length self.old.locks.items }

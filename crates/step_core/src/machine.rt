@@ -34,7 +34,7 @@ pub struct Machine {
     pub history: Vec<WordRecord>,
 }
 
-/// As many actors without a transaction as there are seats.
+/// As many actors without a transaction as there are seats. The allocation may fail.
 pub fn seats(alloc: Global) -> Result<Vec<Actor>, AllocError>
     ensures count { IfOk result (λ v. length v.items ≡ SEATS) }
     ensures blank { IfOk result (λ v. AreBlank v.items) }
@@ -46,7 +46,7 @@ pub fn seats(alloc: Global) -> Result<Vec<Actor>, AllocError>
     Ok(actors)
 }
 
-/// So many lock words, all free at version 0.
+/// So many lock words, all free at version 0. The allocation may fail.
 pub fn zeros(alloc: Global, count: usize) -> Result<Vec<u64>, AllocError>
     ensures count { IfOk result (λ v. length v.items ≡ count) }
     ensures zero { IfOk result (λ v. AreZero v.items) }
@@ -112,7 +112,8 @@ impl Machine {
         answer
     }
 
-    /// The next atomic step of an actor.
+    /// The next atomic step of an actor, and the answer to its request, if this step brings it. A commit joins the history. Refused like
+    /// `Cells::step`.
     pub fn step(&mut self, a: usize) -> Result<Option<WordAnswer>, WordRefusal>
         requires sound { Sound self.old }
         requires actor { a < length self.old.actors.items }
@@ -157,7 +158,8 @@ impl Machine {
         actor.snapshot()
     }
 
-    /// A request of an actor, which changes its own record alone.
+    /// A request of an actor, which changes its own record alone. `Memory` where an allocation fails, which changes nothing; what else may
+    /// refuse it, `refusal` says before.
     pub fn ask(&mut self, a: usize, request: WordRequest) -> Result<Option<WordAnswer>, WordRefusal>
         requires sound { Sound self.old }
         requires allowed { refusal_of (shown self.old) a (request_of request) ≡ None }

@@ -76,14 +76,13 @@ impl Words {
         })
     }
 
-    /// Asks an actor for something, and gives the answer where it takes no step.
+    /// Asks an actor for something, and returns the answer where it takes no step.
     ///
-    /// `NoSuch` for an actor that is not 1 to 64, `NotIdle` where a request is unanswered or a begin
-    /// is asked inside a transaction, `NoTransaction` for another request that the phase lacks,
-    /// `NoSuch` for a location that there is not and for a write of a declared reader, `TooLong` for
-    /// one more than 4,096 in a set, in this order, and `Memory` where none of these holds and a
-    /// growth was refused. A refused request changes nothing. Release, Cancel and Abort take no memory, so what has stored a value
-    /// can always go on, and what holds a lock can always give it back.
+    /// `NoSuch` for an actor that is not 1 to 64, `NotIdle` where a request is unanswered or a begin is asked inside a transaction,
+    /// `NoTransaction` for another request that the phase lacks, `NoSuch` for a location that there is not and for a write of a declared
+    /// reader, `TooLong` for one more than 4,096 in a set, in this order, and `Memory` where none of these holds and an allocation fails. A
+    /// refused request changes nothing. Release, Cancel and Abort take no memory, so what has stored a value can always continue, and what
+    /// holds a lock can always give it back.
     pub fn ask(
         &mut self,
         actor: u32,
@@ -112,8 +111,8 @@ impl Words {
 
     /// The next atomic step of an actor, and the answer to its request, if this step brings it.
     ///
-    /// `Moved`, `Busy` and `Invalid` name the location at which the actor stood and the lock word that
-    /// this step found there, `Exhausted` the clock; `NoTransaction` where no step is due. It takes no memory.
+    /// `Moved`, `Busy` and `Invalid` name the location at which the actor stood and the lock word that this step found there, `Exhausted`
+    /// the clock; `NoTransaction` where there is no step to take. It takes no memory.
     pub fn step(&mut self, actor: u32) -> Result<Option<WordAnswer>, WordRefusal>
         ensures steps { Steps self.old actor self.new result }
         ensures others { KeepsOthers self.old actor self.new }

@@ -43,7 +43,7 @@ module _ {V : Type 0} where
       → slice_get t.bases.items k ≡ Some base → IsBaseIn v w k base
   base_in v t w k base has shape at = record { shows = has.bases k base at; fit = λ b is. shape.fit k b base is at }
 
-  -- the word actor rests, and a declared reader keeps no reads
+  -- the word actor is idle, and a declared reader keeps no reads
   pub rests_to_copy : CopiesReached V → (v : BlocksView) (k : ℕ) (t : Table V) (r : TxActor V) → next_of (stage_of r.stage) ≡ next.Copy k
       → IsSeated v t r → HasNoReads r.words
   rests_to_copy on v k t r due s = there.rests_to_copy on s.opening s.world s.actor k r due s.reached s.runs

@@ -22,7 +22,7 @@ use Rattle.step_world.specs.Reached.{IsReached}
 use Rattle.step_world.proofs.TraceLemmas.{take_all}
 use Rattle.step_world.proofs.FeedLemmas.{fed_none, fed_one}
 
--- a want of memory once an opening was within the limits
+-- a failed allocation once an opening was within the limits
 pub memory_refused : {A O F : Type 0} → (r : Result A Refusal) → (¬ O) × F → IsErrAnd r (λ e. e ≡ OutOfMemory)
     → IfErr r (λ e. IsNoSuchOrTooLong e O F)
 memory_refused {A} {O} {F} (Ok x) fits h = tt

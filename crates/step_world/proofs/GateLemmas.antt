@@ -1,7 +1,7 @@
 -- A step of a call on a collection, which copies it under its gate or loads one of its locations, leaves its actor without a gate.
 --
 -- A load changes no gate, and its actor holds none; what is copied is copied as the gate is put back, which was the only one that its actor
--- held. So no base is left to the actor to go home.
+-- held. So the actor has no base left to put back.
 use Rattle.std.proofs.Common.{◌≡◌, ◌≢◌, ℕ, true, false, true≢false, [], ◌∷◌, None, inl, inr, refl, sym, ap, ◌∙◌, subst, eqb, eqb-true}
 use Rattle.std.proofs.lemmas.Bool.{cases_Bool, cases_eq, cond-false}
 use Rattle.word_machine.specs.Cells.{word_of}

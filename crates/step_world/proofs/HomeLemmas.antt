@@ -1,5 +1,5 @@
--- A base that goes home makes of the table and of its actor what it makes of the world: the table folds the log of the actor's calls into
--- the base as the world does, and the actor goes on as in each world that events have reached.
+-- A base that is put back makes of the table and of its actor what it makes of the world: the table folds the log of the actor's calls into
+-- the base as the world does, and the actor continues as in each world that events have reached.
 use Rattle.std.proofs.Common.{◌≡◌, ℕ, zero, suc, ◌<◌, ◌^◌, List, [], ◌∷◌, Some, length, slice_get, refl}
 use Rattle.std.proofs.Common.{sym, ◌∙◌, subst, arith}
 use Rattle.std.specs.List.{All}
@@ -44,7 +44,7 @@ item_here (x ∷ xs) zero low = (x, refl)
 item_here (x ∷ xs) (suc k) low = item_here xs k (omega (arith, low))
 
 module _ {V : Type 0} where
-  -- ---- the action on the table, as its contract has it
+  -- ---- the action on the table, like its contract
   abbrev pub FoldsHome : Table V → Table V → ℕ → List (Change V) → List ℕ → Type 0
   FoldsHome t u k changes locations =
       (blocks : List Block) (clock : ℕ) (values : List ℕ) (held : List (Held V)) (events : List (Event V)) (a : ℕ) (b : Block)

@@ -1,4 +1,4 @@
--- A base that goes home leaves its actor what is still left to it, and the other actors what they have.
+-- A base that is put back leaves its actor what is still left to it, and the other actors what they have.
 --
 -- It frees its gate, and who has a base left holds its gate: so the base is left to nobody afterwards, and the bases that are left stand,
 -- with what their actors have of them. The event leaves all that its actor's transaction has, and takes its stage on by this base alone.
@@ -45,7 +45,7 @@ use Rattle.step_world.proofs.RoomLemmas.{gate_left, left_from, linked_after, not
 use Rattle.actor_turns.proofs.SeatLemmas.{stage_by}
 
 module _ {V : Type 0} where
-  -- ---- the actor, where a base of its commit goes home next
+  -- ---- the actor, where a base of its commit is put back next
   is_left : (t : own.Stage V) (k : ℕ) → next_of (stage_of t) ≡ next.GoHome k → Contains (homes_left t) k
   is_left t k due =
       let at = homing_is t k due in
@@ -64,7 +64,7 @@ module _ {V : Type 0} where
       let has : OwnsHomes r w a at.0.items = subst (λ (p : own.Stage V). HasCopiesAt r w a p) at.1 h in
       has j (subst (λ (p : own.Stage V). Contains (homes_left p) j) at.1 c)
 
-  -- ---- what may go home
+  -- ---- what may be put back
   pub may_go : (c : Parts V) (i k : ℕ) (r : TxActor V) → HasWorld c → slice_get c.actors.items i ≡ Some r
       → next_of (stage_of r.stage) ≡ next.GoHome k → MayGoHome k c.table r
   may_go c i k r has got due =

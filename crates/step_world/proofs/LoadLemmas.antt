@@ -1,5 +1,5 @@
--- A step of the words while the locations of a call are read: it is the machine's on the table, and then what the actor makes of what the
--- load told, as in each world that shows the actor.
+-- A step of the words while the locations of a call are read: it is the machine's on the table, and then what the actor makes of the answer
+-- to the load, as in each world that shows the actor.
 use Rattle.std.proofs.Common.{◌≡◌, ℕ, true, Option, Result, sym, ◌∙◌}
 use Rattle.seq_model.specs.declared.event.Event.TheVariants.{Step}
 use Rattle.replay_log.specs.Worlds.{happens, moves}

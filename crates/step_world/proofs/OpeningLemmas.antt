@@ -1,4 +1,4 @@
--- A world opens with these parts: no actor has a transaction, so none may take a number, and nothing is to go home.
+-- A world opens with these parts: no actor has a transaction, so none may take a number, and nothing is to be put back.
 use Rattle.std.proofs.Common.{◌≡◌, ℕ, zero, suc, ◌+◌, ◌≤◌, List, [], ◌∷◌, ◌++◌, map, Some, None, length}
 use Rattle.std.proofs.Common.{refl, sym, ap, subst, arith}
 use Rattle.std.specs.Prelude.{slice_get}

@@ -1,4 +1,4 @@
--- What an event leaves of what its actor has of collections, and of what the others have, as the turns of a world have it.
+-- What an event leaves of what its actor has of collections, and of what the others have, like the turns of a world.
 use Rattle.std.proofs.Common.{◌≡◌, ℕ, false}
 use Rattle.word_machine.specs.Notices as told
 use Rattle.seq_model.specs.declared.event.Event.TheVariants.{Ask, Starve, Step}

@@ -178,7 +178,7 @@ module _ {V : Type 0} where
         told = λ o w reached h. (turn.turns o w reached h.laid h.table (h.seats i r got).runs (h.seats i r got).copies).2;
       }
 
-  -- ---- a want of memory
+  -- ---- a failed allocation
   pub starve_happens : (c : Parts V) (i : ℕ) (r s : TxActor V) (n : Told V) → slice_get c.actors.items i ≡ Some r → Starves r s n
       → KeepsOwn c.blocks (Starve (i + 1)) c.table r s → KeepsRoom (Starve (i + 1)) c.table r c.table s → KeepsIn c.blocks r s
       → Happens c (Starve (i + 1)) (with_turn c c.table i s) n

@@ -1,7 +1,7 @@
 -- Making room in bases changes nothing that they hold.
 --
--- So a table stays that of each world of which it was, and keeps its shape; and the room that one base has been given stays while the next
--- is given its.
+-- So a table is still that of each world of which it was, and keeps its shape; and the room that one base has been given is unchanged while
+-- the next is given its.
 use Rattle.std.proofs.Common.{◌≡◌, ℕ, zero, suc, ◌+◌, ◌-◌, ◌<◌, ◌≤◌, List, [], ◌∷◌, Some, length, slice_get, get_or, refl, sym, ap}
 use Rattle.std.proofs.Common.{◌∙◌, subst, arith, inl, inr}
 use Rattle.std.specs.Prelude.{set, slice_index, slice_index_or}
@@ -113,7 +113,7 @@ module _ {V : Type 0} where
         });
   }
 
-  -- ---- the room that a base has stays
+  -- ---- the room that a base has is unchanged
   room_stays : (t u : Table V) (cs : List (CopyOf V)) (k : ℕ) → AreAlike t.bases.items u.bases.items → HasRoomAt t cs k → HasRoomAt u cs k
   room_stays t u cs k alike room = λ b at. (
       let f = alike.each k b at in

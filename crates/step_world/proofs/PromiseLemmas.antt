@@ -146,7 +146,8 @@ module _ {V : Type 0} where
     others = λ b ne. laws.stand w e b ne;
     as_far = λ b ne. laws.others w e b ne;
     begins = λ a rv at told. reached_begins laws o w h a rv (subst (λ (x : Event V). (happens w x).1 ≡ Answered a (Begun rv)) at told);
-    cause = λ a at going. subst (λ (x : Event V). HasCause w a (w.seats a).stage (happens w x).0) (sym at) (reached_cause laws o w h a going);
+    cause = λ a at going.
+        subst (λ (x : Event V). HasCause w a (w.seats a).stage (happens w x).0) (sym at) (reached_cause laws o w h a going);
     nearer = λ a at small. subst (λ (x : Event V). Nears a (left_of w a) (happens w x)) (sym at) (reached_nearer laws o w h a small);
     starved = λ a at.
         subst (λ (x : Event V). IsQuiet (happens w x).1 → left_of (happens w x).0 a ≤ left_of w a) (sym at) (reached_starved laws o w h a);
@@ -185,7 +186,7 @@ module _ {V : Type 0} where
   pub small_opened : (c : Parts V) (w : World V) → IsWorld c w → AreSmall w.blocks → AreSmall c.blocks.blocks
   small_opened c w h small = subst AreSmall h.laid.1 small
 
-  -- the collections stay as small as they were
+  -- the collections are as small as they were
   pub small_fed : OthersStand V → (c d : Parts V) (e : Event V) (n : Notice V) → HasWorld c → Feeds c e d n → AreSmall c.blocks.blocks
       → AreSmall d.blocks.blocks
   small_fed stand c d e n well feeds small =

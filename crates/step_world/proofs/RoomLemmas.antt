@@ -1,9 +1,9 @@
--- The bases that are left to an actor to go home keep room for the logs of its calls there.
+-- The bases that an actor has left to put back keep room for the logs of its calls there.
 --
--- An actor that is past its first value store holds the gate of each collection whose base is still to go home. So a base that goes home,
--- which frees its gate, is left to no actor afterwards; and the other bases stand. A step that changes no base leaves its actor with no
--- more bases than before, but for the first value store, which leaves it with those whose gates it held; a request finds it without a
--- gate, and a want of memory before the first value store ends its commit.
+-- An actor that is past its first value store holds the gate of each collection whose base is still to be put back. So a base that is put
+-- back, which frees its gate, is left to no actor afterwards; and the other bases stand. A step that changes no base leaves its actor with
+-- no more bases than before, but for the first value store, which leaves it with those whose gates it held; a request finds it without a
+-- gate, and a failed allocation before the first value store ends its commit.
 use Rattle.std.proofs.Common.{◌≡◌, ◌≢◌, ◌⊎◌, ℕ, zero, suc, Bool, true, false, true≢false, List, [], ◌∷◌, Option, Some, inl, inr}
 use Rattle.std.proofs.Common.{refl, sym, ap, ◌∙◌, subst, arith, eqb, eqb-true, eq-eqb, slice_get}
 use Rattle.std.specs.Prelude.{All, Contains, slice_index_or}
@@ -138,7 +138,7 @@ module _ {V : Type 0} where
   pub room_none : (u : Table V) (s : TxActor V) → ((k : ℕ) → Contains (homes_left s.stage) k → ⊥) → HasRoomLeft u s
   room_none u s none = of_each (HasRoomAt u s.copies.items) (homes_left s.stage) (λ k c. absurd (none k c))
 
-  -- ---- a want of memory
+  -- ---- a failed allocation
   up_not_half : (w : World V) (a : ℕ) (x : Seat V) (ks : List ℕ) → is_half_done ((gives_up w a x ks).0.seats a).stage ≡ false
   up_not_half w a x [] =
       let v = (gives_up w a x []).0 in
@@ -174,7 +174,7 @@ module _ {V : Type 0} where
     others = λ o w b q reached runs there h. h;
   }
 
-  -- ---- a request, at rest in a transaction: no gate is its actor's
+  -- ---- a request in an open transaction: no gate is its actor's
   open_none : (w v : World V) (a k : ℕ) (s : TxActor V) → Linked w → Linked v → v.boosted.gates k ≡ w.boosted.gates k
       → (w.seats a).stage ≡ Open → Runs a s v → Contains (homes_left s.stage) k → ⊥
   open_none w v a k s linked after same at runs c =
@@ -198,7 +198,7 @@ module _ {V : Type 0} where
     others = λ o w b p reached runs there h. h;
   }
 
-  -- and where it was refused memory
+  -- and where an allocation failed for it
   pub room_stands : (o : Contents V) (w : World V) (a : ℕ) (t : Table V) (r s : TxActor V) → IsReached o w → Apart r s → Runs a r w
       → Runs a s w → HasRoomLeft t r → HasRoomLeft t s
   room_stands o w a t r s reached apart runs there h =

@@ -41,7 +41,7 @@ use Rattle.world_table.specs.States.{held_in}
 use Rattle.world_table.proofs.StateLemmas as tables
 use Rattle.step_world.proofs.WorldLemmas.{shape_laid}
 
--- one number more behind the others, and one in front
+-- one number more after the others, and one in front
 swapped : (b c : Bool) (n m : ℕ) (ns : List ℕ)
     → (if b then m ∷ with_number c n ns else with_number c n ns) ≡ with_number c n (if b then m ∷ ns else ns)
 swapped true true n m ns = refl

@@ -1,7 +1,7 @@
 -- What an event makes of the table and of its actor is what it makes of the world.
 --
--- A request and a want of memory change nothing that is shared, so the table stands. A step of the words is the machine's on the table, and
--- then what the actor makes of what it was told: that changes nothing that is shared either. Between the two, the actor has its seat as
+-- A request and a failed allocation change nothing that is shared, so the table stands. A step of the words is the machine's on the table,
+-- and then what the actor makes of its answer: that changes nothing that is shared either. Between the two, the actor has its seat as
 -- before, and its word actor after the step; the collections that it has written stand, since a step of a locking actor writes nothing.
 use Rattle.std.proofs.Common.{◌≡◌, ℕ, Bool, true, false, [], ◌∷◌, Option, Some, Result, ◌≤◌, inl, inr}
 use Rattle.std.proofs.Common.{sym, ap, ◌∙◌, subst, arith}
@@ -71,7 +71,7 @@ module _ {V : Type 0} where
       → IsTurn v e t r u s n → IsTurn v e t r u (record s { made = m }) n
   turns_made v e t u r s m n h = record { turns = h.turns }
 
-  -- ---- a want of memory
+  -- ---- a failed allocation
   pub starve_turns : (v : BlocksView) (a : ℕ) (t : Table V) (r s : TxActor V) (n : Told V) → Starves r s n
       → IsTurn v (Starve a) t r t s n
   starve_turns v a t r s n h = record {
@@ -94,7 +94,7 @@ module _ {V : Type 0} where
       subst (λ (o : Option (Action (Asked V))). Does a w x s o u) (same_action w a s ne ∙ is) there in
       still_has t a (ended_at a x s (acted w (e ∷ []))) u does.1 (ended_has t a x s (acted w (e ∷ [])) h)
 
-  -- the words make this of the table t and of the word actor x: u and y, and tell n
+  -- the words make this of the table t and of the word actor x: u and y, and answer n
   abbrev pub StepsWords : Table V → running.Actor → Table V → running.Actor → Result (Option WordAnswer) WordRefusal → Type 0
   StepsWords t x u y n =
       (w : World V) (a : ℕ) → HasTable t w → actor_of w a ≡ words.actor_of x

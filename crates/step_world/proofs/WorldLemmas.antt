@@ -1,6 +1,6 @@
--- The parts of a world stay its parts through an event: the event's actor and the table are what it makes of them, and the other actors
--- stand, since what an event leaves of another actor's own is as it was. The numbers that are still to be taken change by what the
--- event's actor still may take, or the clock stands below its limit and each actor may take one at most.
+-- The parts of a world are still its parts after an event: the event's actor and the table are what it makes of them, and the other actors
+-- stand, since what an event leaves of another actor's own is as it was. The numbers that are still to be taken change by what the event's
+-- actor still may take, or the clock stands below its limit and each actor may take one at most.
 use Rattle.std.proofs.Common.{◌≡◌, ◌≢◌, ℕ, zero, suc, ◌+◌, ◌<◌, ◌≤◌, ◌^◌, false, List, [], ◌∷◌, map, Some, None, length}
 use Rattle.std.proofs.Common.{refl, sym, ap, ◌∙◌, subst, inl, inr, arith}
 use Rattle.std.specs.Prelude.{slice_get, slice_set}

@@ -30,7 +30,7 @@ module _ {V : Type 0} where
   fed_all w [] = w
   fed_all w (e ∷ es) = fed_all (fed w e).0 es
 
-  -- In every world that events have reached and of which c are the parts, d are the parts of what the event leaves, and it tells n.
+  -- In every world that events have reached and of which c are the parts, d are the parts of what the event leaves, and its answer is n.
   pub record Feeds (c : Parts V) (e : Event V) (d : Parts V) (n : Notice V) : Type 0 where
     pub parts : (opening : Contents V) (w : World V) → IsReached opening w → IsWorld c w → IsWorld d (fed w e).0
     pub told : (opening : Contents V) (w : World V) → IsReached opening w → IsWorld c w → n ≡ (fed w e).1
@@ -47,8 +47,8 @@ module _ {V : Type 0} where
   abbrev pub MayAllocate : Parts V → ℕ → Type 0
   MayAllocate c i = (r : TxActor V) → slice_get c.actors.items i ≡ Some r → allocates_at (stage_of r.stage) ≡ true
 
-  -- The event takes no memory: it refuses memory to a request, or it is a step at a stage that takes none. Each step of a half-done commit
-  -- is such a one.
+  -- The event takes no memory: by it an allocation fails in a request, or it is a step at a stage that takes none. Each step of a half-done
+  -- commit is such a one.
   abbrev pub AllocatesNothing : Parts V → Event V → Type 0
   AllocatesNothing c (Ask a q) = ⊥
   AllocatesNothing c (Step a) =

@@ -1,4 +1,4 @@
--- What a base that goes home asks of its actor, and what it makes of the world.
+-- What a base that is put back asks of its actor, and what it makes of the world.
 use Rattle.std.specs.Prelude.{◌≡◌, ℕ, ◌<◌, ◌^◌, List, [], All, Some, length, slice_get}
 use Rattle.seq_model.specs.declared.event.Event.TheVariants.{Step}
 use Rattle.seq_model.specs.Contents.{Contents}
@@ -40,7 +40,7 @@ module _ {V : Type 0} where
   abbrev pub HaveRoom : Table V → List (CopyOf V) → List ℕ → Type 0
   HaveRoom t cs ks = All (HasRoomAt t cs) ks
 
-  -- the collections that a commit has written whose bases are still to go home, from its first value store on
+  -- the collections that a commit has written whose bases are still to be put back, from its first value store on
   abbrev pub homes_left : Stage V → List ℕ
   homes_left (stage.Storing homes) = homes.items
   homes_left (stage.Homing homes) = homes.items
@@ -50,7 +50,7 @@ module _ {V : Type 0} where
   abbrev pub HasRoomLeft : Table V → TxActor V → Type 0
   HasRoomLeft t r = HaveRoom t r.copies.items (homes_left r.stage)
 
-  -- and has it before the first value store of r, where that is due
+  -- and has it before the first value store of r, where that is next
   abbrev pub HasRoomDue : Table V → List (CopyOf V) → Stage V → Type 0
   HasRoomDue t cs (stage.Ready homes) = HaveRoom t cs homes.items
   HasRoomDue t cs s = Unit {0}
@@ -71,7 +71,7 @@ module _ {V : Type 0} where
     pub clock : t.cells.clock < 2 ^ 63
 
   -- In every world that events have reached, of which t is the table, in which r is actor a and has its own of collection k, the step of a
-  -- leaves the table u and the actor s, and tells n.
+  -- leaves the table u and the actor s, and answers n.
   pub record IsHomeTurn (k : ℕ) (t : Table V) (r : TxActor V) (u : Table V) (s : TxActor V) (n : Told V) : Type 0 where
     pub turns : (opening : Contents V) (w : World V) (a : ℕ) → IsReached opening w → HasTable t w → HasShape t w.words w.blocks → Runs a r w
         → IsOwn w a k (copy_of r.copies.items k)

@@ -10,8 +10,8 @@ use Rattle.world_table.specs.Tables.{HasTable}
 use Rattle.world_table.specs.declared.table.Table.{Table}
 use Rattle.step_world.specs.Reached.{IsReached}
 
--- There is a world that events have reached, which lies as v says and of which t is the table, and in which r is one of the actors and has
--- of collections what its stage asks for.
+-- There is a world that events have reached, which is laid out as v and of which t is the table, and in which r is one of the actors and
+-- has of collections what its stage asks for.
 pub record IsSeated {V : Type 0} (v : BlocksView) (t : Table V) (r : TxActor V) : Type 0 where
   pub opening : Contents V
   pub world : World V

@@ -36,14 +36,14 @@ module _ {V : Type 0} where
   total_owed [] = 0
   total_owed (r ∷ rs) = owed r.words.place + total_owed rs
 
-  -- r is actor a of the world w, whose locations lie as v says, and has what its steps ask of it, and of collections what its stage asks.
+  -- r is actor a of the world w, whose locations are as in v, and has what its steps ask of it, and of collections what its stage asks.
   pub record IsSeat (v : BlocksView) (w : World V) (a : ℕ) (r : TxActor V) : Type 0 where
     pub runs : Runs a r w
     pub running : IsRunning v r
     pub copies : HasCopies r w a
 
-  -- The parts are those of the world w: its table, its actors 1 to 64, each at the place before its number, and what has come of it so
-  -- far. The bases that are still to go home have room for it. The clock is far from its end.
+  -- The parts are those of the world w: its table, its actors 1 to 64, each at the place before its number, and the result of its events so
+  -- far. The bases that are still to be put back have room for it. The clock is far from its end.
   pub record IsWorld (c : Parts V) (w : World V) : Type 0 where
     pub laid : IsLaid c.blocks w
     pub table : HasTable c.table w
@@ -63,7 +63,7 @@ module _ {V : Type 0} where
     pub reached : IsReached opening world
     pub parts : IsWorld c world
 
-  -- In every world that events have reached and of which c are the parts, d are the parts of what the event leaves, and it tells n.
+  -- In every world that events have reached and of which c are the parts, d are the parts of what the event leaves, and its answer is n.
   pub record Happens (c : Parts V) (e : Event V) (d : Parts V) (n : Told V) : Type 0 where
     pub parts : (opening : Contents V) (w : World V) → IsReached opening w → IsWorld c w → IsWorld d (happens w e).0
     pub told : (opening : Contents V) (w : World V) → IsReached opening w → IsWorld c w → notice_of (whose e) n ≡ (happens w e).1
@@ -72,7 +72,7 @@ module _ {V : Type 0} where
   abbrev pub Stays : Parts V → Parts V → Type 0
   Stays c d = (opening : Contents V) (w : World V) → IsReached opening w → IsWorld c w → IsWorld d w
 
-  -- The request of the actor at place i was refused memory, and d are the parts that this leaves.
+  -- An allocation failed for the request of the actor at place i, and d are the parts that this leaves.
   pub record IsStarved (c : Parts V) (i : ℕ) (d : Parts V) : Type 0 where
     pub told : Told V
     pub happens : Happens c (Starve (i + 1)) d told

@@ -1,4 +1,4 @@
--- What a trace says of a world.
+-- What a trace shows of a world.
 use Rattle.std.specs.Prelude.{◌≡◌, ℕ, zero, suc, Bool, ◌&&◌, ◌==◌, if◌then◌else◌, List, [], ◌∷◌, ◌++◌, map, Option, Some, None, slice_get}
 use Rattle.seq_model.specs.declared.record.Record.{Record}
 use Rattle.seq_model.specs.Contents.{Contents}
@@ -28,7 +28,7 @@ module _ {V : Type 0} where
   abbrev pub is_half : (ℕ → Seat V) → ℕ × Record V → Bool
   is_half seats r = r.1.writes && (is_half_done (seats r.0).stage && (r.1.number == (seats r.0).wv))
 
-  -- The trace has what has come of the world's events.
+  -- The trace has the result of the world's events.
   pub record IsTraceOf (w : World V) (t : Trace V) : Type 0 where
     pub records : t.records ≡ w.records
     pub aborted : map ended_of t.aborted ≡ w.aborted

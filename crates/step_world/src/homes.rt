@@ -46,7 +46,8 @@ fn prepare_bases<V: Value>(
     Ok(())
 }
 
-/// The same for the bases that a commit has written, where its first value store is next.
+/// The same for the bases that a commit has written, where its first value store is next. `Memory`, where an allocation fails, leaves what
+/// the bases hold.
 pub fn prepare<V: Value>(table: &mut Table<V>, actor: &TxActor<V>) -> Result<(), Memory>
     requires { NamesAmong (length table.old.bases.items) actor.now.stage }
     ensures room { OnOk result (HasRoomDue table.new actor.now.copies.items actor.now.stage) }

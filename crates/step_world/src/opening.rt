@@ -9,7 +9,7 @@ use tx_actor::TxActor;
 /// The actors of a world.
 pub const ACTORS: usize = ACTOR_LIMIT as usize;
 
-/// The actors of a world, none of which has a transaction.
+/// The actors of a world, none of which has a transaction. `Memory` where an allocation fails.
 pub fn actors<V: Drop>(alloc: Global) -> Result<Vec<TxActor<V>>, Memory>
     ensures count { IfOk result (λ actors. length actors.items ≡ ACTORS) }
     ensures idle { IfOk result (λ actors. AreIdle actors.items) }

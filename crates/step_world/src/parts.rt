@@ -80,7 +80,7 @@ impl<V: Value> Parts<V> {
         }
     }
 
-    /// The result of the events so far.
+    /// The result of the events so far. `Memory` where an allocation for the copies fails.
     pub fn trace(&self) -> Result<Trace<V>, Memory>
         requires { HasWorld self.now }
         ensures trace { IfOk result (λ trace. (opening : Contents V) (w : World V) → IsReached opening w → IsWorld self.now w →
@@ -104,7 +104,8 @@ impl<V: Value> Parts<V> {
         })
     }
 
-    /// The result of all events. The records and the aborted transactions are moved, not copied.
+    /// The result of all events. The records and the aborted transactions are moved, not copied. `Memory` where an allocation fails; the
+    /// parts are gone either way.
     pub fn into_trace(self) -> Result<Trace<V>, Memory>
         requires { HasWorld self }
         ensures trace { IfOk result (λ trace. (opening : Contents V) (w : World V) → IsReached opening w → IsWorld self w →

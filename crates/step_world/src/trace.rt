@@ -50,7 +50,7 @@ impl<V: Value> Ended<V> {
     }
 }
 
-/// A copy of records.
+/// A copy of records. `Memory` where an allocation fails.
 pub fn copy_of_records<V: Value>(
     alloc: Global,
     records: &[(u32, Record<V>)],
@@ -64,7 +64,7 @@ pub fn copy_of_records<V: Value>(
     Ok(copy)
 }
 
-/// A copy of aborted transactions.
+/// A copy of aborted transactions. `Memory` where an allocation fails.
 pub fn copy_of_aborted<V: Value>(
     alloc: Global,
     aborted: &[Ended<V>],
@@ -122,7 +122,7 @@ fn add_number(found: &mut Vec<u64>, number: u64, half: bool) -> Result<(), Alloc
     Ok(())
 }
 
-/// The numbers of the half-done commits among these records.
+/// The numbers of the half-done commits among these records. The allocation for the list may fail.
 pub fn half_done<V>(
     alloc: Global,
     actors: &[TxActor<V>],

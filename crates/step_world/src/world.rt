@@ -111,7 +111,7 @@ impl<V: Value> World<V> {
         Ok(notice)
     }
 
-    /// The result of the events so far.
+    /// The result of the events so far. `Memory` where an allocation for the copies fails, or the world has failed.
     pub fn trace(&self) -> Result<Trace<V>, Memory>
         ensures lasting { IsOk result → self.now.failed ≡ false }
         ensures trace { IfOk result (λ trace. (opening : Contents V) (w : PureWorld V) → IsReached opening w →
@@ -124,7 +124,8 @@ impl<V: Value> World<V> {
         self.parts.trace()
     }
 
-    /// The result of all events. The records and the aborted transactions are moved, not copied.
+    /// The result of all events. The records and the aborted transactions are moved, not copied. `Memory` where an allocation fails, or the
+    /// world has failed; the world is gone either way.
     pub fn into_trace(self) -> Result<Trace<V>, Memory>
         ensures lasting { IsOk result → self.failed ≡ false }
         ensures trace { IfOk result (λ trace. (opening : Contents V) (w : PureWorld V) → IsReached opening w →

@@ -1,6 +1,5 @@
--- Reading the asks of a reservation one after another.
--- What is left of the tokens begins with the ask that was read, so its asks are that one and those of the tokens behind it. A kind
--- is no number: where the first token is a kind, no units are written.
+-- Reading the asks of a reservation one after another. What is left of the tokens begins with the ask that was read, so its asks are that
+-- one and those of the tokens after it. A kind is no number: where the first token is a kind, no units are written.
 use Rattle.std.proofs.Common.{rules, arith, refl, sym, ap, ◌∙◌, ◌≡◌, ℕ, List, [], ◌∷◌, ◌++◌, append_assoc, append-nil, Option, Some, Bor}
 use Rattle.std.proofs.Common.{slice_index_or, length, take, take_all, drop, ◌-◌, ◌≤◌, codes, inl, inr}
 use Rattle.vac_model.specs.declared.action.Ask.{Ask}
@@ -13,7 +12,7 @@ use Rattle.text_formats.specs.SessionLines.{AreAsks, HasUnits, IsReserve, kind_t
 some_ask : (a b : Ask) → Some a ≡ Some b → b ≡ a
 some_ask a b e = search (rules, e)
 
--- one ask more has been read: these two tokens and what stands behind them were left before it
+-- one ask more has been read: these two tokens and what stands after them were left before it
 module _ (kind id : List ℕ) (left behind : List (List ℕ)) (before after : List Ask) (ask : Ask)
     (cut : left ≡ kind ∷ id ∷ behind) (is : after ≡ before ++ ask ∷ []) where
   pub asks_front : (all : List (List ℕ)) → kind ≡ kind_token ask.kind → IsNumber id ask.id

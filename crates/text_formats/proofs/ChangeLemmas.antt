@@ -1,6 +1,6 @@
--- The changes of an update, read one after another.
--- The first token of a change says of which form it is, and so how many tokens it has; what stands behind them is the rest. So what
--- is left of the tokens begins with the change that was read, and its changes are that one and those of the rest.
+-- The changes of an update, read one after another. The first token of a change says of which form it is, and so how many tokens it has;
+-- what stands after them is the rest. So what is left of the tokens begins with the change that was read, and its changes are that one and
+-- those of the rest.
 use Rattle.std.proofs.Common.{rules, arith, refl, sym, ap, ◌∙◌, ◌≡◌, ℕ, ◌≤◌, ◌-◌, List, [], ◌∷◌, ◌++◌, append_assoc, append-nil, Bor}
 use Rattle.std.proofs.Common.{slice_index_or, length, take, take_all, drop, codes}
 use Rattle.vac_model.specs.declared.action.Change.{Change}
@@ -32,7 +32,7 @@ drop_only (TakeCar i u) behind rest id e = search (rules, e)
 drop_only (TakeRoom i u) behind rest id e = search (rules, e)
 drop_only (DropFlight i) behind rest id e = search (rules, e)
 
--- ---- the first change has been read: these tokens stand behind it
+-- ---- the first change has been read: these tokens stand after it
 module _ (tokens behind : List (List ℕ)) (first : Change) (changes : List Change) (is : changes ≡ first ∷ []) where
   pub first_front : Begins tokens first behind → (more : List Change) → AreMore behind more → AreChanges tokens (changes ++ more)
   first_front begins more h = rw is (behind, begins, h)
@@ -68,7 +68,7 @@ module _ (tokens left behind : List (List ℕ)) (before after : List Change) (ch
             e ∙ ap (λ k. before ++ (k ∷ more)) (sym same.0) ∙ sym (append_assoc before (change ∷ []) more) ∙ ap (λ xs. xs ++ more) (sym is),
           )
 
--- a word is left, and what stands behind it
+-- a word is left, and what stands after it
 pub word_left : (ts : List (Bor (List ℕ))) (d : Bor (List ℕ)) (word : List ℕ) → 1 ≤ length ts → (slice_index_or ts 0 d).now ≡ word
     → texts ts ≡ word ∷ texts (take (length ts - 1) (drop 1 ts))
 word_left [] d word ge e = absurd (omega (arith, ge))

@@ -1,6 +1,5 @@
--- Cutting a text into lines.
--- The place of the first line feed, as it is searched for, is that of the first cut of the definition: what stands before it is the
--- first piece, and what stands behind it has the other pieces.
+-- Cutting a text into lines. The place of the first line feed, as it is searched for, is that of the first cut of the definition: what
+-- stands before it is the first piece, and what stands after it has the other pieces.
 use Rattle.std.proofs.Common.{rules, arith, refl, sym, ap, ◌∙◌, ◌≡◌, ℕ, ◌+◌, ◌-◌, ◌<◌, ◌≤◌, true, false, cond, List, [], ◌∷◌, length, take}
 use Rattle.std.proofs.Common.{take_all, drop, drop-drop, length-drop, Option, Some, None}
 use Rattle.std.specs.Prelude.{◌==◌}

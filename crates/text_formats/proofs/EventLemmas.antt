@@ -54,7 +54,8 @@ no_alternation actor token (one ∷ (other ∷ [])) (Starve a) is alternation = 
 no_alternation actor token (one ∷ (other ∷ (more ∷ tokens))) line is alternation = elim alternation [ ]
 no_alternation actor token (one ∷ other ∷ []) (Alternate first second) is alternation = alt_is_no_actor actor (rw alternation.0 at is)
 
-pub actor_event : (actor : ℕ) (token : List ℕ) (tokens : List (List ℕ)) (line : EventLine) → IsActor token actor → IsEvent (token ∷ tokens) line
+pub actor_event : (actor : ℕ) (token : List ℕ) (tokens : List (List ℕ)) (line : EventLine) → IsActor token actor
+    → IsEvent (token ∷ tokens) line
     → IsEventOf actor tokens line
 actor_event actor token tokens line is (inl alternation) = absurd (no_alternation actor token tokens line is alternation)
 actor_event actor token tokens line is (inr event) = rw (one_actor token actor event.0 is event.1) event.2

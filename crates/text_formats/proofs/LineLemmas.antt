@@ -161,7 +161,7 @@ event_line (t ∷ ts) d (Clock number) words clock kind is = absurd (no_clock t.
 event_line (t ∷ ts) d (Holds c) words clock kind is = absurd (no_collection t.now (texts ts) c kind is)
 event_line (t ∷ ts) d (Event event) words clock kind is = (event, refl, is)
 
--- the numbers that stand behind the first token
+-- the numbers that stand after the first token
 pub behind_words : (ts : List (Bor (List ℕ))) (values : List ℕ) → 1 ≤ length ts → IsWords (texts ts) values
     → AreNumbers (texts (take (length ts - 1) (drop 1 ts))) values
 behind_words [] values some is = absurd (omega (arith, some))

@@ -1,6 +1,5 @@
--- Reading on from line to line.
--- A text that is cut at its first line feed has the line as its first piece and then the pieces of the rest, of which there is
--- always one. So what is read of it begins with what the line is, and goes on with the rest.
+-- Reading on from line to line. A text that is cut at its first line feed has the line as its first piece and then the pieces of the rest,
+-- of which there is always one. So what is read of it begins with what the line is, and continues with the rest.
 use Rattle.std.proofs.Common.{rules, arith, sym, subst, ◌∙◌, refl, ◌≡◌, ◌≢◌, ℕ, suc, ◌+◌, List, [], ◌∷◌, IfSome, Option, Some}
 use Rattle.text_formats.specs.Cuts.{pieces}
 use Rattle.text_formats.specs.Readings.{IsBad, Reads}
@@ -10,7 +9,7 @@ one_line : {P L : Type 0} (a b : L) (p q : P) → ◌≡◌ {A = Option (L × P)
 one_line a b p q e = search (rules, e)
 
 module _ {P L : Type 0} (IsNext : P → List ℕ → L → P → Type 0) where
-  -- `left` begins with a line, these bytes, and `rest` stands behind it
+  -- `left` begins with a line, these bytes, and `rest` stands after it
   module _ (at : P) (bytes left rest : List ℕ) (cut : pieces left ≡ bytes ∷ pieces rest) where
     -- the line is none that may stand here
     pub bad_here : ((line : L) (behind : P) → IsNext at bytes line behind → ⊥) → IsBad IsNext at (pieces left) 1
@@ -21,7 +20,7 @@ module _ {P L : Type 0} (IsNext : P → List ℕ → L → P → Type 0) where
         → IsBad IsNext behind (pieces rest) (suc n) → IsBad IsNext at (pieces left) (suc (suc n))
     bad_behind line behind next n h = let piece = a_piece rest in rw cut (rw piece.2 (line, behind, next, rw piece.2 at h))
 
-  -- what stands behind the last line feed is no line
+  -- what stands after the last line feed is no line
   pub bad_last : (at : P) (left : List ℕ) → pieces left ≡ left ∷ [] → left ≢ [] → IsBad IsNext at (pieces left) 1
   bad_last at left uncut some = rw uncut (refl, some)
 

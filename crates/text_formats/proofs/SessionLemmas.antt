@@ -1,5 +1,5 @@
--- Reading a session file line after line.
--- Where a line may stand hangs on what has been read; so what has been read is the place, too, at which the next line stands.
+-- Reading a session file line after line. Where a line may stand depends on what has been read; so what has been read is the place, too, at
+-- which the next line stands.
 use Rattle.std.proofs.Common.{rules, refl, sym, ap, ◌∙◌, ◌≡◌, ℕ, List, [], ◌∷◌, length, IfSome, Option, Some, None}
 use Rattle.std.proofs.lemmas.List.{nil_from_length}
 use Rattle.text_formats.specs.declared.session_line.SessionLine.{SessionLine}

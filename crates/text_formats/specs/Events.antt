@@ -18,7 +18,7 @@ IsSteps tokens n =
     ⊎ ((0 < n) × (n ≤ STEP_LIMIT) × (tokens ≡ codes "step" ∷ decimal n ∷ []))
     ⊎ ((n ≡ STEP_LIMIT) × (tokens ≡ codes "go" ∷ []))
 
--- what stands behind the actor of a line
+-- what stands after the actor of a line
 abbrev pub IsEventOf : ℕ → List (List ℕ) → EventLine → Type 0
 IsEventOf actor tokens (Ask a request) = (a ≡ actor) × IsRequest tokens request
 IsEventOf actor (word ∷ tokens) (Do a request) = (a ≡ actor) × (word ≡ codes "do") × IsRequest tokens request

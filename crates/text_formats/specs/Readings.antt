@@ -3,7 +3,7 @@
 use Rattle.std.specs.Prelude.{◌≡◌, ◌≢◌, ℕ, zero, suc, List, [], ◌∷◌}
 
 module _ {P S L : Type 0} (IsNext : P → List ℕ → L → P → Type 0) (with_line : S → L → S) where
-  -- reading on from what has been read, line after line, comes to the whole; nothing stands behind the last line feed
+  -- reading on from what has been read, line after line, results in the whole; nothing stands after the last line feed
   abbrev pub Reads : P → S → List (List ℕ) → S → Type 0
   Reads at so_far [] whole = ⊥
   Reads at so_far (last ∷ []) whole = (last ≡ []) × (whole ≡ so_far)

@@ -21,8 +21,7 @@ abbrev pub IsAbove : Option ℕ → ℕ → Type 0
 IsAbove None key = ⊤
 IsAbove (Some last) key = last < key
 
--- Pairs with rising keys, each fit for its kind, put into a map one after another: m is the map so far, and whole
--- what it comes to.
+-- Pairs with rising keys, each fit for its kind, put into a map one after another: m is the map so far, and whole what it results in.
 abbrev pub AreEntries : (ℕ × ℕ → Type 0) → Option ℕ → map.FinMap nat_cmp ℕ → List (List ℕ) → map.FinMap nat_cmp ℕ → Type 0
 AreEntries IsFit last m [] whole = whole ≡ m
 AreEntries IsFit last m (token ∷ tokens) whole =

@@ -25,7 +25,7 @@ AreAsks [] [] = ⊤
 AreAsks (kind ∷ id ∷ tokens) (ask ∷ asks) = (kind ≡ kind_token ask.kind) × IsNumber id ask.id × AreAsks tokens asks
 AreAsks tokens asks = ⊥
 
--- what stands behind the customer of a reservation: units, which may be left out for 1, and asks
+-- what stands after the customer of a reservation: units, which may be left out for 1, and asks
 abbrev pub HasUnits : List (List ℕ) → ℕ → List Ask → Type 0
 HasUnits (token ∷ tokens) units asks = IsNumber token units × AreAsks tokens asks
 HasUnits [] units asks = ⊥
@@ -50,7 +50,7 @@ ChangeFits (DropFlight id) = id < 2 ^ 64
 abbrev pub IsChange : List (List ℕ) → Change → Type 0
 IsChange tokens change = ChangeFits change × (tokens ≡ change_tokens change)
 
--- the tokens begin with a change, and these stand behind it
+-- the tokens begin with a change, and these stand after it
 abbrev pub Begins : List (List ℕ) → Change → List (List ℕ) → Type 0
 Begins tokens change behind = ChangeFits change × (tokens ≡ change_tokens change ++ behind)
 

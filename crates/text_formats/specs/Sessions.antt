@@ -40,7 +40,7 @@ pub record IsNextLine (s : Sessions) (bytes : List ℕ) (line : SessionLine) : T
   pub spelled : IsLine (tokens bytes) line
   pub in_order : MayStand s line
 
--- where a line may stand hangs on what has been read before it
+-- where a line may stand depends on what has been read before it
 abbrev pub IsNext : Sessions → List ℕ → SessionLine → Sessions → Type 0
 IsNext s bytes line behind = IsNextLine s bytes line × (behind ≡ with_line s line)
 

@@ -5,7 +5,7 @@ ghost use Rattle.text_formats.specs.Cuts.{pieces, tokens};
 
 use std::alloc::{AllocError, Global};
 
-/// The first line, and what stands behind its line feed.
+/// The first line, and what stands after its line feed.
 pub fn first_line(text: &[u8]) -> Option<(&[u8], &[u8])>
     ensures some { IfSome result (λ cut. pieces text.now ≡ cut.0.now ∷ pieces cut.1.now) }
     ensures shorter { IfSome result (λ cut. length cut.1.now < length text.now) }

@@ -19,7 +19,7 @@ pub enum EventLine {
     Ask(u32, Request<u64>),
     /// A request, and steps of its actor until it is answered.
     Do(u32, Request<u64>),
-    /// At most so many steps of an actor, up to the first that tells something.
+    /// At most so many steps of an actor, up to the first that answers something.
     Steps(u32, u64),
     Starve(u32),
     /// Steps of two actors in turn, until neither has an unanswered request.

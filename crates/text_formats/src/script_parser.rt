@@ -47,7 +47,7 @@ pub fn parse_steps(alloc: Global, text: &[u8]) -> Result<Script, Refusal>
     Ok(script)
 }
 
-// The line that these bytes are, where it may stand here, and the part behind it.
+// The line that these bytes are, where it may stand here, and the part after it.
 fn read_next(alloc: Global, at: Part, bytes: &[u8]) -> Result<Option<(ScriptLine, Part)>, Memory>
     ensures found { IfOk result (λ read. IfSome read (λ r. IsNext at bytes.now r.0 r.1)) }
     ensures only { IfOk result (λ read. (line : ScriptLine) (behind : Part) → IsNext at bytes.now line behind

@@ -201,7 +201,7 @@ fn read_changes(alloc: Global, tokens: &[&str]) -> Result<Option<Items<Change>>,
     Ok(None)
 }
 
-// The change that these tokens begin with, and what stands behind it.
+// The change that these tokens begin with, and what stands after it.
 #[tactic(auto, using(crate::proofs::ChangeLemmas::add_only, crate::proofs::ChangeLemmas::take_only, crate::proofs::ChangeLemmas::drop_only))]
 fn read_change<'a, 'b>(tokens: &'a [&'b str]) -> Option<(Change, &'a [&'b str])>
     ensures found { IfSome result (λ r. Begins (texts tokens.now) r.0 (texts r.1.now)) }

@@ -49,7 +49,7 @@ pub fn parse_sessions(alloc: Global, text: &[u8]) -> Result<(Tables, Items<Actio
     Ok((opening(alloc, sessions.items), sessions.actions))
 }
 
-// The line that these bytes are, where it may stand behind what has been read.
+// The line that these bytes are, where it may stand after what has been read.
 fn read_next(
     alloc: Global,
     sessions: &Sessions,

@@ -1,6 +1,6 @@
--- A call that is accepted: its copy has one outcome more and the pieces that it had, and the world is the one in which the call is
--- replied, by the law on acceptances. Where its locations are judged, each answer of the judging is what the definitions come to
--- (`by_judged`); the location that is read next leaves the world's outcome in its stage (`reads_by`).
+-- A call that is accepted: its copy has one outcome more and the pieces that it had, and the world is the one in which the call is replied,
+-- by the law on acceptances. Where its locations are judged, each answer of the judging is what the definitions result in (`by_judged`);
+-- the location that is read next leaves the world's outcome in its stage (`reads_by`).
 use Rattle.std.proofs.Common.{◌≡◌, ◌<◌, ℕ, true, length, List, [], Option, Some, None, get_or, refl, sym, ap, subst, ◌∙◌}
 use Rattle.std.proofs.Math.ListN.{set}
 use Rattle.std.proofs.lemmas.Option.{slice_get_read}
@@ -69,7 +69,7 @@ module _ {V : Type 0} where
         k,
       )
 
-  -- what was judged is what the call comes to
+  -- what was judged is what the call results in
   pub by_judged : (u : TxActor V) (t : Told V) (a : ℕ) (w : World V) (x : Seat V) (o : Answered V) (left : Entries) (i j : Judged) → i ≡ j
       → Runs a u (comes_to w a x o left i).0 × (notice_of a t ≡ (comes_to w a x o left i).1)
       → Runs a u (comes_to w a x o left j).0 × (notice_of a t ≡ (comes_to w a x o left j).1)
@@ -85,7 +85,7 @@ module _ {V : Type 0} where
       by_judged u t a w x p left All j (sym all)
       (subst (λ (z : Answered V). Runs a u (comes_to w a x z [] All).0 × (notice_of a t ≡ (comes_to w a x z [] All).1)) same is)
 
-  -- the next location is read; the actor's seat hangs on the stage that the world has then
+  -- the next location is read; the actor's seat depends on the stage that the world has then
   pub reads_by : (a : ℕ) (w : World V) (x : Seat V) (p : Stage V → Seat V) (y q : Actor) (o : Answered V) (left : Entries) (l : ℕ)
       (K : Type 0) (j : Judged) → K → Next l ≡ j → actor_of w a ≡ y → y.place ≡ AtRest → lookup y.writes l ≡ None → lookup y.reads l ≡ None
       → q ≡ actor_after (Next l) y → p (Loading o left) ≡ at_stage x (Loading o left)

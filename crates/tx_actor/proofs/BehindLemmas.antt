@@ -1,7 +1,7 @@
 -- A call on a key that is taken under its gate, and made ready once the gate is put back. Its location has not been read, so the store of
--- the gate lets its seat wait for it: where it is ready by then it goes on as any call that is copied (`taken_ready`), and
--- where memory was refused its seat is given up as one that reads (`starves_behind`). A word actor that waits for a location cancels as one
--- that rests (`cancelled_look`), so the actor is given up where it stands.
+-- the gate lets its seat wait for it: where it is ready by then it continues as any call that is copied (`taken_ready`), and where an
+-- allocation failed its seat is aborted as one that reads (`starves_behind`). A word actor that waits for a location cancels as one that is
+-- idle (`cancelled_look`), so the actor is aborted where it stands.
 use Rattle.std.proofs.Common.{◌≡◌, ℕ, ◌+◌, ◌<◌, ◌==◌, ◌^◌, ◌&&◌, true, false, cond, filter, List, [], ◌∷◌, Option, Some, None}
 use Rattle.std.proofs.Common.{refl, sym, ap}
 use Rattle.std.proofs.Common.{subst, ◌∙◌}
@@ -59,7 +59,7 @@ use Rattle.tx_actor.proofs.KeepingLemmas.{keeps_through}
 use Rattle.tx_actor.proofs.LoadLemmas as load
 use Rattle.tx_actor.proofs.RoomLemmas.{alike_keeps}
 
--- a word actor that waits for a location cancels as one that rests
+-- a word actor that waits for a location cancels as one that is idle
 cancelled_look : (y : machine.Actor) (l : ℕ) → y.place ≡ AtRest → cancelled y ≡ cancelled (goes y (Look l))
 cancelled_look y l e = λ j. cancelled (record y { place = e j })
 
@@ -92,7 +92,7 @@ module _ {V : Type 0} where
   some_key n (OfBag m) (Take x) i e = (_, refl)
   some_key n s op i e = let z : ⊥ = cc in absurd z
 
-  -- ---- given up as one that reads
+  -- ---- aborted as one that reads
   given_up_same : (a : ℕ) (t z : World V) (x p : Seat V) (n : TxActor V) → z.words ≡ t.words → z.blocks ≡ t.blocks
       → cancelled (actor_of t a) ≡ cancelled (actor_of z a) → ((s : Stage V) → at_stage x s ≡ at_stage p s)
       → Runs a n (gives_up t a x []).0 → Runs a n (gives_up z a p []).0
@@ -241,7 +241,7 @@ module _ {V : Type 0} where
       copied = λ h q. pieces h q j;
     }
 
-    -- ---- it is given up there
+    -- ---- it is aborted there
     abbrev IsGivenUp : TxActor V → After V → Type 0
     IsGivenUp n h =
         let g = starve_at h.0 a (h.0.seats a) (h.0.seats a).stage in

@@ -1,5 +1,5 @@
--- A call of an actor at rest on a collection. Where its copy has what the call touches, the world judges it by the law on held calls, and
--- what is ready is the world's: its outcome by the law on copies, and its writes, since what is written is read, and so was copied with its
+-- A call of an idle actor on a collection. Where its copy has what the call touches, the world judges it by the law on held calls, and what
+-- is ready is the world's: its outcome by the law on copies, and its writes, since what is written is read, and so was copied with its
 -- edition. Where it has not, its seat has not copied the piece, and the gate is tried.
 use Rattle.std.proofs.Common.{◌≡◌, ℕ, ◌+◌, ◌^◌, ◌<◌, ◌≤◌, true, false, ◌&&◌, cond, ltb, length, List, [], ◌∷◌, Option, Some, None, refl}
 use Rattle.std.proofs.Common.{sym, ap, subst, ◌∙◌, arith}
@@ -252,7 +252,8 @@ module _ {V : Type 0} where
   not_held_at cs i k op c is at holds = ap (λ q. holds_of q op) (first_at cs i k c at (sym (is.2 c at)) is.1) ∙ holds
 
   pub may_prepare : (v : BlocksView) (r : TxActor V) (i f k : ℕ) (op : Op V) → IsHeldAt r.copies.items i k op → CanCall v r
-      → is_known (block_of v.blocks k) op ≡ true → may_ask (words.actor_of r.words) op ≡ true → ((b : Block) → block_of v.blocks k ≡ Some b → f + size b < 2 ^ 32)
+      → is_known (block_of v.blocks k) op ≡ true → may_ask (words.actor_of r.words) op ≡ true
+      → ((b : Block) → block_of v.blocks k ≡ Some b → f + size b < 2 ^ 32)
       → MayPrepare r i f op
   may_prepare v r i f k op h can known may within =
       let c = h.copy in
@@ -306,7 +307,7 @@ module _ {V : Type 0} where
   abbrev Answers : ℕ → TxActor V → Told V → After V → Type 0
   Answers a n t z = Runs a n z.0 × (notice_of a t ≡ z.1) × OwnsCopies n z.0 a
 
-  -- it goes on
+  -- it continues
   pub held_goes_on : (v : BlocksView) (r u n : TxActor V) (t : Told V) (i f k : ℕ) (op : Op V) (h : IsHeldAt r.copies.items i k op)
       (p : Prepared V) → is_recorded r.stage ≡ false → f ≡ first_of v.words v.blocks k → is_known (block_of v.blocks k) op ≡ true
       → may_ask (words.actor_of r.words) op ≡ true → IsAlike r u → IsReadyCall r u i f op h.copy p

@@ -1,8 +1,8 @@
 -- A call whose gate is held. What is taken for it is the one copy of its collection, of the collection's block, so that the call can be
--- made ready; where that is refused memory what was taken goes back, and the pieces that the actor shows are those that there were, so
--- that it starves as its seat does. Where the call is ready its seat has the piece that the call touches besides, and the world judges
--- the call by the same locations with the same editions; and what the actor has is its own, or one of these locations was read with
--- another edition, so that the world does not accept it.
+-- made ready; where an allocation for that fails what was taken goes back, and the pieces that the actor shows are those that there were,
+-- so that it starves as its seat does. Where the call is ready its seat has the piece that the call touches besides, and the world judges
+-- the call by the same locations with the same editions; and what the actor has is its own, or one of these locations was read with another
+-- edition, so that the world does not accept it.
 use Rattle.std.proofs.Common.{◌≡◌, inl, inr, eq-eqb, eqb-true, ℕ, ◌+◌, ◌<◌, ◌≤◌, ◌^◌, ◌==◌, ◌&&◌, Bool, true, false, cond, length, List, []}
 use Rattle.std.proofs.Common.{◌∷◌, Option, Some, refl, sym, ap, subst, ◌∙◌, arith}
 use Rattle.std.specs.Prelude.{IsSome, slice_get}
@@ -211,7 +211,7 @@ module _ {V : Type 0} where
       by_result (record u { stage = stage.Open }) (told.Refused refusal.TooLong) a (step_at w a x (worlds.Copying call)) z e
       (subst (λ (q : TxActor V). Runs a (record q { stage = stage.Open }) z.0) (sym same) runs, refl)
 
-  -- ---- it goes on
+  -- ---- it continues
   module _ (v : BlocksView) (w : World V) (a : ℕ) (r u : TxActor V) (base : Base V) (asked : Asked V) (b : Block) (found : Found V) (i : ℕ)
       (x : Prepared V) (laid : IsLaid v w) (can : CanCopy v r base asked)
       (s : Runs a (at r (stage.Copying asked)) w) (may : MayCopy v w a (at r (stage.Copying asked)) base asked)

@@ -1,6 +1,6 @@
--- What an actor makes of its atomic action is what its world makes of it. At each stage one method does what the definitions' function
--- does there; where nothing comes of the step, the actor stays as it is, and so does the world (`stays_as`). What was
--- told is one of few notices at each stage, and any other leaves the world (`.._else`).
+-- What an actor makes of its atomic action is what its world makes of it. At each stage one method does what the definitions' function does
+-- there; where nothing comes of the step, the actor is unchanged, and so is the world (`stays_as`). What was answered is one of few notices
+-- at each stage, and any other leaves the world (`.._else`).
 use Rattle.std.proofs.Common.{◌≡◌, ℕ, zero, suc, eqb, length, Bool, true, false, true≢false, List, [], ◌∷◌, ◌++◌, drop, refl, sym, ap}
 use Rattle.std.proofs.Common.{subst, ◌∙◌}
 use Rattle.word_machine.specs.Notices as notice
@@ -53,7 +53,7 @@ module _ {V : Type 0} where
       → ((a : ℕ) (w : World V) → after_home w a (seat_at (w.seats a) r) (stage_of r.stage) ≡ (w, Quiet)) → IsGoneHome r u t
   home_stays r u t same quiet e a w m s = stays_as r u t a w _ same quiet (e a w) s
 
-  -- what is made of a seat does not hang on its stage
+  -- what is made of a seat does not depend on its stage
   pub give_up_at : (w : World V) (a : ℕ) (x : Seat V) (s : worlds.Stage V) (ks : List ℕ)
       → gives_up w a (at_stage x s) ks ≡ gives_up w a x ks
   give_up_at w a x s [] = refl
@@ -66,13 +66,13 @@ module _ {V : Type 0} where
   tried_at w a x s false k got again next (suc n) = refl
   tried_at w a x s false k got again next zero = give_up_at w a (because x (refusal.GateBusy k)) s got
 
-  -- the bases go home, where the locks may be released
+  -- the bases are put back, where the locks may be released
   abbrev pub GoesHome : TxActor V → TxActor V → Told V → List ℕ → Type 0
   GoesHome r u t ks = (a : ℕ) (w : World V) (x : Seat V) → IsSeatOf x r → MayRelease a w ks
       → worlds.actor_of w a ≡ words.actor_of r.words
       → Runs a u (goes_home w a x ks).0 × (notice_of a t ≡ (goes_home w a x ks).1)
 
-  -- what was told is what was heard
+  -- what was answered is what was heard
   pub heard_as : (r u : TxActor V) (t : Told V) (h k : WordNotice) → h ≡ k → IsToldWord r u t (shown_notice k)
       → IsToldWord r u t (shown_notice h)
   heard_as r u t h k e p = subst (λ (q : WordNotice). IsToldWord r u t (shown_notice q)) (sym e) p
@@ -94,7 +94,7 @@ module _ {V : Type 0} where
   pub home_at_stage : (r u : TxActor V) (t : Told V) (s : Stage V) → r.stage ≡ s → IsGoneHome (at r s) u t → IsGoneHome r u t
   home_at_stage r u t s e p = subst (λ (z : Stage V). IsGoneHome (at r z) u t) (sym e) p
 
-  -- nothing was told, and nothing comes of it
+  -- nothing was answered, and nothing comes of it
   waits_on : (w : World V) (a : ℕ) (x : Seat V) (s : Stage V) → waits_at s ≡ true → after_word w a x (stage_of s) notice.Quiet ≡ (w, Quiet)
   waits_on w a x (stage.Reading l) waits = refl
   waits_on w a x (stage.Locking ks) waits = refl
@@ -190,7 +190,7 @@ module _ {V : Type 0} where
       → after_try w a x (worlds.Gating got ds tries) free ≡ (w, Quiet)
   gating_none w a x free got ds tries e = ap (λ (zs : List ℕ). after_try w a x (worlds.Gating got zs tries) free) e
 
-  -- the first of the gates that are put back, and of the bases that go home
+  -- the first of the gates, and of the bases, that are put back
   pub puts_first : (w : World V) (a : ℕ) (x : Seat V) (ks : List ℕ) → eqb (length ks) 0 ≡ false
       → after_put w a x (worlds.Returning ks) ≡ gives_up w a x (drop 1 ks)
   puts_first w a x [] len = absurd (true≢false len)

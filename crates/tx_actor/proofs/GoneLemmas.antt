@@ -1,5 +1,5 @@
--- What a call leaves of its actor hangs on no stage of it (`gone_at`). Where a load told nothing of use, or reads for no call, all is as it
--- was (`else_loaded`, `apart_loaded`).
+-- What a call leaves of its actor depends on no stage of it (`gone_at`). Where a load answered nothing of use, or reads for no call, all is
+-- as it was (`else_loaded`, `apart_loaded`).
 use Rattle.std.proofs.Common.{◌≡◌, ℕ, [], ◌∷◌, None, refl, sym, subst}
 use Rattle.std.specs.declared.alloc.Global.{Global}
 use Rattle.std.specs.declared.collections.VecDeque.{VecDeque}
@@ -52,7 +52,7 @@ module _ {V : Type 0} where
   loaded_quiet r u t n nothing is =
       subst (λ (q : notice.Notice). HasLoaded r u t r.stage q) (sym nothing) (loaded_nothing r u t r.stage is)
 
-  -- r is at this stage, and was told this
+  -- r is at this stage, and was answered this
   pub loaded_at : (r u : TxActor V) (t : Told V) (s : Stage V) (n m : notice.Notice) → r.stage ≡ s → n ≡ m
       → HasLoaded (at r s) u t s n → HasLoaded r u t r.stage m
   loaded_at r u t s n m e f h =

@@ -1,5 +1,5 @@
 -- What a step leaves of an actor's copies. A stage asks no more of them than the one before (`copies_to`), one that starts from a stage
--- that asks nothing leaves nothing to be asked (`copies_idle`), and an actor that stays asks what it asked (`copies_same`). What is ready
+-- that asks nothing leaves nothing to be asked (`copies_idle`), and an actor that remains asks what it asked (`copies_same`). What is ready
 -- in a copy, and an outcome that it accepts, leave which calls on it have been read.
 use Rattle.std.proofs.Common.{◌≡◌, ℕ, zero, suc, Bool, true, false, true≢false, cond, List, [], ◌∷◌, Option, Some, None, Contains, drop}
 use Rattle.std.proofs.Common.{refl, sym, ap, subst, ◌∙◌}
@@ -32,7 +32,7 @@ later_in (j ∷ js) k h = tail_in j k js h
 
 module _ {V : Type 0} where
   -- ---- from stage to stage
-  -- it stays where it is
+  -- it remains where it is
   same_from : (s : Stage V) (cs : List (CopyOf V)) → is_loading (stage_of s) ≡ false → KeepsFrom s s cs cs
   same_from stage.Open cs quiet = (tt, refl)
   same_from (stage.Reading l) cs quiet = (tt, refl)
@@ -83,7 +83,7 @@ module _ {V : Type 0} where
   pub asks_nothing : (r u : TxActor V) → KeepsCopies (at r stage.Idle) u → AsksNothing u
   asks_nothing r u k = from_idle u.stage stage.Idle r.copies.items [] u.copies.items k
 
-  -- from a stage of a commit that stores, or goes home, to one where as much is known
+  -- from a stage of a commit that stores, or puts bases back, to one where as much is known
   pub from_storing : (t : Stage V) (homes : VecDeque ℕ Global) (last : Stage V) (before now : List (CopyOf V))
       → ((ks : List ℕ) → IsWholeOf {V = V} (stage.Storing homes) ks → IsWholeOf last ks) → KeepsFrom t (stage.Storing homes) before now
       → KeepsFrom t last before now

@@ -1,4 +1,4 @@
--- What an actor keeps that has heard a load: where the call goes on, or is given up, what it asks is there; where nothing came of the load
+-- What an actor keeps that has heard a load: where the call continues, or is aborted, what it asks is there; where nothing came of the load
 -- it is as it was.
 use Rattle.std.proofs.Common.{◌≡◌, ◌≤◌, ℕ, [], ◌∷◌, length, None, refl, sym, subst}
 use Rattle.std.specs.declared.alloc.Global.{Global}
@@ -21,7 +21,7 @@ use Rattle.tx_actor.specs.Running.{at}
 use Rattle.tx_actor.proofs.KeepingLemmas.{keeps_same}
 
 module _ {V : Type 0} where
-  -- what it asks of its call hangs on no stage
+  -- what it asks of its call depends on no stage
   can_at : (v : BlocksView) (r : TxActor V) (s : Stage V) (o : running.Answered V) (es : Entries) → CanGoOn v (at r s) o es
       → CanGoOn v r o es
   can_at v r s o es h = record {
@@ -37,7 +37,7 @@ module _ {V : Type 0} where
     room = record { calls = h.room.calls; reads = h.room.reads; few = h.room.few; none = h.room.none };
   }
 
-  -- it goes on as one that keeps it at rest
+  -- it continues as one that keeps it where it is idle
   pub heard_goes : (v : BlocksView) (r u : TxActor V) (o : running.Answered V) (left : VecDeque (ℕ × ℕ) Global) (d : ℕ × ℕ) (es : Entries)
       (e : ℕ) → left.items ≡ d ∷ es → (CanGoOn v r o es → KeepsIn v (at r stage.Idle) u) → owed u.words.place ≤ owed r.words.place
       → KeepsHeard v (at r (stage.Loading o left)) u (notice.Number e)
@@ -51,7 +51,7 @@ module _ {V : Type 0} where
         owed = less;
       }
 
-  -- it is given up
+  -- it is aborted
   pub heard_ends : (v : BlocksView) (r u : TxActor V) (s : Stage V) (n : notice.Notice) → KeepsIn v (at r stage.Idle) u
       → KeepsHeard v (at r s) u n
   heard_ends v r u s n k = record {

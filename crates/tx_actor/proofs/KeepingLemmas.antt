@@ -1,7 +1,7 @@
 -- What keeps an actor's bounds does so one after another. What is asked of an actor is asked of its word actor, of its room and of its
--- stage: a method that leaves the word actor, or lets it keep its bounds, and names no collection anew, keeps it (`keeps_to`); and one
--- that hands over to another, which finds the actor at a stage of its own, keeps it as that one does (`keeps_from`). A stage that needs no
--- room reads the locations of no call (`no_call`), since those are read by a word actor that does not rest.
+-- stage: a method that leaves the word actor, or lets it keep its bounds, and names no collection anew, keeps it (`keeps_to`); and one that
+-- hands over to another, which finds the actor at a stage of its own, keeps it as that one does (`keeps_from`). A stage that needs no room
+-- reads the locations of no call (`no_call`), since those are read by a word actor that is not idle.
 use Rattle.std.proofs.Common.{◌≡◌, ℕ, ◌<◌, ◌≤◌, true, false, true≢false, List, length, refl, sym, subst, arith}
 use Rattle.std.specs.Vec.{vec_capacity, vec_len}
 use Rattle.step_core.specs.Sound.{Fits, Keeps, owed}
@@ -119,7 +119,7 @@ module _ {V : Type 0} where
     owed = subst (λ (x : Actor). owed x.place ≤ owed r.words.place) (sym same) (omega arith);
   }
 
-  -- at rest, its word actor within the bounds
+  -- idle, its word actor within the bounds
   pub keeps_open : (v : BlocksView) (r u : TxActor V)
       → (Fits (end_of v.words v.blocks) r.words → Fits (end_of v.words v.blocks) u.words) → owed u.words.place ≤ owed r.words.place
       → u.stage ≡ stage.Open → KeepsIn v (at r stage.Idle) u

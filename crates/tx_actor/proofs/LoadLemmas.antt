@@ -1,5 +1,5 @@
 -- The load of a call's location: with the copied edition the definitions judge the others, which is the judging of the actor's own lists;
--- with another the call is given up. What is made of a seat does not hang on its stage (`comes_at`), and the outcome at the stage is the
+-- with another the call is aborted. What is made of a seat does not depend on its stage (`comes_at`), and the outcome at the stage is the
 -- world's, whatever it is.
 use Rattle.std.proofs.Common.{◌≡◌, ◌≢◌, ◌==◌, ℕ, Bool, true, false, eqb-true, [], ◌∷◌, drop, Option, Some, None, refl, sym, ap, subst, ◌∙◌}
 use Rattle.std.proofs.lemmas.Bool.{cond-false}
@@ -58,7 +58,7 @@ module _ {V : Type 0} where
   found_stale w a x o d es v other =
       cond-false (d.1 == v) (loads w a x o es) (gives_up w a (because x (refusal.Stale d.0 d.1 v)) []) (differ d.1 v other (d.1 == v) refl)
 
-  -- what the call comes to as its other locations are judged
+  -- what the call results in as its other locations are judged
   abbrev pub GoesOn : TxActor V → TxActor V → Told V → Answered V → Entries → Type 0
   GoesOn r u t call es =
       (a : ℕ) (w : World V) (x : Option (Outcome V)) → actor_of w a ≡ words.actor_of r.words → MayAnswer w a r.words x call es →
@@ -82,7 +82,7 @@ module _ {V : Type 0} where
       ∙ ap (λ (q : machine.Actor). comes_to w a (seat_of r) o (left_after q.reads es) (judged q.reads es)) y)))
       (goes a w x y (known same))
 
-  -- it is given up, for this cause
+  -- it is aborted, for this cause
   abbrev pub GivesUp : TxActor V → TxActor V → Told V → Refusal → Type 0
   GivesUp r u t cause =
       (a : ℕ) (w : World V) → actor_of w a ≡ words.actor_of r.words →
@@ -157,7 +157,7 @@ module _ {V : Type 0} where
   quiet_stage w a x st (stage.Loading o left) = told_nothing w a x (with_outcome o (outcome_in st)) left.items
   quiet_stage w a x st s = refl
 
-  -- nothing was told
+  -- nothing was answered
   pub load_quiet : (r u : TxActor V) (t : Told V) (n : notice.Notice) → n ≡ notice.Quiet → u ≡ r → t ≡ told.Quiet → IsToldLoad r u t n
   load_quiet r u t n nothing same quiet =
       subst (λ (q : notice.Notice). IsToldLoad r u t q) (sym nothing)

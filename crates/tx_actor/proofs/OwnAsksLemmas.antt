@@ -1,5 +1,5 @@
 -- What a request leaves of an actor's shadow: a request on words leaves it, and so does a commit or an abort, so what the actor has of
--- collections stays its own; the acceptance of a call puts its outcome there, and into the copy.
+-- collections remains its own; the acceptance of a call puts its outcome there, and into the copy.
 use Rattle.std.proofs.Common.{◌≡◌, ℕ, Bool, true, false, ◌&&◌, cond, [], ◌∷◌, Some, refl, sym, ap, ◌∙◌}
 use Rattle.tx_sets.specs.Entries.{Entries}
 use Rattle.word_machine.specs.Notices as told
@@ -26,7 +26,7 @@ use Rattle.actor_copies.proofs.TakingLemmas.{at_place}
 use Rattle.tx_actor.proofs.PreparesLemmas.{same_outcome}
 
 module _ {V : Type 0} where
-  -- a world that lies as w does, with a's shadow of there
+  -- a world laid out as w is, with a's shadow of there
   pub record SameOwn (a : ℕ) (w v : World V) : Type 0 where
     pub words : v.words ≡ w.words
     pub blocks : v.blocks ≡ w.blocks
@@ -76,7 +76,7 @@ module _ {V : Type 0} where
   pub cancel_same : (a : ℕ) (w : World V) (x : Seat V) → SameOwn a w (cancels w a x)
   cancel_same a w x = record { words = refl; blocks = refl; shadow = refl }
 
-  -- ---- a call that goes on
+  -- ---- a call that continues
   accepted_owns : (w : World V) (a : ℕ) (x : Seat V) (u n : TxActor V) (call : running.Answered V) (left : Entries) → CanAccept u call
       → IsAcceptedAt call.place call.outcome u.copies.items n.copies.items → MayAccept w a call → OwnsCopies u w a
       → OwnsCopies n (comes_to w a x (answered_of call) left All).0 a

@@ -1,6 +1,6 @@
 -- What a call that is copied leaves its actor of collections. Once its gate is put back, what there was of the other collections is as it
 -- was, and what was taken is the actor's own, or one of its locations was read with another edition (`taken_loading`): so the call stands
--- as one whose locations are read, and comes to what it comes to behind a load. One that is TooLong leaves all (`too_long`).
+-- as one whose locations are read, and results in what it results in after a load. One that is TooLong leaves all (`too_long`).
 use Rattle.std.proofs.Common.{◌≡◌, ◌≢◌, ◌==◌, ℕ, ◌++◌, Bool, true, false, true≢false, cond, eqb-true, eq-eqb, List, [], ◌∷◌, Option, Some}
 use Rattle.std.proofs.Common.{None, inl, inr, refl, sym, ap, subst, ◌∙◌}
 use Rattle.std.proofs.lemmas.Bool.{cond-true, cond-false}
@@ -58,7 +58,7 @@ use Rattle.tx_actor.proofs.RunsLemmas.{seat_stage}
 use Rattle.tx_actor.proofs.StageLemmas.{StaysLaw, whole_stays}
 use Rattle.actor_copies.proofs.CopiesLemmas.{apart}
 
--- what stays once the gate of a call is put back
+-- what remains once the gate of a call is put back
 abbrev pub BackLaw : Type 0 → Type 0
 BackLaw V =
     (w : World V) (a k : ℕ) (asked : contents.Asked V) (c : Option (Copied V))
@@ -258,7 +258,7 @@ module _ {V : Type 0} where
       after =
           (subst (λ (s : worlds.Stage V). StepStays w a s f) there (events_stay blocks clock values held events (Step a) stripes)).1
 
-      -- what there was stays, once the gate is put back
+      -- what there was remains, once the gate is put back
       all_back : OwnsAll r z a
       all_back =
           let k = asked.collection in

@@ -56,14 +56,14 @@ use Rattle.tx_actor.proofs.OwnsLemmas.{owns_accepted}
 use Rattle.tx_actor.proofs.RunsLemmas.{seat_stage}
 use Rattle.tx_actor.proofs.StageLemmas.{StaysLaw, has_nothing, loading_moves}
 
--- what stays of a collection where an outcome joins the shadow
+-- what remains of a collection where an outcome joins the shadow
 abbrev pub JoinsLaw : Type 0 → Type 0
 JoinsLaw V =
     (w v : World V) (a k : ℕ) (o : contents.Answered V) (c : Option (Copied V)) → Joins w v a o
     → (o.asked.collection ≢ k → IsOwn w a k c → IsOwn v a k c) × (IsReadOf w a k c → IsReadOf v a k c)
 
 module _ {V : Type 0} where
-  -- ---- what is told
+  -- ---- what is answered
   quiet_stays : (z : World V) (a : ℕ) (p : contents.Answered V) (f : After V) (t : Told V) → t ≡ told.Quiet → notice_of a t ≡ f.1
       → StaysOrJoins z a p f → StaysOrJoins z a p (f.0, Quiet)
   quiet_stays z a p f t quiet e h = subst (λ (n : Notice V). StaysOrJoins z a p (f.0, n)) (sym e ∙ ap (notice_of a) quiet) h
@@ -94,7 +94,7 @@ module _ {V : Type 0} where
         read = λ k. (each k (j == k) refl).1;
       }
 
-  -- ---- what the call comes to
+  -- ---- what the call results in
   module _ (stays : StaysLaw V) (joins : JoinsLaw V) (z : World V) (a : ℕ) (r u : TxActor V) (t : Told V) (o : running.Answered V)
       (p : contents.Answered V) (es all : Entries) (f : After V) (h : OwnsLoading r z a o all)
       (doomed : IsDoomed (actor_of z a).calls all → IsDoomed (actor_of z a).calls (left_after r.words.reads.entries es))

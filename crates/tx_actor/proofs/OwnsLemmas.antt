@@ -1,6 +1,7 @@
--- What an actor has of all collections, and of which worlds that is its own: it depends on how the locations lie and on the actor's own
--- shadow (`owns_by`). An acceptance puts one outcome behind those of the shadow, and into the copy of its collection, which stands once
--- among the copies: that copy follows by the law on copies, and the others leave out an outcome on another collection (`OwnLemmas`).
+-- What an actor has of all collections, and of which worlds that is its own: it depends on how the locations are laid out and on the
+-- actor's own shadow (`owns_by`). An acceptance puts one outcome after those of the shadow, and into the copy of its collection, which
+-- stands once among the copies: that copy follows by the law on copies, and the others leave out an outcome on another collection
+-- (`OwnLemmas`).
 use Rattle.std.proofs.Common.{◌≡◌, ◌≢◌, ℕ, zero, suc, ◌==◌, Bool, true, false, cond, true≢false, eqb-true, eq-eqb, List, [], ◌∷◌, Option}
 use Rattle.std.proofs.Common.{Some, None, refl, sym, ap, subst, ◌∙◌}
 use Rattle.std.specs.Prelude.{slice_get}

@@ -1,7 +1,7 @@
--- A step of the load of a call's location. Its word actor is in a load of the first location that is left (`reading`), so the step tells
--- nothing and leaves a load of the same location, which takes no room; or it tells the edition and rests, with one location read: the
+-- A step of the load of a call's location. Its word actor is in a load of the first location that is left (`reading`), so the step answers
+-- nothing and leaves a load of the same location, which takes no room; or it answers the edition and is idle, with one location read: the
 -- others and the writes find the room that was for all (`room_behind`), and the read set is one entry longer where it had room for them
--- all; or the location has moved. What is made ready in the copies hangs on no word.
+-- all; or the location has moved. What is made ready in the copies depends on no word.
 use Rattle.std.proofs.Common.{◌≡◌, ◌+◌, ◌<◌, ◌≤◌, ℕ, suc, true, false, true≢false, length, List, [], ◌∷◌, refl, sym, ap, subst, ◌∙◌, arith}
 use Rattle.std.specs.List.{All}
 use Rattle.std.specs.declared.alloc.Global.{Global}
@@ -183,7 +183,7 @@ module _ {V : Type 0} where
         own = h.own;
       }
 
-  -- ---- what was told
+  -- ---- what was answered
   rest_of : (v : BlocksView) (r : TxActor V) (y : Actor) (o : running.Answered V) (d : ℕ × ℕ) (es left : Entries) → left ≡ d ∷ es
       → IsCallOf v r.copies.items o left → IsCallOf v r.copies.items o es
   rest_of v r y o d es left first h = record {

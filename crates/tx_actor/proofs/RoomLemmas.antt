@@ -1,6 +1,6 @@
--- The room that a call finds as it goes on. Its writes keep the bounds of the word actor (`fits_written`): they are locations of the world,
--- and they fit the write set. Judging its locations leaves an end of them, so what there was room for is left; the first that is not read
--- is not in the read set, so that one more fits (`fits_look`). What is made ready has the room for all its reads (`can_go_on`).
+-- The room that a call finds as it continues. Its writes keep the bounds of the word actor (`fits_written`): they are locations of the
+-- world, and they fit the write set. Judging its locations leaves an end of them, so what there was room for is left; the first that is not
+-- read is not in the read set, so that one more fits (`fits_look`). What is made ready has the room for all its reads (`can_go_on`).
 use Rattle.std.proofs.Common.{◌≡◌, ◌+◌, ◌<◌, ◌≤◌, ◌==◌, ◌||◌, ◌&&◌, ◌^◌, ℕ, zero, suc, Bool, true, false, true≢false, cond, length, List}
 use Rattle.std.proofs.Common.{[], ◌∷◌, Option, Some, None, refl, sym, ap, subst, ◌∙◌, arith}
 use Rattle.std.specs.List.{All}
@@ -99,7 +99,7 @@ few_entries es (d ∷ ds) rising le =
     let fewer = one_more es d.0 d.1 (locations ds) rising in
     few_entries (with_entry es d.0 d.1) ds (IsRising-with_entry es d.0 d.1 rising) (omega (arith, fewer, le_more))
 
--- the machine's record after writes at rest
+-- the machine's record after writes of an idle actor
 record IsWritten (m q : machine.Actor) (ds : Entries) : Type 0 where
   pub reads : q.reads ≡ m.reads
   pub writes : q.writes ≡ with_entries m.writes ds
@@ -302,7 +302,7 @@ same_keeps n x y rests same placed =
     }
 
 module _ {V : Type 0} where
-  -- the same of an actor that is at another stage, or whose word actor rests
+  -- the same of an actor that is at another stage, or whose word actor is idle
   accept_look : (r : TxActor V) (t : Stage V) (l : ℕ) (o : running.Answered V) → CanAccept r o
       → (let n : TxActor V = record r { words = record r.words { place = place.Look l }; stage = t } in CanAccept (at_rest n) o)
   accept_look r t l o p = record {

@@ -1,5 +1,5 @@
 -- What a running actor makes of itself is what its world makes of its seat and its word actor: the world seats it anew (`put-same`), and
--- where it is given up its word actor cancels and leaves (`gives_it_up`).
+-- where it is aborted its word actor cancels and leaves (`gives_it_up`).
 use Rattle.std.proofs.Common.{◌≡◌, ◌<◌, ◌-◌, ℕ, zero, suc, Bool, true, false, true≢false, eqb, cond, length, List, [], ◌∷◌, refl, sym, ap}
 use Rattle.std.proofs.Common.{arith, ◌∙◌}
 use Rattle.std.proofs.Math.Seq.{drop-cons, take-suc}
@@ -21,7 +21,7 @@ use Rattle.tx_actor.specs.declared.actor.TxActor.{TxActor}
 use Rattle.actor_words.proofs.HomesLemmas.{not_none}
 use Rattle.actor_words.proofs.ShowsLemmas.{gives_it_up, guarded_asked}
 
--- the first of those behind the i-th place, and the others
+-- the first of those after the i-th place, and the others
 pub at_next : (i : ℕ) (xs : List ℕ) (k d : ℕ) (ks : List ℕ) → i < length xs → drop i xs ≡ k ∷ ks
     → (get_or xs i d ≡ k) × ((take (i + 1) xs ≡ take i xs ++ k ∷ []) × (drop (i + 1) xs ≡ ks))
 at_next i xs k d ks lt e =

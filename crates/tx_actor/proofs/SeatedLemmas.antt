@@ -1,5 +1,5 @@
--- What a world makes of its seat does not hang on the outcome at the stage, but for an acceptance: at each stage but that of a load the
--- stage is the actor's own, and there a want of memory, a moved location and a judging put another stage in its place.
+-- What a world makes of its seat does not depend on the outcome at the stage, but for an acceptance: at each stage but that of a load the
+-- stage is the actor's own, and there a failed allocation, a moved location and a judging put another stage in its place.
 use Rattle.std.proofs.Common.{◌≡◌, ◌==◌, ℕ, false, true≢false, cond, [], ◌∷◌, refl, sym, ap, ◌∙◌}
 use Rattle.std.proofs.lemmas.Bool.{cond-false}
 use Rattle.tx_sets.specs.Entries.{Entries}

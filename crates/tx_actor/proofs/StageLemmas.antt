@@ -1,5 +1,5 @@
--- What an actor has of collections stays its own from stage to stage. A stage that asks for all finds all at the one before, with the same
--- copies; one that asks for the bases that are to go home finds these. What stays of a collection is told by the law on events
+-- What an actor has of collections remains its own from stage to stage. A stage that asks for all finds all at the one before, with the
+-- same copies; one that asks for the bases that are to be put back finds these. What remains of a collection follows by the law on events
 -- (`StaysLaw`). A transaction that has begun has nothing, and of each collection nothing was read; and where all is an actor's own, so is
 -- the call that it reads for.
 use Rattle.std.proofs.Common.{◌≡◌, ◌≢◌, ◌+◌, ℕ, List, [], Option, Some, None, inl, refl, sym, ap, subst, ◌∙◌}
@@ -31,7 +31,7 @@ use Rattle.tx_actor.specs.Owns.{OwnsCopies}
 use Rattle.tx_actor.proofs.HearLemmas.{owns_stands}
 use Rattle.tx_actor.proofs.OwnsLemmas.{owns_by, owns_nothing}
 
--- what stays of a collection where all stays
+-- what remains of a collection where all remains
 abbrev pub StaysLaw : Type 0 → Type 0
 StaysLaw V =
     (w v : World V) (a k : ℕ) (c : Option (Copied V)) → Stays w v a
@@ -56,7 +56,7 @@ module _ {V : Type 0} where
   homes_at r w a (stage.Homing homes) ks is h = λ k there. h k (is k there)
   homes_at r w a s ks is h = absurd is
 
-  -- ---- and what stays of it
+  -- ---- and what remains of it
   pub whole_stays : StaysLaw V → (r u : TxActor V) (w v : World V) (a : ℕ) → u.copies.items ≡ r.copies.items → Stays w v a → OwnsAll r w a
       → OwnsAll u v a
   whole_stays law r u w v a same st h = record {
@@ -142,8 +142,8 @@ module _ {V : Type 0} where
       begin_at u.stage r u v a (subst (λ (s : Stage V). KeepsFrom u.stage s r.copies.items u.copies.items) at k) stripes h
 
   -- ---- another actor's event
-  -- The call that is read for stays its actor's own where its shadow stays and what it has read, with as many locations left or fewer, once
-  -- those that are passed have been read.
+  -- The call that is read for remains its actor's own where its shadow remains and what it has read, with as many locations left or fewer,
+  -- once those that are passed have been read.
   pub loading_moves : (r u : TxActor V) (w v : World V) (a : ℕ) (o : running.Answered V) (left fs : Entries)
       → u.copies.items ≡ r.copies.items → v.words ≡ w.words → v.blocks ≡ w.blocks → v.boosted.shadows a ≡ w.boosted.shadows a
       → ((l e : ℕ) → first_read (actor_of w a).calls l ≡ Some e → first_read (actor_of v a).calls l ≡ Some e)
@@ -240,7 +240,7 @@ module _ {V : Type 0} where
   pub has_all : (b : BlocksView) (r : TxActor V) (w : World V) (a : ℕ) → IsLaid b w → IsRunning b r → OwnsAll r w a → HasCopies r w a
   has_all b r w a laid running h = all_at b r.stage r w a laid running.call h
 
-  -- ---- a request at rest
+  -- ---- a request of an idle actor
   pub has_asked : StaysLaw V → (r u : TxActor V) (w v : World V) (a : ℕ) → ReadsStill r.copies.items u.copies.items
       → ((k : ℕ) (c : Option (Copied V)) → IsReadOf w a k c → IsReadOf v a k c) → OwnsAll r w a → OwnsCopies u v a → OwnsAll u v a
   has_asked law r u w v a still stay h own = record {

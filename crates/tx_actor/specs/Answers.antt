@@ -1,4 +1,4 @@
--- What the acceptance of a call on a copied collection takes, what it leaves, and where a call may go on.
+-- What the acceptance of a call on a copied collection takes, what it leaves, and where a call may continue.
 use Rattle.std.specs.Prelude.{◌≡◌, ℕ, ◌+◌, ◌<◌, ◌≤◌, true, false, List, ◌∷◌, Option, Some, None, length, slice_get, slice_set}
 use Rattle.std.specs.Vec.{vec_capacity, vec_len}
 use Rattle.conflict.specs.declared.outcome.Outcome.{Outcome}
@@ -59,7 +59,7 @@ pub record IsPrepared {V : Type 0} (r : TxActor V) (o : running.Answered V) : Ty
   pub reads : (c : CopyOf V) (x : Outcome V) → slice_get r.copies.items o.place ≡ Some c → o.outcome ≡ Some x
       → r.words.declared ≡ false → length (reads_in c.copied x) ≤ r.words.reads.room
 
--- A word actor has room to read these locations one after another, and for so many writes behind them; they fit its read set.
+-- A word actor has room to read these locations one after another, and for so many writes after them; they fit its read set.
 pub record HasRoomToLoad (x : Actor) (es : Entries) (writes : ℕ) : Type 0 where
   pub calls : vec_len x.calls + (length es + writes) ≤ vec_capacity x.calls
   pub reads : x.declared ≡ false → length es ≤ x.reads.room
@@ -73,7 +73,7 @@ IsLoadOf (place.Fetch l k) (d ∷ es) = l ≡ d.0
 IsLoadOf (place.Again l k v) (d ∷ es) = l ≡ d.0
 IsLoadOf p es = ⊥
 
--- the actor, once its word actor rests
+-- the actor, once its word actor is idle
 abbrev pub at_rest : {V : Type 0} → TxActor V → TxActor V
 at_rest r = record r { words = record r.words { place = place.Open } }
 
@@ -91,8 +91,8 @@ pub record MayAccept {V : Type 0} (w : World V) (a : ℕ) (o : running.Answered 
   pub writes : written (actor_of w a) (w.boosted.shadows a).editions ((content w.words w.blocks).writes (answered_of o))
       ≡ written_as (actor_of w a) o.writes.items
 
--- In this world, which has x as its outcome, a call may go on whose locations, with these editions, are judged by the read set of y: with
--- all of them there it may be accepted, and x is its own outcome; the one that is to be read is in no set, and its word actor rests.
+-- In this world, which has x as its outcome, a call may continue whose locations, with these editions, are judged by the read set of y:
+-- with all of them there it may be accepted, and x is its own outcome; the one that is to be read is in no set, and its word actor is idle.
 pub record MayAnswer {V : Type 0} (w : World V) (a : ℕ) (y : Actor) (x : Option (Outcome V)) (o : running.Answered V) (es : Entries)
     : Type 0 where
   pub accepts : judged y.reads.entries es ≡ All → MayAccept w a o × (x ≡ o.outcome)

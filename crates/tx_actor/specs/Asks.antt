@@ -1,4 +1,4 @@
--- What a request makes of an actor, where the locations of its world lie as v says.
+-- What a request makes of an actor, where the locations of its world are laid out as v says.
 use Rattle.std.specs.Prelude.{◌≡◌, ℕ, ◌<◌, true, [], ◌∷◌, length, Option, Some, None}
 use Rattle.tx_sets.specs.Entries.{locations}
 use Rattle.word_machine.specs.Requests.{AskStore}
@@ -20,18 +20,18 @@ use Rattle.tx_actor.specs.declared.actor.Told.{Told}
 use Rattle.tx_actor.specs.declared.actor.TxActor.{TxActor}
 
 module _ {V : Type 0} where
-  -- In every world that lies so and in which r is an actor, it is u after f, which tells t.
+  -- In every world that is laid out so and in which r is an actor, it is u after f, which answers t.
   abbrev pub Asks : BlocksView → TxActor V → TxActor V → Told V → (ℕ → World V → After V) → Type 0
   Asks v r u t f = (a : ℕ) (w : World V) → IsLaid v w → Runs a r w → Runs a u (f a w).0 × (notice_of a t ≡ (f a w).1)
 
-  -- In every world that lies so and in which r is an actor, a call finds what it asks of, and its word finds room; and r is below the
-  -- limit of calls.
+  -- In every world that is laid out so and in which r is an actor, a call finds what it asks of, and its word finds room; and r is below
+  -- the limit of calls.
   pub record AdmitsCall (v : BlocksView) (r : TxActor V) (call : Call V) : Type 0 where
     pub there : (a : ℕ) (w : World V) → IsLaid v w → Runs a r w → is_there w a call.target call.op ≡ true
     pub few : length r.calls.items < CALL_LIMIT
     pub room : (a : ℕ) (w : World V) → IsLaid v w → Runs a r w → has_word_room (actor_of w a) call.target call.op ≡ true
 
-  -- no refusal is due that the request would have before any memory is taken
+  -- there is no refusal that the request would have before any memory is taken
   abbrev pub Admits : BlocksView → TxActor V → Request V → Type 0
   Admits v r (request.Call call) = AdmitsCall v r call
   Admits v r q = Unit {0}

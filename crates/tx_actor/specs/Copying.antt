@@ -108,7 +108,7 @@ module _ {V : Type 0} where
       (i : ℕ) × (x ≡ prepared_of x asked i) × AreReadyAt v r u base asked (Some (i, x))
 
   -- A world in which the gate of the call is held, and the base is that of its collection: what is copied is the transaction's own or
-  -- doomed, the call goes on by it, and its locations fit the sets where those on the base do.
+  -- doomed, the call continues by it, and its locations fit the sets where those on the base do.
   pub record MayCopy (v : BlocksView) (w : World V) (a : ℕ) (r : TxActor V) (base : Base V) (asked : Asked V) : Type 0 where
     pub copy : (b : Block) (x : Found V) (d : Copied V) → block_of v.blocks asked.collection ≡ Some b → IsFound base asked.op x
         → IsTaken b.stripes x (copy_of r.copies.items asked.collection) d → IsCopyFor w a b (asked_of asked) d
@@ -130,7 +130,7 @@ module _ {V : Type 0} where
   StepsOnAt v r u t base (stage.Copying asked) = StepsOn v r u t base asked
   StepsOnAt v r u t base s = (u ≡ r) × (t ≡ told.Quiet)
 
-  -- A call that is ready now, of a copy that was taken for it: how it is judged is what is left of it, and told.
+  -- A call that is ready now, of a copy that was taken for it: how it is judged is what is left of it, and what is answered.
   pub record HasGoneOn (v : BlocksView) (r u : TxActor V) (t : Told V) (base : Base V) (asked : Asked V) : Type 0 where
     pub block : Block
     pub found : Found V

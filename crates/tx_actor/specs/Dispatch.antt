@@ -14,16 +14,16 @@ use Rattle.tx_actor.specs.declared.actor.Told.{Told}
 use Rattle.tx_actor.specs.declared.actor.TxActor.{TxActor}
 
 module _ {V : Type 0} where
-  -- In every world in which r is an actor, it is u after f, which tells t, where it may go on.
+  -- In every world in which r is an actor, it is u after f, which answers t, where it may continue.
   abbrev pub Steps : TxActor V → TxActor V → Told V → (ℕ → World V → After V) → Type 0
   Steps r u t f = (a : ℕ) (w : World V) → MayGoOn a w (stage_of r.stage) → Runs a r w
       → Runs a u (f a w).0 × (notice_of a t ≡ (f a w).1)
 
-  -- r becomes u by what the words told
+  -- r becomes u by what the words answered
   abbrev pub IsToldWord : TxActor V → TxActor V → Told V → notice.Notice → Type 0
   IsToldWord r u t n = Steps r u t (λ a w. after_word w a (seat_at (w.seats a) r) (stage_of r.stage) n)
 
-  -- and by a base that has gone home
+  -- and by a base that was put back
   abbrev pub IsGoneHome : TxActor V → TxActor V → Told V → Type 0
   IsGoneHome r u t = Steps r u t (λ a w. after_home w a (seat_at (w.seats a) r) (stage_of r.stage))
 
@@ -34,7 +34,7 @@ module _ {V : Type 0} where
   Records stage.Leaving = Unit {0}
   Records s = ⊥
 
-  -- Nothing comes of a step at this stage that told nothing.
+  -- Nothing comes of a step at this stage that answered nothing.
   abbrev pub waits_at : running.Stage V → Bool
   waits_at (stage.Reading l) = true
   waits_at (stage.Locking homes) = true
@@ -42,7 +42,7 @@ module _ {V : Type 0} where
   waits_at stage.Cancelling = true
   waits_at s = false
 
-  -- r becomes u by a want of memory
+  -- r becomes u by a failed allocation
   abbrev pub Starves : TxActor V → TxActor V → Told V → Type 0
   Starves r u t = Does r u t (λ a w. starve_at w a (seat_of r) (stage_of r.stage))
 

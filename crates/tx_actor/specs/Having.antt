@@ -65,7 +65,7 @@ module _ {V : Type 0} where
   HasCopiesAt r w a s = Unit {0}
 
   -- In w, what r has of collections at its stage is a's own: of all, until its record is made, and then of those whose bases are still to
-  -- go home. Of a transaction that ends nothing is asked.
+  -- be put back. Of a transaction that ends nothing is asked.
   abbrev pub HasCopies : TxActor V → World V → ℕ → Type 0
   HasCopies r w a = HasCopiesAt r w a r.stage
 
@@ -88,7 +88,7 @@ module _ {V : Type 0} where
   IsWholeOf (stage.Homing homes) ks = (k : ℕ) → Contains ks k → Contains homes.items k
   IsWholeOf s ks = ⊥
 
-  -- a transaction is at rest that has begun, with no copy, or was under way
+  -- a transaction that has begun is idle, with no copy, or was under way
   abbrev pub KeepsOpen : Stage V → (before now : List (CopyOf V)) → Type 0
   KeepsOpen stage.Beginning before now = now ≡ []
   KeepsOpen s before now = IsWhole s × (now ≡ before)
@@ -134,7 +134,7 @@ module _ {V : Type 0} where
         → (x : Outcome V) × (o.outcome ≡ Some x) × (c.collection ≡ o.asked.collection) × (answer_of c.copied o.asked.op ≡ Some x)
     pub told : t ≡ told.Answered (Replied o.told)
 
-  -- what judging the locations of a call leaves of r, and tells
+  -- what judging the locations of a call leaves of r, and its answer
   abbrev pub HasGone : Judged → TxActor V → TxActor V → Told V → running.Answered V → Entries → Type 0
   HasGone All r u t o es = HasAccepted r u t o
   HasGone (Next l) r u t o es = ReadsOn r u t o es
@@ -150,7 +150,7 @@ module _ {V : Type 0} where
   HasFound r u t o (d ∷ es) v =
       ((d.1 ≡ v) × HasGone (judged r.words.reads.entries es) r u t o es) ⊎ ((d.1 ≢ v) × AsksNothing u)
 
-  -- What a step of the load of a call's location leaves of r, at this stage, which the words told n.
+  -- What a step of the load of a call's location leaves of r, at this stage, where the words answered n.
   abbrev pub HasLoaded : TxActor V → TxActor V → Told V → Stage V → notice.Notice → Type 0
   HasLoaded r u t (stage.Loading o left) (notice.Number v) = HasFound r u t o left.items v
   HasLoaded r u t (stage.Loading o left) (notice.Moved l word) = AsksNothing u ⊎ IsAsBefore r u t

@@ -49,7 +49,7 @@ abbrev pub IsCallAt : {V : Type 0} → BlocksView → List (CopyOf V) → Stage 
 IsCallAt {V} v cs (stage.Loading o left) = IsCallOf v cs o left.items
 IsCallAt {V} v cs s = Unit {0}
 
--- An actor of a world whose locations lie as v says, whatever it shows: what its steps ask of its own record.
+-- An actor of a world whose locations are laid out as v says, whatever it shows: what its steps ask of its own record.
 pub record IsRunning {V : Type 0} (v : BlocksView) (r : TxActor V) : Type 0 where
   pub fits : Fits (end_of v.words v.blocks) r.words
   pub room : HasRoom r r.stage
@@ -61,8 +61,8 @@ pub record KeepsIn {V : Type 0} (v : BlocksView) (r u : TxActor V) : Type 0 wher
   pub running : IsRunning v r → IsRunning v u
   pub owed : owed u.words.place ≤ owed r.words.place
 
--- What a call asks of its actor at rest that goes on, with these locations to be judged: it names a collection of v, stands on its copy,
--- and there is room to read them all.
+-- What a call that continues asks of its idle actor, with these locations to be judged: it names a collection of v, stands on its copy, and
+-- there is room to read them all.
 pub record CanGoOn {V : Type 0} (v : BlocksView) (r : TxActor V) (o : running.Answered V) (es : Entries) : Type 0 where
   pub named : o.asked.collection < length v.blocks
   pub call : IsCallOf v r.copies.items o es
@@ -79,14 +79,14 @@ module _ {V : Type 0} where
   CanGoOnBehind v r o [] = ⊥
   CanGoOnBehind v r o (d ∷ es) = CanGoOn v r o es
 
-  -- What a step of the load of a call's location leaves of r, which told n: where an edition was read the call can go on, and where the
-  -- location has moved it is given up; else all is as it was.
+  -- What a step of the load of a call's location leaves of r, which answered n: where an edition was read the call can continue, and where
+  -- the location has moved it is aborted; else all is as it was.
   abbrev pub HeardAt : BlocksView → TxActor V → Stage V → notice.Notice → Type 0
   HeardAt v r (stage.Loading o left) (notice.Number e) = CanGoOnBehind v r o left.items
   HeardAt v r (stage.Loading o left) (notice.Moved l word) = IsSome left.items
   HeardAt v r s n = HasRoom r s × NamesAmong (length v.blocks) s × IsCallAt v r.copies.items s
 
--- An actor of a world that lies as v says, whose word actor has taken a step of a load, which told n.
+-- An actor of a world that is laid out as v says, whose word actor has taken a step of a load, which answered n.
 pub record HasHeard {V : Type 0} (v : BlocksView) (r : TxActor V) (n : notice.Notice) : Type 0 where
   pub fits : Fits (end_of v.words v.blocks) r.words
   pub heard : HeardAt v r r.stage n

@@ -54,7 +54,7 @@ MayHear V =
     Runs a r u → OwnsCallAt w a r.stage → MayLoad a u r r.stage (word_notice w a)
 
 -- What is left of a call stands on the actor's own copy, as its call did, in each world with its shadow and its calls: after a load that
--- told the copied edition those still to be judged, and after one that told nothing all of them.
+-- answered the copied edition those still to be judged, and after one that answered nothing all of them.
 abbrev pub KeepsOne : {V : Type 0} → World V → ℕ → running.Answered V → Entries → notice.Notice → Type 0
 KeepsOne {V} u a call (d ∷ es) (notice.Number v) =
     d.1 ≡ v → (w : World V) → w.words ≡ u.words → w.blocks ≡ u.blocks → w.boosted.shadows a ≡ u.boosted.shadows a

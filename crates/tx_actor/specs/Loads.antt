@@ -20,7 +20,7 @@ first_entry [] = None
 first_entry (d ∷ es) = Some d
 
 module _ {V : Type 0} where
-  -- the load of a call's first location was made, and told n
+  -- the load of a call's first location was made, and answered n
   abbrev pub after_load : World V → ℕ → Seat V → worlds.Stage V → notice.Notice → After V
   after_load w a x (worlds.Loading o (d ∷ es)) n = has_loaded w a x o d es n
   after_load w a x s n = (w, Quiet)
@@ -30,7 +30,7 @@ module _ {V : Type 0} where
   IsLoadable r (stage.Loading o left) (notice.Number v) = CanAccept r o
   IsLoadable r s n = Unit {0}
 
-  -- where the copied edition was read, the call may go on in this world, which has x as its outcome
+  -- where the copied edition was read, the call may continue in this world, which has x as its outcome
   abbrev pub MayJudge : ℕ → World V → TxActor V → Option (Outcome V) → running.Answered V → Entries → notice.Notice → Type 0
   MayJudge a w r x o (d ∷ es) (notice.Number v) = d.1 ≡ v → MayAnswer w a r.words x o es
   MayJudge a w r x o es n = Unit {0}
@@ -39,7 +39,7 @@ module _ {V : Type 0} where
   MayLoad a w r (stage.Loading o left) n = MayJudge a w r (outcome_in (w.seats a).stage) o left.items n
   MayLoad a w r s n = Unit {0}
 
-  -- In every world in which r is an actor, it is u after the load, which tells t, where the call may go on.
+  -- In every world in which r is an actor, it is u after the load, which answers t, where the call may continue.
   abbrev pub IsToldLoad : TxActor V → TxActor V → Told V → notice.Notice → Type 0
   IsToldLoad r u t n =
       (a : ℕ) (w : World V) → MayLoad a w r r.stage n → Runs a r w →

@@ -44,7 +44,7 @@ pub record HasRoomFor {V : Type 0} (u : TxActor V) (i : ℕ) (o : Outcome V) (n 
   pub ready : (c : CopyOf V) → slice_get u.copies.items i ≡ Some c → IsReady o c.copied
 
 -- A call on the copy at this place, of a collection that begins at location f, may be made ready: the copy holds and answers it, its
--- locations are numbers, and the word actor rests; a declared reader asks for no change.
+-- locations are numbers, and the word actor is idle; a declared reader asks for no change.
 pub record MayPrepare {V : Type 0} (r : TxActor V) (i f : ℕ) (op : Op V) : Type 0 where
   pub there : i < length r.copies.items
   pub rests : r.words.place ≡ place.Open

@@ -12,7 +12,7 @@ use Rattle.tx_actor.specs.Running.{stage_of}
 use Rattle.tx_actor.specs.declared.actor.TxActor.{TxActor}
 
 -- While a call's locations are read, the word actor x of r is in a load. A step of it, in a world that has x for it, leaves y, which takes
--- no more room than was told: so the load may be heard, and what it asks of its actor is there.
+-- no more room than was answered: so the load may be heard, and what it asks of its actor is there.
 abbrev pub LoadsKeep : Type 0 → Type 0
 LoadsKeep V =
     (v : BlocksView) (r : TxActor V) (y : Actor) (w : World V) (a : ℕ) → is_loading (stage_of r.stage) ≡ true → IsRunning v r

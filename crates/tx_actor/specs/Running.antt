@@ -63,9 +63,9 @@ module _ {V : Type 0} where
   outcome_in (worlds.Loading o left) = o.outcome
   outcome_in s = None
 
-  -- The actor's stage in a world that has it at s. While the locations of a call are read, its outcome there is the world's: where a
-  -- piece is copied after another's commit, of a location that was read before it, the actor can't know that outcome, and the call
-  -- comes to nothing.
+  -- The actor's stage in a world that has it at s. While the locations of a call are read, its outcome there is the world's: where a piece
+  -- is copied after another's commit, of a location that was read before it, the actor can't know that outcome, and the call results in
+  -- nothing.
   abbrev pub stage_in : worlds.Stage V → Stage V → worlds.Stage V
   stage_in s (stage.Loading o left) = worlds.Loading (with_outcome o (outcome_in s)) left.items
   stage_in s t = stage_of t
@@ -73,8 +73,8 @@ module _ {V : Type 0} where
   abbrev pub seat_in : worlds.Stage V → TxActor V → Seat V
   seat_in s r = worlds.at_stage (seat_of r) (stage_in s r.stage)
 
-  -- From the first value store on nothing reads the calls and the copies of a seat: its record has the calls, and its logs go home. So an
-  -- actor may have handed them out, and what the world's seat has of them is the world's alone.
+  -- From the first value store on nothing reads the calls and the copies of a seat: its record has the calls, and its logs are folded in.
+  -- So an actor may have handed them out, and what the world's seat has of them is the world's alone.
   abbrev pub is_recorded : Stage V → Bool
   is_recorded (stage.Storing homes) = true
   is_recorded (stage.Homing homes) = true
@@ -90,7 +90,7 @@ module _ {V : Type 0} where
   abbrev pub IsSeatOf : Seat V → TxActor V → Type 0
   IsSeatOf x r = (x.rv ≡ r.rv) × (x.wv ≡ r.wv) × (x.cause ≡ r.cause)
 
-  -- what is told of actor a
+  -- what actor a is answered
   abbrev pub notice_of : ℕ → Told V → Notice V
   notice_of a told.Quiet = Quiet
   notice_of a (told.Answered x) = Answered a x
@@ -106,7 +106,7 @@ module _ {V : Type 0} where
   Runs a r w =
       (w.seats a ≡ seat_at (w.seats a) r) × (worlds.actor_of w a ≡ words.actor_of r.words) × KnowsHomes r.stage (worlds.written_homes w a)
 
-  -- In every world in which r is an actor, it is u after f, which tells t.
+  -- In every world in which r is an actor, it is u after f, which answers t.
   abbrev pub Does : TxActor V → TxActor V → Told V → (ℕ → World V → After V) → Type 0
   Does r u t f = (a : ℕ) (w : World V) → Runs a r w → Runs a u (f a w).0 × (notice_of a t ≡ (f a w).1)
 

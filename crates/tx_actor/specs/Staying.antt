@@ -17,7 +17,7 @@ use Rattle.tx_actor.specs.declared.actor.Stage.TheVariants as stage
 use Rattle.tx_actor.specs.declared.actor.Told.{Told}
 use Rattle.tx_actor.specs.declared.actor.TxActor.{TxActor}
 
--- While r reads for a call, and has taken the step of the words, what hearing it makes of r is an actor of the world behind the step, and
+-- While r reads for a call, and has taken the step of the words, what hearing it makes of r is an actor of the world after the step, and
 -- has of collections what its stage asks.
 abbrev pub LoadsStayOwn : Type 0 → Type 0
 LoadsStayOwn V =
@@ -29,7 +29,7 @@ LoadsStayOwn V =
     → HasLoaded r u t r.stage (word_notice w a) → Runs a u f.0 → notice_of a t ≡ f.1 → HasCopies u f.0 a
 
 -- While r holds the gate of its call, and base is the collection's, what taking the call's part of the base makes of r is an actor of the
--- world behind the step, and has of collections what its stage asks.
+-- world after the step, and has of collections what its stage asks.
 abbrev pub CopiesStayOwn : Type 0 → Type 0
 CopiesStayOwn V =
     (blocks : List Block) (clock : ℕ) (values : List ℕ) (held : List (Held V)) (events : List (Event V)) (a : ℕ) (v : BlocksView)

@@ -78,8 +78,8 @@ module _ {V : Type 0} where
   AreTakenAt v r u base t (stage.Copying asked) = AreTakenFor v (at r stage.Idle) u base asked t
   AreTakenAt v r u base t s = (u ≡ r) × (t ≡ None)
 
-  -- In every world in which the step may be taken, it tells nothing, and lets the seat read for its call; where the request is then refused
-  -- memory the actor is u, and nothing is told.
+  -- In every world in which the step may be taken, it answers nothing, and lets the seat read for its call; where the request then finds no
+  -- memory the actor is u, and nothing is answered.
   abbrev pub StarvesBehind : BlocksView → TxActor V → TxActor V → Base V → Asked V → Type 0
   StarvesBehind v r u base asked =
       (a : ℕ) (w : World V) → IsLaid v w → Runs a r w → MayCopy v w a r base asked →

@@ -23,7 +23,7 @@ pub struct Answered<V> {
     pub place: usize,
     /// The locations that it writes, each with the edition after the copied one.
     pub writes: Writes,
-    /// Its reply, to be told.
+    /// Its reply, to be returned.
     pub told: Reply<V>,
 }
 
@@ -51,7 +51,7 @@ pub enum Stage<V> {
     /// The gates of these are held, and the first value store is next.
     Ready(VecDeque<u32>),
     Storing(VecDeque<u32>),
-    /// The bases of these are to go home.
+    /// The bases of these are to be put back.
     Homing(VecDeque<u32>),
     /// The gates of these are to be put back, their bases unchanged.
     Returning(VecDeque<u32>),
@@ -59,7 +59,7 @@ pub enum Stage<V> {
     ReturningOne(u32),
 }
 
-/// What a step or a request tells.
+/// What a step or a request answers.
 #[derive(Drop)]
 pub enum Told<V> {
     Quiet,

@@ -81,7 +81,7 @@ impl<V: Value> TxActor<V> {
         Told::Answered(Answer::Replied(told))
     }
 
-    /// A call that is prepared goes on: its locations are judged by the read set, from the first. Where the set has them all with these
+    /// A call that is prepared continues: its locations are judged by the read set, from the first. Where the set has them all with these
     /// editions it is accepted; the first that the set does not have is read next; one that it has with another edition is stale.
     #[inline(always)]
     pub(crate) fn goes_on(

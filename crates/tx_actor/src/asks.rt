@@ -1,5 +1,5 @@
-//! What an actor is asked: a read or a write of a word, and the two ends of its transaction. A request that needs room makes it first,
-//! and leaves the actor as it was where memory is refused.
+//! What an actor is asked: a read or a write of a word, and the two ends of its transaction. A request that needs room makes it first, and
+//! leaves the actor as it was where an allocation fails.
 ghost use Rattle.std.specs.Prelude.{◌≡◌, IfOk, OnErr, OnOk, false};
 ghost use Rattle.seq_model.specs.declared.event.Notice.TheVariants.{Quiet};
 ghost use Rattle.seq_model.specs.declared.call.Op.TheVariants as op;
@@ -90,8 +90,9 @@ impl<V: Drop> TxActor<V> {
         Ok(Told::Answered(Answer::Replied(Reply::Done)))
     }
 
-    /// Its transaction is to commit. Where it has written, the collections with a written location are found now. Its calls move into
-    /// the list that its receipt is going to keep; theirs serves the next transaction.
+    /// Its transaction is to commit. Where it has written, the collections with a written location are found now. Its calls move into the
+    /// list that its receipt is going to keep; theirs serves the next transaction. `Memory`, where an allocation fails, leaves the actor as
+    /// it was.
     #[inline(always)]
     pub fn asks_to_commit(&mut self, alloc: Global, blocks: &Blocks) -> Result<Told<V>, Memory>
         ensures ok { IfOk result (λ told. Asks blocks.now self.old self.new told
@@ -116,6 +117,7 @@ impl<V: Drop> TxActor<V> {
     }
 
     /// Its first value is to be stored next, which is the next step of its word actor. All is locked and checked, and the gates are held.
+    /// `Memory`, where an allocation fails, leaves the actor as it was.
     pub fn asks_to_store(&mut self, blocks: &Blocks) -> Result<(), Memory>
         ensures ok { OnOk result (MayStore self.old self.new) }
         ensures err { OnErr result (Stands self.old self.new) }

@@ -46,7 +46,7 @@ impl<V: Value> TxActor<V> {
         }
     }
 
-    /// It is at rest in its transaction.
+    /// It is idle in its transaction.
     #[inline(always)]
     fn asks_open(
         &mut self,
@@ -71,9 +71,9 @@ impl<V: Value> TxActor<V> {
     }
 
     /// A request. `NotIdle` where another is under way, or a begin within a transaction, and `NoTransaction` for a call or an end without
-    /// one; else as the request's own method says. A want of memory leaves the actor as it was, and comes only where none of these refuses
-    /// the request, nor `NoSuch`, nor the limit of calls, nor want of room for a word in its set. Where it is not at rest in its
-    /// transaction it begins one, or stays as it is.
+    /// one; else as the request's own method says. `Memory` leaves the actor as it was, and comes only where none of these refuses the
+    /// request, nor `NoSuch`, nor the limit of calls, nor a set without room for a word. Where it is not idle in its transaction it begins
+    /// one, or is unchanged.
     #[inline(always)]
     pub fn asks(
         &mut self,

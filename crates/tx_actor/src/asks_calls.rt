@@ -110,10 +110,10 @@ impl<V: Value> TxActor<V> {
         }
     }
 
-    /// A call on a collection. `NoSuch` where there is no such collection, or it is of another kind, and for a change in a declared
-    /// reader, then `TooLong` past the limit of calls; neither changes anything. What the transaction has of the collection answers:
-    /// `TooLong` where the call's locations don't fit the sets, else it is accepted, or a location is read first, or the transaction is
-    /// given up, as its copy is stale. Where it has not what the call touches, the collection's gate is tried next. A want of memory
+    /// A call on a collection. `NoSuch` where there is no such collection, or it is of another kind, and for a change in a declared reader,
+    /// then `TooLong` past the limit of calls; neither changes anything. What the transaction has of the collection answers: `TooLong`
+    /// where the call's locations don't fit the sets, else it is accepted, or a location is read first, or the transaction is aborted, as
+    /// its copy is stale. Where it has not what the call touches, the collection's gate is tried next. `Memory`, where an allocation fails,
     /// leaves the actor as it was.
     pub fn asks_to_call(
         &mut self,

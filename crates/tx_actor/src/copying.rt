@@ -1,4 +1,4 @@
-//! What a call makes of its actor while the gate of its collection is held: what it touches is copied from the base, and it goes on by
+//! What a call makes of its actor while the gate of its collection is held: what it touches is copied from the base, and it continues with
 //! that copy once the gate is put back.
 ghost use Rattle.std.specs.Prelude.{◌≡◌, ◌<◌, ◌+◌, ◌≤◌, ◌^◌, IfOk, OnErr, Some, length};
 ghost use Rattle.replay_log.specs.Base.{locations_of, shown_of, stripes_of};
@@ -24,8 +24,8 @@ use std::collections::VecDeque;
 use std::mem;
 
 impl<V: Value> TxActor<V> {
-    /// What was found for the call is taken, and what the call takes is made ready. Answers where the copy of its collection stands. A
-    /// want of memory takes it back.
+    /// What was found for the call is taken, and what the call takes is made ready. Returns where the copy of its collection stands. Where
+    /// an allocation fails it is taken back.
     fn readies_copy(
         &mut self,
         alloc: Global,
@@ -113,7 +113,7 @@ impl<V: Value> TxActor<V> {
 
     /// The gate of its call is held, and this is the base of the call's collection: what the call touches is copied, and the gate may be
     /// put back. `TooLong` where its locations don't fit the sets, else it is accepted, or a location is read first, or the transaction is
-    /// given up, as the copy is stale. With a want of memory the transaction is given up as one that starves, and holds the gate.
+    /// aborted, as the copy is stale. Where an allocation fails the transaction is aborted for `Memory`, and holds the gate.
     pub fn copied(
         &mut self,
         alloc: Global,

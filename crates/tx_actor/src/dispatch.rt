@@ -1,5 +1,5 @@
-//! What an actor makes of its atomic action, by its stage: of what a step of the words told, of a try on a gate, of a gate that was
-//! put back, of a base that has gone home, and of a want of memory.
+//! What an actor makes of its atomic action, by its stage: of what a step of the words answered, of a try on a gate, of a gate that was put
+//! back, of a base that was put back, and of an allocation that failed.
 ghost use Rattle.std.specs.Prelude.{◌≡◌, ◌<◌, ℕ, [], ◌∷◌, false, true};
 ghost use Rattle.std.specs.Vec.{vec_len, vec_capacity};
 ghost use Rattle.seq_model.specs.declared.refusal.Refusal.TheVariants as refusal;
@@ -22,14 +22,14 @@ use std::collections::VecDeque;
 use std::mem;
 use step_core::{WordAnswer, WordRefusal};
 
-/// Whether the step told nothing.
+/// Whether the step answered nothing.
 pub(crate) fn is_quiet(heard: WordNotice) -> bool
     ensures { result ≡ true → shown_notice heard ≡ notice.Quiet }
 {
     matches!(heard, WordNotice::Quiet)
 }
 
-/// Whether nothing comes of the step at this stage, since it told nothing.
+/// Whether nothing comes of the step at this stage, since it answered nothing.
 fn is_waiting<V>(stage: &Stage<V>, heard: WordNotice) -> bool
     ensures told { result ≡ true → shown_notice heard ≡ notice.Quiet }
     ensures stage { result ≡ true → waits_at stage.now ≡ true }
@@ -142,7 +142,7 @@ impl<V: Drop> TxActor<V> {
         }
     }
 
-    /// Its word actor has taken a step, which told this.
+    /// Its word actor has taken a step, which answered this.
     #[inline(always)]
     pub fn stepped(&mut self, told: Result<Option<WordAnswer>, WordRefusal>) -> Told<V>
         requires { HasRoom self.old self.old.stage }
@@ -284,7 +284,7 @@ impl<V: Drop> TxActor<V> {
         self.goes_home(left)
     }
 
-    /// The base that was to go home has gone, with its changes, and its gate is free.
+    /// The base that was to be put back is back, with its changes, and its gate is free.
     #[inline(always)]
     pub fn went_home(&mut self) -> Told<V>
         ensures does { IsGoneHome self.old self.new result }
@@ -299,7 +299,7 @@ impl<V: Drop> TxActor<V> {
         }
     }
 
-    /// A call is given up while the gate of its collection is held.
+    /// A call is aborted while the gate of its collection is held.
     pub(crate) fn starves_copying(&mut self, collection: u32) -> Told<V>
         ensures does { Reseats self.old self.new result
             (λ a w. gives_up w a (because (seat_of self.old) refusal.Memory) (collection ∷ [])) }
@@ -329,7 +329,7 @@ impl<V: Drop> TxActor<V> {
         self.gives_up_with(Refusal::Memory, homes)
     }
 
-    /// Its request is refused memory, where it may still be.
+    /// An allocation fails for its request, where one still may.
     pub fn starves(&mut self) -> Told<V>
         ensures does { Starves self.old self.new result }
         ensures keeps { (v : BlocksView) → KeepsIn v self.old self.new }

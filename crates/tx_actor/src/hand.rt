@@ -15,7 +15,7 @@ use std::collections::VecDeque;
 use std::marker::Model;
 use std::mem;
 
-/// A call on a collection, in the box that its outcome is going to lie in. Contracts see the call alone.
+/// A call on a collection, in the box that will hold its outcome. Contracts see the call alone.
 #[derive(Drop)]
 pub struct Asking<V> {
     call: Boxed<Answered<V>>,
@@ -30,13 +30,14 @@ impl<V> Model for Asking<V> {
 }
 
 impl<V> Asking<V> {
+    /// The call.
     pub fn get(&self) -> &Asked<V>
         ensures { result.now ≡ self.now }
     {
         &self.call.get().asked
     }
 
-    /// The call, in the same box, with room for what it is answered. What that holds is of no meaning.
+    /// The call, in the same box, with room for its answer. What that holds is unused.
     pub(crate) fn answering(self) -> Boxed<Answered<V>>
         ensures { result.asked ≡ self }
     {
@@ -108,7 +109,7 @@ impl<V: Drop> Kept<V> {
         }
     }
 
-    /// As `Spares` has it of what earlier transactions took.
+    /// Like [`Spares::clear`], [`Spares::log_of`] and their kin.
     pub(crate) fn clear(&mut self, copies: &mut Vec<CopyOf<V>>)
         ensures { copies.new.items ≡ [] }
     {
@@ -142,14 +143,14 @@ impl<V: Drop> Kept<V> {
         self.copies.keep_homes(homes);
     }
 
-    /// Keeps the box of a call that has come to its end.
+    /// Keeps the box of a call that has ended.
     pub(crate) fn keep_call(&mut self, call: Boxed<Answered<V>>) {
         self.call = Some(call);
     }
 }
 
 impl<V: Value> Kept<V> {
-    /// As `find` of actor_copies has it.
+    /// Like `find` of `actor_copies`.
     #[inline(always)]
     pub(crate) fn find(
         &mut self,
@@ -162,7 +163,7 @@ impl<V: Value> Kept<V> {
         find(&mut self.copies, alloc, base, op)
     }
 
-    /// As `take` of actor_copies has it.
+    /// Like `take` of `actor_copies`.
     pub(crate) fn take(
         &mut self,
         copies: &mut Vec<CopyOf<V>>,

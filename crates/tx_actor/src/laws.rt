@@ -26,31 +26,31 @@ use crate::actor::Stage;
 use actor_copies::{copies_put_back, copies_stay};
 use seq_model::Value;
 
-/// Wherever events have led: where the load of a call's last location told the copied edition, the acceptance is allowed, and the world's
-/// outcome is the one of its stage; where another location is to be read next, no set has it. So the load may be heard by an actor whose
-/// call stands on its own copy, or has a location that was read with another edition before, and is then not accepted; what is left to be
-/// judged stands on that copy too.
+/// Wherever events have led: where the load of a call's last location answered the copied edition, the acceptance is allowed, and the
+/// world's outcome is the one of its stage; where another location is to be read next, no set has it. So the load may be heard by an actor
+/// whose call stands on its own copy, or has a location that was read with another edition before, and is then not accepted; what is left
+/// to be judged stands on that copy too.
 pub fn loads_as_worlds<V: Value>()
     ensures reached { LoadsReached V }
     ensures heard { MayHear V }
     ensures kept { KeepsCall V }
 {}
 
-/// While a call's locations are read, a step of the word actor tells nothing, and is in a load of the same location, with the room as it
+/// While a call's locations are read, a step of the word actor answers nothing, and is in a load of the same location, with the room as it
 /// was; or it has read the edition, and there is room for the other locations and for the writes; or the location has moved.
 pub fn loads_keep_running<V: Value>()
     ensures { LoadsKeep V }
 {}
 
-/// In a world that shows an actor its seat does next what the actor does, and a want of memory, or what a load told, makes of it what it
-/// makes of the actor's own, which it is but for the outcome of a call whose locations are read.
+/// In a world that shows an actor its seat does next what the actor does, and a failed allocation, or what a load answered, makes of it
+/// what it makes of the actor's own, which it is but for the outcome of a call whose locations are read.
 pub fn seats_as_actors<V>()
     ensures { SeatsActors V }
 {}
 
 /// What an actor has of all collections is its own in a world: nothing, where its transaction has nothing of each. It depends on how the
-/// locations lie and on the actor's own shadow alone, so it stays whatever else happens. An accepted outcome keeps it. The copies are then
-/// of the kind and the stripes of their blocks.
+/// locations are laid out and on the actor's own shadow alone, so nothing else that happens changes it. An accepted outcome keeps it. The
+/// copies are then of the kind and the stripes of their blocks.
 pub fn copies_stay_own<V: Value>()
     ensures begun { (r : TxActor V) (w : World V) (a : ℕ) → r.copies.items ≡ [] → HaveStripes w.blocks →
         ((k : ℕ) → IsOwn w a k None) → OwnsCopies r w a }
@@ -64,10 +64,10 @@ pub fn copies_stay_own<V: Value>()
     ensures blocks { (v : BlocksView) (r : TxActor V) (w : World V) (a : ℕ) → IsLaid v w → OwnsCopies r w a → AreOfBlocks v r.copies.items }
 {}
 
-/// What an actor has of collections stays its own from stage to stage. A step, or a want of memory, that leaves its copies as the next
-/// stage asks for them leaves it, where its event leaves all that its transaction has; one that begins has nothing. Another actor's
-/// event leaves it. At rest, what a request leaves of its copies has been read where they were; and where all is its own, so is what a
-/// call reads for that it has made ready.
+/// What an actor has of collections remains its own from stage to stage. A step, or a failed allocation, that leaves its copies as the next
+/// stage asks for them leaves it, where its event leaves all that its transaction has; one that begins has nothing. Another actor's event
+/// leaves it. Where the actor is idle, what a request leaves of its copies has been read where they were; and where all is its own, so is
+/// what a call reads for that it has made ready.
 pub fn copies_by_stage<V: Value>()
     ensures steps { (r u : TxActor V) (w v : World V) (a : ℕ) → r.stage ≢ Stage.Beginning → KeepsCopies r u → Stays w v a →
         HasCopies r w a → HasCopies u v a }
@@ -82,16 +82,16 @@ pub fn copies_by_stage<V: Value>()
     copies_stay::<V>();
 }
 
-/// What an actor has of collections stays its own while a call's locations are read: where the call is accepted its copy follows, and where
-/// a location is read next it stands on that copy still, or was read with another edition.
+/// What an actor has of collections remains its own while a call's locations are read: where the call is accepted its copy follows, and
+/// where a location is read next it still stands on that copy, or was read with another edition.
 pub fn loads_stay_own<V: Value>()
     ensures { LoadsStayOwn V }
 {
     copies_stay::<V>();
 }
 
-/// So it does where a call's part of a base is copied: what was there stays, and what is taken is its own, or one of its locations was read
-/// with another edition, so that the call is never accepted.
+/// So it is where a call's part of a base is copied: what was there is unchanged, and what is taken is its own, or one of its locations was
+/// read with another edition, so that the call is never accepted.
 pub fn copied_stay_own<V: Value>()
     ensures { CopiesStayOwn V }
 {

@@ -118,8 +118,8 @@ impl<V: Value> TxActor<V> {
         }
     }
 
-    /// Its word actor has taken a step of the load of a call's location, which told this. Where an edition was read, all that the call's
-    /// acceptance takes is there.
+    /// Its word actor has taken a step of the load of a call's location, which answered this. Where an edition was read, all that the
+    /// call's acceptance takes is there.
     #[inline(always)]
     pub fn loaded(&mut self, told: Result<Option<WordAnswer>, WordRefusal>) -> Told<V>
         requires prepared { IsLoadable self.old self.old.stage (notice_told told) }

@@ -1,4 +1,4 @@
-//! What a commit prepares of the bases that it writes, and the logs that it hands home.
+//! What a commit prepares of the bases that it writes, and the logs that it hands over to them.
 ghost use Rattle.std.specs.Prelude.{◌≡◌, OnOk, true};
 ghost use Rattle.replay_log.specs.Base.{IsPreparedFor, StaysPrepared, editions_of, shown_of, stripes_of};
 ghost use Rattle.actor_words.specs.Blocks.{BlocksView};
@@ -15,8 +15,8 @@ use seq_model::{Memory, Value};
 use std::alloc::Global;
 
 impl<V: Value> TxActor<V> {
-    /// Makes room in the base of a collection for what its transaction has changed there, so that it goes home without memory. The
-    /// base shows what it did, also where memory is refused.
+    /// Makes room in the base of a collection for what its transaction has changed there, so that it is put back without memory. The base
+    /// shows what it did, also where an allocation fails.
     pub fn prepares_base(&self, collection: u32, base: &mut Base<V>) -> Result<(), Memory>
         ensures ok { OnOk result (IsPreparedFor (changes_had (copy_of self.now.copies.items collection)) base.new) }
         ensures shown { shown_of base.new ≡ shown_of base.old }
@@ -30,9 +30,9 @@ impl<V: Value> TxActor<V> {
         }
     }
 
-    /// The log of its transaction's calls on a collection, to go home. It is moved out with what there is of the collection: from its
-    /// first value store on the transaction asks for that no more, and the actor is what it was in every world. Without a copy there
-    /// was no call, and the log is empty. It takes no memory.
+    /// The log of its transaction's calls on a collection, to be folded into the base. It is moved out with what there is of the
+    /// collection: from its first value store on the transaction asks for that no more, and the actor is what it was in every world.
+    /// Without a copy there was no call, and the log is empty. It takes no memory.
     pub fn log_of(&mut self, alloc: Global, collection: u32) -> Log<V>
         ensures changes { result.changes ≡ changes_had (copy_of self.old.copies.items collection) }
         ensures locations { result.locations ≡ locations_had (copy_of self.old.copies.items collection) }
@@ -47,7 +47,7 @@ impl<V: Value> TxActor<V> {
         }
     }
 
-    /// Takes back a log that has gone home, whose memory serves the next transaction. The actor is what it was. It takes no memory.
+    /// Takes back a log that was folded in, whose memory serves the next transaction. The actor is what it was. It takes no memory.
     pub fn keep_log(&mut self, log: Log<V>)
         ensures { self.new ≡ self.old }
     {

@@ -1,4 +1,4 @@
-//! What a call on a copied collection takes is made ready before its first location is read: nothing of it can be refused memory then.
+//! What a call on a copied collection takes is made ready before its first location is read: no allocation for it can fail then.
 ghost use Rattle.std.specs.Prelude.{◌≡◌, ◌<◌, IfOk, OnOk, Some, length, slice_get};
 ghost use Rattle.conflict.specs.declared.outcome.Outcome.{Outcome};
 ghost use Rattle.actor_copies.specs.declared.copies.CopyOf.{CopyOf};
@@ -14,7 +14,7 @@ use std::alloc::Global;
 use std::collections::VecDeque;
 use step_core::Actor;
 
-/// A call that is ready to go on, with what is left to be judged of it: locations, with the editions that were copied.
+/// A call that is ready to continue, with what is left to be judged of it: locations, with the editions that were copied.
 #[derive(Drop)]
 pub struct Prepared<V> {
     pub call: Boxed<Answered<V>>,
@@ -39,7 +39,7 @@ impl<V: Value> TxActor<V> {
         Ok(())
     }
 
-    /// The reply of the outcome is copied, to be told, and room is made for all that its call takes.
+    /// The reply of the outcome is copied, to be returned, and room is made for all that its call takes.
     fn readies_reply(
         &mut self,
         place: usize,
@@ -63,9 +63,9 @@ impl<V: Value> TxActor<V> {
         }
     }
 
-    /// Makes ready what a call takes which the copy at this place holds: its outcome, its writes, and room for all that it will read.
-    /// The collection begins at location `first`. None where its locations don't fit the sets. What the actor shows stands, also where
-    /// memory is refused.
+    /// Makes ready what a call takes which the copy at this place holds: its outcome, its writes, and room for all that it will read. The
+    /// collection begins at location `first`. None where its locations don't fit the sets. What the actor shows is unchanged, also where an
+    /// allocation fails.
     pub(crate) fn readies(
         &mut self,
         alloc: Global,

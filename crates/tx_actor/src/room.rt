@@ -18,7 +18,7 @@ pub(crate) fn reserve_call<V>(calls: &mut Vec<(Call<V>, Reply<V>)>) -> Result<()
 }
 
 /// Empties the list that a receipt is going to keep, and makes room in it for these calls, and for no more. What room it has already, of a
-/// commit that was refused, stays.
+/// commit that was refused, remains.
 pub(crate) fn reserve_made<V: Drop>(
     made: &mut Vec<(Call<V>, Reply<V>)>,
     calls: &Vec<(Call<V>, Reply<V>)>,
@@ -43,7 +43,7 @@ pub(crate) fn move_calls<V>(
     mem::swap(calls, made);
 }
 
-/// The list with more room comes first. The calls of a transaction that was aborted lie in the other one, with the room that they took.
+/// The list with more room comes first. The calls of a transaction that was aborted are in the other one, with the room that they took.
 pub(crate) fn keep_larger<V>(
     calls: &mut Vec<(Call<V>, Reply<V>)>,
     made: &mut Vec<(Call<V>, Reply<V>)>,

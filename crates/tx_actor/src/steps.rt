@@ -252,7 +252,7 @@ impl<V: Drop> TxActor<V> {
         Told::Quiet
     }
 
-    /// It is given up for this cause, and holds no gate.
+    /// It is aborted for this cause, and holds no gate.
     #[inline(always)]
     pub fn gives_up(&mut self, cause: Refusal) -> Told<V>
         ensures does { Reseats self.old self.new result (λ a w. worlds.gives_up w a (because (seat_of self.old) cause) []) }
@@ -264,7 +264,7 @@ impl<V: Drop> TxActor<V> {
         self.cancels()
     }
 
-    /// It is given up for this cause, and holds the gates of these collections.
+    /// It is aborted for this cause, and holds the gates of these collections.
     #[inline(always)]
     pub fn gives_up_with(&mut self, cause: Refusal, homes: VecDeque<u32>) -> Told<V>
         ensures does { Reseats self.old self.new result (λ a w. worlds.gives_up w a (because (seat_of self.old) cause) homes.items) }
@@ -352,7 +352,7 @@ impl<V: Drop> TxActor<V> {
         Told::Quiet
     }
 
-    /// A begin is refused memory.
+    /// An allocation fails for a begin.
     pub fn begin_starves(&mut self) -> Told<V>
         ensures does { Reseats self.old self.new result (λ a w. starve_at w a (seat_of self.old) worlds.Beginning) }
         ensures keeps { (v : BlocksView) → KeepsIn v (at self.old Stage.Idle) self.new }
@@ -376,7 +376,7 @@ impl<V: Drop> TxActor<V> {
         Told::Quiet
     }
 
-    /// The last lock of a transaction that is given up was given back.
+    /// The last lock of a transaction that is aborted was given back.
     pub fn cancelled(&mut self) -> Told<V>
         ensures does { Reseats self.old self.new result (λ a w. has_cancelled w a (seat_of self.old) notice.Cancelled) }
         ensures keeps { (v : BlocksView) → KeepsIn v (at self.old Stage.Idle) self.new }
@@ -400,7 +400,7 @@ impl<V: Drop> TxActor<V> {
         Told::Quiet
     }
 
-    /// All values are stored, or a base has gone home, and these are still to go.
+    /// All values are stored, or a base was put back, and these are still to be put back.
     #[inline(always)]
     pub fn goes_home(&mut self, homes: VecDeque<u32>) -> Told<V>
         ensures does { (a : ℕ) (w : World V) (x : Seat V) → IsSeatOf x self.old → MayRelease a w homes.items →

@@ -1,5 +1,5 @@
 //! A call that holds its gate no longer than it has to: what its key touches is taken under the gate, and where its location is to be read
-//! first, all else is made ready once the gate is put back. The call waits for that location then, so it can still be given up.
+//! first, all else is made ready once the gate is put back. The call waits for that location then, so it can still be aborted.
 ghost use Rattle.std.specs.Prelude.{◌≡◌, ◌<◌, ℕ, IfOk, OnErr, Some, None, true};
 ghost use Rattle.replay_log.specs.Base.{shown_of, stripes_of};
 ghost use Rattle.replay_log.specs.Parts.{kind_of};
@@ -154,8 +154,8 @@ impl<V: Value> TxActor<V> {
     }
 
     /// The gate of its call is held, and this is the base of the call's collection. Where the call is on a key whose location is to be read
-    /// first, what it touches is taken, and the gate may be put back, after which the call goes on ([`TxActor::goes_on_taken`]). Any other
-    /// call is left as it is, to be [`TxActor::copied`]. With a want of memory the transaction is given up as one that starves, and holds
+    /// first, what it touches is taken, and the gate may be put back, after which the call continues ([`TxActor::goes_on_taken`]). Any
+    /// other call is left as it is, to be [`TxActor::copied`]. Where an allocation fails the transaction is aborted for `Memory`, and holds
     /// the gate.
     #[inline(always)]
     pub fn takes(
@@ -180,8 +180,8 @@ impl<V: Value> TxActor<V> {
         }
     }
 
-    /// The gate is put back of a call whose key was taken: the call is made ready, and waits for the location. With a want of memory it is
-    /// given up there: what the step of its seat and a want of memory behind it make of the seat.
+    /// The gate is put back of a call whose key was taken: the call is made ready, and waits for the location. Where an allocation fails it
+    /// is aborted there, as the step of its seat and a failed allocation after it make of the seat.
     #[inline(always)]
     pub fn goes_on_taken(
         &mut self,

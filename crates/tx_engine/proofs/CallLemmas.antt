@@ -174,7 +174,8 @@ module _ {V : Type 0} where
 
     still_open : (r : Result (Reply V) Refusal) → Answers o s q (told_of r) → standing o m ≡ Rests → ⊥
     still_open (Ok reply) is rests =
-        stands_busy (standing o m) (opened.0 ++ (call, reply) ∷ []) (moves opened.0 opened.1 (told.Answered (answer.Replied reply)) is) rests
+        stands_busy (standing o m) (opened.0 ++ (call, reply) ∷ [])
+        (moves opened.0 opened.1 (told.Answered (answer.Replied reply)) is) rests
     still_open (Err cause) is rests = stands_busy (standing o m) opened.0 (moves opened.0 opened.1 (told.Refused cause) is).0 rests
 
     pub at_once : (n : Told V) (r : Result (Reply V) Refusal) → n ≡ told_of r → Answers o s q n → CallsTo o s call m r

@@ -115,7 +115,8 @@ module _ {V : Type 0} where
           let part = total_part (λ (u : View V). total h₁ u.receipts) s.views j v at in
           let whole = shows.receipts h₁ in
           let each : total (λ x. total (λ p. where_same (h₁ x) x.0 p.0) ps) w.records
-          ≡ total (λ x. where_same (count r.0) x.0 r.0) w.records = total_same (λ (x : ℕ × Record V). total (λ p. where_same (h₁ x) x.0 p.0) ps)
+          ≡ total (λ x. where_same (count r.0) x.0 r.0) w.records = total_same
+          (λ (x : ℕ × Record V). total (λ p. where_same (h₁ x) x.0 p.0) ps)
           (λ (x : ℕ × Record V). where_same (count r.0) x.0 r.0) w.records (λ k x _. counts r.0 x) in omega arith)
 
   -- ---- what is asked

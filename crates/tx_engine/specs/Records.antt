@@ -19,7 +19,8 @@ use Rattle.tx_table.specs.declared.view.Turn.{Turn}
 use Rattle.tx_table.specs.declared.view.View.{View}
 
 module _ {V : Type 0} where
-  -- the actors for which the seat of actor j stands, each with the turns that it has taken: its own, and those whose seats were joined into it
+  -- the actors for which the seat of actor j stands, each with the turns that it has taken: its own, and those whose seats were joined into
+  -- it
   abbrev pub stands_for : ℕ → View V → List (ℕ × List (Turn V))
   stands_for j v = (j, v.turns) ∷ v.joined
 

@@ -1,8 +1,7 @@
--- What an actor that is alone is refused.
--- It has no conflict: until it first begins the world is the opening, at which nothing is held, and from then on the law of a transaction
--- beside which no other steps serves. A step that begins to give a transaction up notes a conflict, and that would be told in the end; so
--- none is given up. Then a step is refused only at the limit of the clock, which the commits have not raised so far, or where a call finds
--- no room, which the weights of the calls leave.
+-- What an actor that is alone is refused. It has no conflict: until it first begins the world is the opening, at which nothing is held, and
+-- from then on the law of a transaction beside which no other steps serves. A step that begins to abort a transaction notes a conflict, and
+-- that would be answered in the end; so none is aborted. Then a step is refused only at the limit of the clock, which the commits have not
+-- raised so far, or where a call finds no room, which the weights of the calls leave.
 use Rattle.std.proofs.Common.{◌≡◌, inl, inr, ℕ, ◌+◌, ◌<◌, ◌≤◌, Bool, true, false, cond, not, ◌&&◌, ◌||◌, List, [], ◌∷◌, ◌++◌, length}
 use Rattle.std.proofs.Common.{Some, refl, sym, ◌∙◌, ap, subst, true≢false, arith}
 use Rattle.std.specs.Prelude.{nat_lt}
@@ -111,7 +110,8 @@ module _ {V : Type 0} where
       let z = w.boosted.shadows a in
       let o = outcome_at w a asked in
       choose_no (x.copied asked.collection (piece_at w.blocks asked)) (answers w a x x o o z.editions) _
-      (answers_no w a x x o o z.editions (has_room_for AnyWeight a w (weights x.calls) (changes c z.outcomes z.parts) asked h small few)) (λ q. q)
+      (answers_no w a x x o o z.editions (has_room_for AnyWeight a w (weights x.calls) (changes c z.outcomes z.parts) asked h small few))
+      (λ q. q)
 
   pub allowed_no : (w : World V) (a : ℕ) (x : Seat V) (known room : Bool) (next : After V) → known ≡ true → length x.calls < CALL_LIMIT
       → room ≡ true → NoRefusal next → NoRefusal (if_allowed w a x known room next)
@@ -223,7 +223,7 @@ module _ {V : Type 0} where
     no_conflict (Step b ∷ es) plain e m h = no_conflict es plain.1 e m h
     no_conflict (f ∷ es) plain e m h = absurd plain.0
 
-    -- ---- a transaction that is being given up has a conflict
+    -- ---- a transaction that is being aborted has a conflict
     abbrev EndsByConflict : World V → Type 0
     EndsByConflict w = is_ending (w.seats a).stage ≡ true → (c : Refusal) × ((w.seats a).cause ≡ Some c) × IsConflict c
 

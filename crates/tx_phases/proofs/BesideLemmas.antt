@@ -1,7 +1,7 @@
 -- An actor beside others. Its sets have no more locations than the weights of its calls, whatever the others do: their events leave its
 -- seat and its record, and its own are those that `FewLemmas` goes through, with what an actor that is alone does not do. So a call that
--- fits by its weights finds room, as it is asked and once it is copied for. What else is told is no call's fault: the causes that are found
--- are conflicts, and that of a want of memory is OutOfMemory.
+-- fits by its weights finds room, as it is asked and once it is copied for. What else is answered is no call's fault: the causes that are
+-- found are conflicts, and that of a failed allocation is OutOfMemory.
 use Rattle.std.proofs.Common.{arith}
 use Rattle.std.proofs.Common.{◌≡◌, inl, inr, ℕ, ◌+◌, ◌<◌, ◌≤◌, true, false, cond, not, ◌&&◌, ◌||◌, List, [], ◌∷◌, ◌++◌, length}
 use Rattle.std.proofs.Common.{Option, Some, None, refl, sym, ◌∙◌, ap, subst, true≢false}
@@ -158,7 +158,7 @@ module _ {V : Type 0} where
   ask_tells w a Open request.Abort at fit h t = t
   ask_tells w a st q at fit h t = t
 
-  -- ---- a want of memory
+  -- ---- a failed allocation
   starved_tells : (w : World V) (a : ℕ) (st : Stage V) (r : After V) → IsStarved w a st r → RefusesAsMistaken r.1 → ⊥
   starved_tells w a Idle r h t = subst (λ (s : After V). RefusesAsMistaken s.1) h t
   starved_tells w a Open r h t = subst (λ (s : After V). RefusesAsMistaken s.1) h t
@@ -270,7 +270,7 @@ module _ {V : Type 0} where
         subst (λ (w : World V). EndsWell a (run w later)) same
         (ends later (events ++ e ∷ []) (subst (EndsWell a) (sym same) (one_ends events e h)))
 
-    -- ---- what is told
+    -- ---- what is answered
     module _ (events : List (Event V)) (fit : AreFitting (opened blocks clock values held) a events) where
       abbrev w : World V
       w = run o events
@@ -322,7 +322,7 @@ module _ {V : Type 0} (a : ℕ) where
   abbrev pub IsNone : World V → Type 0
   IsNone w = (actor_of w a).declared ≡ false
 
-  -- how far the clock and what is due are now is enough to say it
+  -- how far the clock and what is next are now is enough to say it
   now : World V → ℕ
   now w = w.boosted.words.clock + due (actor_of w a).place
 

@@ -1,6 +1,6 @@
--- What a request comes to.
--- Where a transaction stands, and what is told, say where it stands next (`PhaseLemmas`). Besides, what is told of a commit is the number
--- of its record, which stays its seat's until its last release; and a transaction that is given up has noted its cause, and tells it last.
+-- What a request results in. Where a transaction stands, and what is answered, say where it stands next (`PhaseLemmas`). Besides, a commit
+-- answers the number of its record, which remains its seat's until its last release; and a transaction that is aborted has noted its cause,
+-- and answers it last.
 use Rattle.std.proofs.Common.{◌≡◌, ◌⊎◌, ℕ, Bool, true, false, true≢false, ◌||◌, List, [], ◌∷◌, Option, Some, None, inl, inr, refl, sym, ◌∙◌}
 use Rattle.std.proofs.Common.{ap, subst}
 use Rattle.std.specs.Prelude.{is_some}
@@ -61,7 +61,7 @@ module _ {V : Type 0} where
   ends_as calls Leaving = refl
   ends_as calls st = refl
 
-  -- a transaction is being given up, or is not
+  -- a transaction is being aborted, or is not
   pub ends_at : (x : Seat V) → phase x ≡ Ends → is_ending x.stage ≡ true
   unfolding is_end
   ends_at x e = sym (ends_as x.calls x.stage) ∙ ap is_end e
@@ -78,7 +78,7 @@ module _ {V : Type 0} where
   unfolding is_end
   on_done x e = sym (ends_as x.calls x.stage) ∙ ap is_end e
 
-  -- ---- the number of a commit stays
+  -- ---- the number of a commit remains
   abbrev is_late : Seat V → Stage V → Bool
   is_late x st = is_done (phase_at x.calls st) || is_some (committed_by x st)
 
@@ -120,7 +120,7 @@ module _ {V : Type 0} where
   made_at w a x Closing = (refl, refl, λ h. absurd (let z : ⊥ = cc in z))
   made_at w a x st = tt
 
-  -- ---- what is told of a transaction that is being given up
+  -- ---- what is answered of a transaction that is being aborted
   cancelled_tells : (u : World V) (a : ℕ) (x : Seat V) (n : told.Notice) → (has_cancelled u a x n).1 ≡ Quiet
   cancelled_tells u a x told.Cancelled = refl
   cancelled_tells u a x n = refl
@@ -138,7 +138,7 @@ module _ {V : Type 0} where
   ending_tells w a x st h = absurd (true≢false (sym h))
 
   -- ---- one step
-  -- what is known of a step of a from the seat x at this stage to y, which tells n and makes the record o
+  -- what is known of a step of a from the seat x at this stage to y, which answers n and makes the record o
   record Facts (a : ℕ) (x : Seat V) (st : Stage V) (n : Notice V) (y : Seat V) (o : Option (Record V)) : Type 0 where
     moves : StepMoves (phase_at x.calls st) (is_some o) n (phase y)
     kept : is_call (phase_at x.calls st) ≡ false → IsKept a st x y n
@@ -172,7 +172,7 @@ module _ {V : Type 0} where
       subst (λ p. EndsFrom a s p (Refused b cause) y d) (sym on) (inl h, none)
   call_on a s calls call n y (Some r) d noted none h on = absurd h
 
-  -- a transaction that is being given up, for a cause that was noted since, or before
+  -- a transaction that is being aborted, for a cause that was noted since, or before
   up_calls : (a : ℕ) (s : Seat V) (calls : List (Call V × Reply V)) (call : Call V) (x : Seat V) (n : Notice V) (y : Seat V)
       (o d : Option (Record V)) (cause : Refusal) → x.cause ≡ Some cause → (phase y ≡ Ends → y.cause ≡ x.cause)
       → (n ≡ Quiet) ⊎ (n ≡ why a x.cause) → d ≡ None → StepMoves Ends (is_some o) n (phase y) → phase s ≡ Calls calls call

@@ -336,7 +336,7 @@ module _ {V : Type 0} (P : ℕ → Type 0) (a : ℕ) where
   asked_same : (u : World V) (q : word.Request) → IsNoWrite q → SameSets (actor_of u a) (actor_of (acted u (asks a q ∷ [])) a)
   asked_same u q f = asked_sets (content u.words u.blocks) u.boosted a q f
 
-  -- ---- where a transaction is given up
+  -- ---- where a transaction is aborted
   pub cancels_sized : (u : World V) (x : Seat V) → SizedAt (cancels u a x)
   cancels_sized u x =
       let v = acted u (asks a word.AskCancel ∷ asks a word.AskAbort ∷ []) in
@@ -672,7 +672,7 @@ module _ {V : Type 0} (P : ℕ → Type 0) (a : ℕ) where
   run_sized (e ∷ es) w any m k h = run_sized es (happens w e).0 any m.1 (happens_linked w e k) (own_sized w e any m.0 k h)
 
   -- ---- room for a call
-  -- a small call behind these has room in the sets
+  -- a small call after these has room in the sets
   pub has_room_for : (u : World V) (n : ℕ) (v : ℕ → Shown V) (asked : Asked V) → IsFew n (actor_of u a) → IsSmall asked.op
       → n + weight asked.op ≤ 4096
       → let c = content u.words u.blocks in

@@ -1,5 +1,5 @@
--- What each base holds is within the limits, by induction over the machine's actions. An action that takes no base home leaves all bases as
--- they are. One that takes the base of a collection home frees its gate, so no half-done commit has it, and the base has what the history
+-- What each base holds is within the limits, by induction over the machine's actions. An action that puts no base back leaves all bases as
+-- they are. One that puts the base of a collection back frees its gate, so no half-done commit has it, and the base has what the history
 -- leaves: a state that sequential calls lead to, whose collections are within the limits.
 use Rattle.std.proofs.Common.{◌≡◌, ℕ, zero, suc, ◌+◌, ◌<◌, ◌≤◌, Bool, true, false, cond, ◌&&◌, ◌==◌, List, [], ◌∷◌, Option, Some, None}
 use Rattle.std.proofs.Common.{length, get_or, inl, inr, refl, sym, ap, ◌∙◌, subst, arith}

@@ -1,6 +1,6 @@
--- What each step of the word machine keeps, and what is asked of it, but for a begin and a lock, each action of the actor keeps; and so does
--- each of its steps, each call of its open transaction, an abort, and a want of memory, by one pass over the functions of the definitions.
--- A commit may ask for a lock.
+-- What each step of the word machine keeps, and what is asked of it, but for a begin and a lock, each action of the actor keeps; and so
+-- does each of its steps, each call of its open transaction, an abort, and a failed allocation, by one pass over the functions of the
+-- definitions. A commit may ask for a lock.
 use Rattle.std.proofs.Common.{◌≡◌, ℕ, zero, suc, ◌+◌, Bool, true, false, ◌&&◌, List, [], ◌∷◌, ◌++◌, length, Option, Some, None, refl, sym, subst}
 use Rattle.std.proofs.Common.{eqb, ltb}
 use Rattle.std.proofs.lemmas.Bool.{cond_both}
@@ -261,7 +261,7 @@ module _ {V : Type 0} (a : ℕ) (P : Words → Type 0)
     ask_open_keeps w x request.Commit h = commit_keeps w x (actor_of w a).writes h
     ask_open_keeps w x request.Abort h = cancels_keep w (record x { cause = None }) h
 
-  -- ---- a want of memory
+  -- ---- a failed allocation
   pub starve_keeps : (w : World V) (x : Seat V) (st : Stage V) → KeptAt w → Kept (starve_at w a x st)
   starve_keeps w x Beginning h = act_keeps w (asks a word.AskAbort) (refl, tt) h
   starve_keeps w x (Reading l) h = gives_up_keeps w (because x refusal.Memory) [] h

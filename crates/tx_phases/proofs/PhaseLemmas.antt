@@ -1,6 +1,5 @@
--- What a client is told says where its transaction stands.
--- One pass over the functions of the definitions, as for what a transaction follows: each seats its actor at a stage, and tells what goes
--- with the phase of that stage.
+-- What a client is answered says where its transaction stands. One pass over the functions of the definitions, as for what a transaction
+-- follows: each seats its actor at a stage, and answers what goes with the phase of that stage.
 use Rattle.std.proofs.Common.{◌≡◌, ℕ, zero, suc, Bool, true, false, cond, ◌&&◌, List, [], ◌∷◌, ◌++◌, length, Option, Some, None}
 use Rattle.std.proofs.Common.{refl, sym, ◌∙◌, ap, subst, eqb}
 use Rattle.std.specs.Prelude.{nat_lt}
@@ -43,7 +42,7 @@ why_on V a None = refl
 why_on V a (Some r) = refl
 
 module _ {V : Type 0} where
-  -- the seat of a has this, once this is told of it
+  -- the seat of a has this, once this is answered of it
   abbrev Turns : (Notice V → Phase V → Type 0) → ℕ → After V → Type 0
   Turns M a r = M r.1 (phase (r.0.seats a))
 

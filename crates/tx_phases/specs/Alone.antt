@@ -64,7 +64,7 @@ module _ {V : Type 0} where
   commits_in (e ∷ es) = commit_of e + commits_in es
 
   -- ---- what is refused
-  -- a call that is being copied for lies, with those before it, on no more locations than a set may have
+  -- a call that is being copied for is, with those before it, on no more locations than a set may have
   abbrev pub HasRoomFor : Seat V → Stage V → Type 0
   HasRoomFor x (Copying asked) = weights x.calls + weight asked.op ≤ LOCATION_LIMIT
   HasRoomFor x stage = Unit {0}

@@ -14,8 +14,8 @@ use Rattle.tx_phases.specs.Alone.{IsSmall, weight, weights}
 use Rattle.tx_phases.specs.Phases.{IsMistaken}
 
 module _ {V : Type 0} where
-  -- The call is on a word, a key of a map or an end of a queue; there is what it asks of; and behind the calls that actor a has made, it is
-  -- not past the limit of calls, and lies with them on no more locations than a set may have.
+  -- The call is on a word, a key of a map or an end of a queue; there is what it asks of; and after the calls that actor a has made, it is
+  -- not past the limit of calls, and is with them on no more locations than a set may have.
   pub record Fits (w : World V) (a : ℕ) (call : Call V) : Type 0 where
     pub small : IsSmall call.op
     pub there : is_there w a call.target call.op ≡ true

@@ -1,4 +1,4 @@
--- What a request comes to by the steps of its own actor, from where its transaction stood as it was asked.
+-- What a request results in by the steps of its own actor, from where its transaction stood as it was asked.
 use Rattle.std.specs.Prelude.{◌≡◌, ◌⊎◌, ℕ, List, [], ◌∷◌, ◌++◌, Option, Some, None}
 use Rattle.seq_model.specs.declared.call.Call.{Call}
 use Rattle.seq_model.specs.declared.call.Reply.{Reply}
@@ -26,7 +26,7 @@ module _ {V : Type 0} where
   IsRecordOf calls number None = ⊥
   IsRecordOf calls number (Some r) = (r.calls ≡ calls) × (r.number ≡ number)
 
-  -- it is being given up for some cause
+  -- it is being aborted for some cause
   abbrev pub IsGivenUp : Seat V → Type 0
   IsGivenUp x = (phase x ≡ Ends) × ((cause : Refusal) × (x.cause ≡ Some cause))
 
@@ -42,9 +42,9 @@ module _ {V : Type 0} where
   abbrev pub IsUnderWay : Seat V → Seat V → Option (Record V) → Type 0
   IsUnderWay s x d = IsUnderWayFrom s (phase s) x d
 
-  -- And so it has ended, at the seat x of actor a, where this is told. A transaction has begun, or not; a call is answered and joins the
-  -- calls before it, or was mistaken, or its transaction was given up; a commit has made its record, or was given up; a transaction that is
-  -- being given up is told why.
+  -- And so it has ended, at the seat x of actor a, where this is answered. A transaction has begun, or not; a call is answered and joins
+  -- the calls before it, or was mistaken, or its transaction was aborted; a commit has made its record, or was aborted; a transaction that
+  -- is being aborted answers why.
   abbrev pub EndsFrom : ℕ → Seat V → Phase V → Notice V → Seat V → Option (Record V) → Type 0
   EndsFrom a s Begins (Answered b (answer.Begun rv)) x d = (phase x ≡ Stands []) × (x.rv ≡ rv) × (d ≡ None)
   EndsFrom a s Begins (Refused b cause) x d = (phase x ≡ Rests) × (d ≡ None)
@@ -55,12 +55,12 @@ module _ {V : Type 0} where
   EndsFrom a s Ends n x d = (phase x ≡ Rests) × (n ≡ why a s.cause) × (d ≡ None)
   EndsFrom a s before n x d = ⊥
 
-  -- by what is told
+  -- by what is answered
   abbrev pub ComesTo : ℕ → Seat V → Notice V → Seat V → Option (Record V) → Type 0
   ComesTo a s Quiet x d = IsUnderWay s x d
   ComesTo a s n x d = EndsFrom a s (phase s) n x d
 
--- a request that is under way goes on, or ends, by each own step in a world that events have reached
+-- a request that is under way continues, or ends, by each own step in a world that events have reached
 abbrev pub StepsComeTo : Type 0 → Type 0
 StepsComeTo V = (blocks : List Block) (clock : ℕ) (values : List ℕ) (held : List (Held V)) (events : List (Event V)) (a : ℕ) (s : Seat V)
     (d : Option (Record V)) → HaveStripes blocks → let w = run (opened blocks clock values held) events in

@@ -1,4 +1,4 @@
--- Where the transaction of an actor stands, as a client may know it: and what it is told says how it goes on.
+-- Where the transaction of an actor stands, as a client may know it: and what it is answered says how it continues.
 use Rattle.std.specs.Prelude.{◌≡◌, ◌⊎◌, ℕ, Bool, true, false, is_some, List, [], ◌∷◌, ◌++◌}
 use Rattle.seq_model.specs.declared.call.Call.{Call}
 use Rattle.seq_model.specs.declared.call.Op.TheVariants.{Read}
@@ -23,7 +23,7 @@ pub data Phase (V : Type 0) : Type 0 where
   Calls : List (Call V × Reply V) → Call V → Phase V  -- and this one is under way
   Commits : List (Call V × Reply V) → Phase V  -- and is to commit
   Committed : Phase V  -- it has committed, and is to release
-  Ends : Phase V  -- it is being given up
+  Ends : Phase V  -- it is being aborted
 
 -- a call that nothing answers, or one too many
 abbrev pub IsMistaken : Refusal → Type 0
@@ -54,15 +54,15 @@ module _ {V : Type 0} where
   abbrev pub phase : Seat V → Phase V
   phase x = phase_at x.calls x.stage
 
-  -- What a call comes to, by what is told of it: with its reply it joins the calls before it; refused, which is as NoSuch or TooLong, it
-  -- leaves them; else it is under way, or its transaction is being given up.
+  -- What a call results in, by what is answered of it: with its reply it joins the calls before it; refused, which is as NoSuch or TooLong,
+  -- it leaves them; else it is under way, or its transaction is being aborted.
   abbrev pub CallMoves : List (Call V × Reply V) → Call V → Notice V → Phase V → Type 0
   CallMoves calls call (Answered b (answer.Replied r)) later = later ≡ Stands (calls ++ (call, r) ∷ [])
   CallMoves calls call (Refused b cause) later = (later ≡ Stands calls) × IsMistaken cause
   CallMoves calls call Quiet later = (later ≡ Calls calls call) ⊎ (later ≡ Ends)
   CallMoves calls call n later = ⊥
 
-  -- what a step comes to, and whether it commits
+  -- what a step results in, and whether it commits
   abbrev pub StepMoves : Phase V → (commits : Bool) → Notice V → Phase V → Type 0
   StepMoves Rests false (Refused b cause) later = later ≡ Rests
   StepMoves Begins false (Answered b (answer.Begun rv)) later = later ≡ Stands []
@@ -80,7 +80,7 @@ module _ {V : Type 0} where
   StepMoves Ends false (Refused b cause) later = later ≡ Rests
   StepMoves before commits n later = ⊥
 
-  -- what a request comes to
+  -- what a request results in
   abbrev pub AskMoves : Phase V → Request V → Notice V → Phase V → Type 0
   AskMoves Rests request.Begin Quiet later = later ≡ Begins
   AskMoves Rests request.BeginRead Quiet later = later ≡ Begins
@@ -90,7 +90,7 @@ module _ {V : Type 0} where
   AskMoves before q (Refused b cause) later = later ≡ before
   AskMoves before q n later = ⊥
 
--- what each step and each request of an actor comes to
+-- what each step and each request of an actor results in
 abbrev pub StepsMove : Type 0 → Type 0
 StepsMove V = (w : World V) (a : ℕ) → StepMoves (phase (w.seats a)) (is_some (committed_by (w.seats a) (w.seats a).stage))
     (happens w (Step a)).1 (phase ((happens w (Step a)).0.seats a))

@@ -11,19 +11,18 @@ ghost use Rattle.tx_phases.specs.Beside.{AreFitting, BeginsNoReader, IsFitting, 
 
 use seq_model::Value;
 
-/// Where one actor alone has done anything since a world opened, by calls on words, on keys of maps and at the
-/// ends of queues, and has begun no declared reader, given nothing up and wanted no memory, its clock is not above
-/// the opening one and its commits together, and no set is larger than the weight of its calls. So its begin is
-/// refused only at the limit of the clock, such a call only where there is nothing that it asks of, or behind as
-/// many calls or locations as there may be, and its commit never.
+/// Where one actor alone has done anything since a world opened, by calls on words, on keys of maps and at the ends of queues, and has
+/// begun no declared reader, aborted nothing and run out of memory nowhere, its clock is not above the opening one and its commits
+/// together, and no set is larger than the weight of its calls. So its begin is refused only at the limit of the clock, such a call only
+/// where there is nothing that it asks of, or after as many calls or locations as there may be, and its commit never.
 pub fn alone<V: Value>()
     ensures { IsNeverRefused V }
 {}
 
-/// Beside others too, whatever they do, an actor whose calls are on words, on keys of maps and at the ends of queues has no more
-/// locations in a set than the weights of its calls come to, also where it begins declared readers, gives transactions up or wants
-/// memory. So where each call that it asks for is of what is there, and is behind no more calls and on no more locations than there
-/// may be, none of its requests is ever told NoSuch or TooLong. One that begins no declared reader is none.
+/// Beside others too, whatever they do, an actor whose calls are on words, on keys of maps and at the ends of queues has no more locations
+/// in a set than its calls weigh together, also where it begins declared readers, aborts transactions or is out of memory. So where each
+/// call that it asks for is of what is there, after no more calls and on no more locations than there may be, none of its requests is ever
+/// answered NoSuch or TooLong. One that begins no declared reader is none.
 pub fn beside_others<V: Value>()
     ensures sets { (blocks : List Block) (clock : ℕ) (values : List ℕ) (held : List (Held V)) (events : List (Event V)) (a : ℕ) →
         HaveStripes blocks → AreFitting (opened blocks clock values held) a events →

@@ -1,5 +1,5 @@
-//! Where the transaction of an actor stands in a world, as a client may know it: at rest, beginning, open with these calls, with a call
-//! under way, committing, committed, or being given up (`specs/Phases.antt`). [`laws`] says of every step and every request how it goes on.
+//! Where the transaction of an actor stands in a world, as a client may know it: idle, beginning, open with these calls, with a call
+//! under way, committing, committed, or being aborted (`specs/Phases.antt`). [`laws`] says of every step and request how it continues.
 //!
 //! An actor that alone has done anything since its world opened, and that asks as a client does, is refused only what can't be: a
 //! transaction at the limit of the clock, a call of what isn't there, and calls on more locations than a set may have ([`alone_laws`]).

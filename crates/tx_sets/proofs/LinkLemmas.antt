@@ -1,5 +1,5 @@
 -- The links of a set: the locations that are linked are those that have an entry. What is put anew is linked to the last location that has
--- its chain, and the links of the others stay.
+-- its chain, and the links of the others remain.
 use Rattle.std.proofs.Common.{◌≡◌, ℕ, ◌+◌, ◌-◌, ◌<◌, ◌≤◌, List, [], ◌∷◌, ◌++◌, get_or, set, length, None, ap, sym, ◌∙◌, subst}
 use Rattle.std.proofs.Common.{arith, inl, inr, Ok, Err}
 use Rattle.std.specs.List.{insert}

@@ -112,7 +112,7 @@ last_place l es n d rising all last = above_all l es n all below
           )
         ]
 
--- A location goes behind an entry that is below it, or to the front, and before one that is above it, or to the end.
+-- A location goes after an entry that is below it, or to the front, and before one that is above it, or to the end.
 pub between : (l : ℕ) (es : Entries) (n : ℕ) → IsRising es → n ≤ length es
     → (0 < n → (d : ℕ × ℕ) → (get_or es (n - 1) d).0 < l) → (n < length es → (d : ℕ × ℕ) → l < (get_or es n d).0)
     → IsPlaceOf l es (Err n)
@@ -219,7 +219,7 @@ parted l (e ∷ es) rising =
           (omega (arith, none), (λ k d ge h. absurd (omega (arith, h, none))), (λ k d ge h. all k d h))
     ]
 
--- a location that none of the entries has goes behind those below it
+-- a location that none of the entries has goes after those below it
 pub counted_gap : (l : ℕ) (es : Entries) (n : ℕ) → IsRising es → n ≡ count_by (λ e. ltb e.0 l) es
     → ((d : ℕ × ℕ) → n < length es → (get_or es n d).0 ≡ l → ⊥) → IsPlaceOf l es (Err n)
 counted_gap l es n rising counted other =

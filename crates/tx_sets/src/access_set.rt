@@ -23,7 +23,7 @@ const LEAST: usize = 8;
 // In how many chains the locations of a set are linked.
 const CHAINS: usize = 256;
 
-// 2^32 divided by the golden ratio, as in Fibonacci hashing: its multiples lie apart from one another.
+// 2^32 divided by the golden ratio, as in Fibonacci hashing: its multiples are far from one another.
 const SPREAD: u32 = 2_654_435_769;
 
 /// Marks the set of what a transaction read.
@@ -119,7 +119,7 @@ impl<Role> AccessSet<Role> {
         value_in(&self.entries, location, self.place_of(location))
     }
 
-    /// The value of a location, as `find` has it. A `put` of it that comes next searches no more.
+    /// The value of a location, like `find`. A `put` of it that comes next searches no more.
     pub fn seek(&mut self, location: u32) -> Option<u64>
         ensures found { result ≡ lookup self.old.entries location }
         ensures same { self.new ≡ self.old }
@@ -178,7 +178,7 @@ impl<Role> AccessSet<Role> {
         Ok(())
     }
 
-    /// Takes all entries out, for the next transaction. The memory stays.
+    /// Takes all entries out, for the next transaction. The memory is kept.
     pub fn clear(&mut self)
         ensures entries { self.new.entries ≡ [] }
         ensures room { self.new.room ≡ self.old.room + length self.old.entries }
@@ -236,7 +236,7 @@ fn is_at(entries: &[(u32, u64)], location: u32, at: usize) -> bool
     at < entries.len() && entries[at].0 == location
 }
 
-// Whether a location goes there: it is above the entry before that place, and below the one behind it.
+// Whether a location goes there: it is above the entry before that place, and below the one after it.
 fn goes_to(entries: &[(u32, u64)], location: u32, at: usize) -> bool
     requires { IsRising entries.now }
     ensures { result ≡ true → IsPlaceOf location entries.now (Err at) }

@@ -157,7 +157,7 @@ module _ {V : Type 0} where
   spent_at o id v s rule here all j u ne e =
       let p = total_two (λ (z : View V). z.shares) s.views id j v u here e ne in let q = rule.shows.shares in omega (arith, p, q, all)
 
-  -- what holds then of the own world of its actor, of those of seats that were joined, and of the opening, holds of every actor
+  -- what holds then of the lone world of its actor, of those of seats that were joined, and of the opening, holds of every actor
   every : (o : World V) (id : ℕ) (v : View V) (s : State (Slot V) (View V)) (rule : Rule o s) → get_elem? s.views id ≡ some v
       → v.shares ≡ SHARES → (P : World V → ℕ → Type 0) → ((a : ℕ) (x y : World V) → Alike a x y → P y a → P x a)
       → P (lone id o v.turns) id → ((j : ℕ) (u : View V) → IsSpent o j u → P (lone j o u.turns) j) → ((a : ℕ) → P o a) → (a : ℕ)

@@ -1,8 +1,8 @@
--- A step on a gate keeps the rule: its base goes out with the gate, and comes home with it.
+-- A step on a gate keeps the rule: its base goes out with the gate, and comes back with it.
 --
--- A gate that is found free gives its base to the seat, whose own world takes its parts and editions from it; so the two worlds have one
--- base of the collection from then on, as long as the seat has the gate, since nobody else changes it. A base that comes home is the one
--- that the own world has then.
+-- A gate that is found free gives its base to the seat, whose lone world takes its parts and editions from it; so the two worlds have one
+-- base of the collection from then on, as long as the seat has the gate, since nobody else changes it. A base that comes back is the one
+-- that the lone world has then.
 use Rattle.std.proofs.Common.{◌≡◌, ◌≢◌, ◌⊎◌, ℕ, suc, ◌+◌, ◌-◌, ◌≤◌, ◌<◌, true, false, eqb, eq-eqb, ne_eqb, eqb-true, List, ◌∷◌}
 use Rattle.std.proofs.Common.{◌++◌, length, get_or, set, Option as Maybe, Some, None, inl, inr, ⊎_elim, refl, sym, ap, ◌∙◌, subst, arith}
 use Rattle.std.proofs.Common.{length-set, get_or-set_other, get_or-set_same, true≢false}
@@ -187,7 +187,7 @@ module _ {V : Type 0} where
     out_of s rule here =
         let mine = rule.shows.own id m.0 here in asked_bases id qs (run o rule.events) (lone id o m.0.turns) mine.alike mine.out
 
-    -- the events that reach the world behind a turn
+    -- the events that reach the world after a turn
     abbrev after_turn : (s : State (Slot V) (View V)) → Rule o s → World V
     after_turn s rule = run o (rule.events ++ turn_events id qs)
 
@@ -396,7 +396,7 @@ module _ {V : Type 0} where
         others_of : (w : World V) → (w.words ≡ (happens w (Step id)).0.words) × (w.blocks ≡ (happens w (Step id)).0.blocks)
         others_of w = let other = others_stand w id in (other.words, other.blocks)
 
-    -- the base goes home with the changes of the transaction
+    -- the base is put back with the changes of the transaction
     pub home_allowed : (slots k : ℕ) (b : Base V) (others : List (ℕ × Slot V)) → HaveStripes o.blocks → 0 < m.0.shares
         → k < length o.blocks → m.1 ≡ (k, Some b) ∷ others → GoesHome alone id k
         → is_actor id (alone.boosted.gates k) ≡ true → is_stored (actor_of alone id).place ≡ true → IsBaseAt o.blocks k b

@@ -1,8 +1,8 @@
 -- A step on a word keeps the rule.
 --
--- A turn appends to the events what the seat's actor asked and its step (`Steps`). The seat's own world takes the same turn with the number
--- found (`word_own`), the other seats' worlds stand with the other actors, the table changes at one word, and the clock grows by what the
--- seat owed. `shows_after` puts these together; it serves the steps on gates as well.
+-- A turn appends to the events what the seat's actor asked and its step (`Steps`). The seat's lone world takes the same turn with the
+-- number found (`word_own`), the other seats' worlds stand with the other actors, the table changes at one word, and the clock grows by
+-- what the seat owed. `shows_after` puts these together; it serves the steps on gates as well.
 use Rattle.std.proofs.Common.{◌≡◌, ◌≢◌, ◌⊎◌, ℕ, zero, suc, ◌+◌, ◌≤◌, ◌<◌, true, List, [], ◌∷◌, ◌++◌, length, get_or, set, None, inl, inr}
 use Rattle.std.proofs.Common.{⊎_elim, refl, sym, ap, ◌∙◌, subst, arith, length-set, get_or-set_other, get_or-set_same}
 use mathlib.Core.Logic.{dite}
@@ -47,7 +47,7 @@ pub owed_le : (k : ℕ) (p : Place) → owed_of k p ≤ k
 owed_le zero p = omega arith
 owed_le (suc k) p = let a = one_left p in omega arith
 
--- different words lie at different addresses
+-- different words are at different addresses
 pub apart : (n : ℕ) (c d : Cell) → IsInside n c → IsInside n d → (Word c ≡ Word d → ⊥) → address n d ≢ address n c
 apart n ClockCell ClockCell i j ne e = ne refl
 apart n ClockCell (LockCell l) i j ne e = omega arith
@@ -232,7 +232,7 @@ module _ {V : Type 0} where
   run_asked a [] w = refl
   run_asked a (e ∷ es) w = run_asked a es (happens w (own a e)).0
 
-  -- a step that is one of the actor's own world has happened behind these events and what the actor asked
+  -- a step that is one of the actor's lone world has happened after these events and what the actor asked
   pub has_happened : (o : World V) (a : ℕ) (w : World V) (es qs : List (Event V)) (found : ℕ) (b : Maybe (Base V))
       → Alike a (asked_all a (run o es) qs) w → SameBases a (asked_all a (run o es) qs) w
       → number_at (asked_all a (run o es) qs) (spot a w) ≡ found

@@ -1,7 +1,7 @@
 -- What a closed table holds is the state that its world shows.
 --
--- No commit is half done, so the world shows what its records leave. Its words are the values that the table has for them, and the parts
--- on the locations of a collection are those of the base that lies in its slot, so that they make up what the base shows.
+-- No commit is half done, so the world shows what its records leave. Its words are the values that the table has for them, and the parts on
+-- the locations of a collection are those of the base that is in its slot, so that they make up what the base shows.
 use Rattle.std.proofs.Common.{◌≡◌, ℕ, zero, suc, ◌+◌, ◌-◌, List, [], ◌∷◌, ◌++◌, length, slice_get, take, drop, map, Some, None, sym, ap}
 use Rattle.std.proofs.Common.{◌∙◌, subst, arith}
 use Rattle.std.specs.Prelude.{All}
@@ -36,7 +36,7 @@ suit_within (b ∷ bs) [] s = absurd s
 suit_within (b ∷ bs) (h ∷ hs) s = All-cons IsWithinLimits h hs s.1 (suit_within bs hs s.2)
 
 module _ {V : Type 0} where
-  -- what lies in the slots of collections
+  -- what is in the slots of collections
   abbrev pub AreHome : List (Option (Slot V)) → List (Base V) → Type 0
   AreHome homes ds = (k : ℕ) (d : Base V) → slice_get ds k ≡ Some d → get_elem? homes k ≡ some (some (Some d))
 

@@ -1,7 +1,7 @@
--- Steps on gates of a table that was opened: the guards hold, and a base with its log folded in may go home.
+-- Steps on gates of a table that was opened: the guards hold, and a base with its log folded in may be put back.
 --
--- Wherever the rule holds, the seat's own world is alike to its actor in a world that events have reached; so what is proved of such
--- worlds holds of it (`Guards` and `Bases` of `atomic_steps`), and a seat needs to know only which step is due to it.
+-- Wherever the rule holds, the seat's lone world is alike to its actor in a world that events have reached; so what is proved of such
+-- worlds holds of it (`Guards` and `Bases` of `atomic_steps`), and a seat needs to know only which step is next for it.
 use Rattle.std.proofs.Common.{◌≡◌, ℕ, ◌<◌, eqb, List, ◌∷◌, ◌++◌, length, Some, None, sym, ap, ◌∙◌, subst}
 use prog.Atomic.{either}
 use mathlib.Core.Option.{some}

@@ -191,7 +191,7 @@ module _ {V : Type 0} where
         bases = λ k low. (let b = shown.bases k low in (b.0, map_at some xs k (Some b.0) (last.4 k (Some b.0) b.1), b.2, b.3));
       }
 
-  -- every base is at home
+  -- every base is in its slot
   pub all_home : (key : Opening V) (v : View V) (ws : List ℕ) (xs : List (Slot V))
       → Closes (words_at key) (blocks_at key) key.state.value v ws (map some xs) → length xs ≡ length (blocks_at key)
       → (k : ℕ) → get_elem? xs k ≡ some None → ⊥

@@ -1,7 +1,7 @@
 -- What a step of a running seat may do, and what it makes of the seat.
 --
--- The laws of the rule speak of what was asked as a list that stands beside the seat; a seat keeps that list itself. What is due to the
--- actor in its own world is the same by either, and after a turn nothing is asked, so the actor's own world is what the turn left.
+-- The laws of the rule speak of what was asked as a list that stands beside the seat; a seat keeps that list itself. What is next for the
+-- actor in its lone world is the same by either, and after a turn nothing is asked, so the actor's lone world is what the turn left.
 use Rattle.std.proofs.Common.{◌≡◌, ℕ, ◌+◌, ◌%◌, ◌^◌, ◌<◌, ◌≤◌, Bool, true, false, eqb, List, [], ◌∷◌, ◌++◌, Option as Maybe, Some, None}
 use Rattle.std.proofs.Common.{⊎_elim, length, sym, refl, ap, ◌∙◌, subst, arith}
 use Rattle.std.specs.Prelude.{if◌then◌else◌, MatchOption}
@@ -37,14 +37,14 @@ either_is true x y = refl
 either_is false x y = refl
 
 module _ {V : Type 0} where
-  -- the same step may tell less
+  -- the same step may say less
   pub weaker : (holds : State (Slot V) (View V) → Type 0) (slots id : ℕ) (m : Me (Slot V) (View V)) (i : ℕ) (f : ℕ → ℕ)
       (tells less : ℕ → Me (Slot V) (View V) → Type 0) → ((k : ℕ) (t : Me (Slot V) (View V)) → tells k t → less k t)
       → Allows holds slots id m i f tells → Allows holds slots id m i f less
   weaker holds slots id m i f tells less so may s rule len here small =
       let r = may s rule len here small in (r.0, r.1, r.2, r.3, so _ _ r.4)
 
-  -- what an actor's own world is once its seat took a turn and asks nothing
+  -- what an actor's lone world is once its seat took a turn and asks nothing
   acts_after : (o : World V) (a b : ℕ) (v u : View V) (es : List (Event V)) (i : Turn V) (rs : List (ℕ × Record V)) (k : ℕ) → b ≡ a
       → es ≡ []
       → u ≡ acting v i rs k
@@ -112,11 +112,11 @@ module _ {V : Type 0} where
     abbrev o : World V
     o = world_at key
 
-    -- the actor's own world, as the seat has it
+    -- the actor's lone world, by its seat
     abbrev mine : World V
     mine = asked_all id (lone id o m.0.turns) qs
 
-    -- what a step on a word tells of the seat
+    -- what a step on a word says of the seat
     abbrev Turned : ℕ → Me (Slot V) (View V) → Type 0
     Turned found t = Told o id asks m.0.clock m found None t.0 × (t.1 ≡ m.1) × Went o id t
 
@@ -148,7 +148,7 @@ module _ {V : Type 0} where
     exchanges c i old new due inner place =
         goes c i (λ k. either (eqb k old) new k) due.0 (λ k. due.1 k ∙ either_is (eqb k old) new k) inner place
 
-    -- a store finds some number, and isn't told which
+    -- a store finds some number, and doesn't learn which
     pub stores : (c : Cell) (i new : ℕ) → Stores id mine c new → IsInside (end_of o.words o.blocks) c
         → i ≡ address (end_of o.words o.blocks) c
         → Allows (Holds key) slots id m i (λ _. new) (λ _ t. (found : ℕ) × Told o id asks m.0.clock m found None t.0 × (t.1 ≡ m.1)
@@ -159,7 +159,7 @@ module _ {V : Type 0} where
         × Went o id t) (λ k t told. (k, told.0, told.1, told.2))
         (goes c i (λ _. new) due.0 due.1 inner place)
 
-    -- what a step on the clock tells of the seat
+    -- what a step on the clock says of the seat
     abbrev Clocked : (ℕ → ℕ) → ℕ → Me (Slot V) (View V) → Type 0
     Clocked left found t =
         Told o id asks (left found) m found None t.0 × (t.1 ≡ m.1) × (m.0.clock ≤ found) × (found ≤ highest_clock) × Went o id t
@@ -270,7 +270,7 @@ module _ {V : Type 0} where
         asks k f.block f.before b (rest m.1) live low top p.0 f.there f.sort f.shown f.folded)
         (subst (λ (q : List (Event V)). IsHome start id (alone q) k b) (sym are) due))))
 
-  -- the base that goes home was put into the slot in front
+  -- the base that is put back was put into the slot in front
   pub puts_back : (key : Opening V) (slots : ℕ) (s : Seat V) (id : ℕ) (n : Me (Slot V) (View V)) (asks : List (Event V)) (k gate i : ℕ)
       (b : Base V) → asks ≡ list_of s.asked → k ≡ gate → 0 < (view s).shares → k < length (blocks_at key)
       → i ≡ gate_address (locations_at key) k → id ≡ s.place.id → n ≡ (view s, (gate, Some b) ∷ rest (out s))

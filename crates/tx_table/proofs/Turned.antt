@@ -1,7 +1,7 @@
 -- A turn: what an actor asks, and then one step, in the world and in the actor's own.
 --
--- What is asked leaves all that is shared, so an actor's requests may be told late, together with its next step. A step on a word finds
--- in the own world the number that was planted there, so it leaves and tells the same in both (`own_event`). The records grow by what
+-- What is asked leaves all that is shared, so an actor's requests may be taken in late, together with its next step. A step on a word finds
+-- in the lone world the number that was planted there, so it leaves and answers the same in both (`own_event`). The records grow by what
 -- the step commits.
 use Rattle.std.proofs.Common.{◌≡◌, ℕ, ◌+◌, true, false, List, [], ◌∷◌, ◌++◌, Option, Some, None, refl, sym, ap, ◌∙◌, subst, arith}
 use Rattle.std.proofs.Common.{◌≢◌, append-nil, eq-eqb, ne_eqb}
@@ -97,7 +97,7 @@ module _ {V : Type 0} where
   finds_word a v w u x (Ready ks) c b e g = (refl, ready_same a v w c b e)
   finds_word a v w u x p c b e g = finds_by a v w u x p c b (atomic_action a v p) e g
 
-  -- it leaves the actor the same in both worlds, and tells the same
+  -- it leaves the actor the same in both worlds, and answers the same
   pub word_own : (a : ℕ) (v w : World V) (c : Cell) (b : Option (Base V)) → Alike a v w → spot a v ≡ Word c
       → SameAfter a (happens v (Step a)) (happens (found_at a w (Word c) (cell v.boosted.words c) b) (Step a))
   word_own a v w c b h e =
@@ -120,7 +120,7 @@ module _ {V : Type 0} where
   ended_records h a t x Leaving = omega arith
   ended_records h a t x p = omega arith
 
-  -- a stage at which no action is due commits nothing
+  -- a stage at which no action is next commits nothing
   none_ends : (a : ℕ) (v : World V) (x : Seat V) (p : Stage V) → atomic_action a v p ≡ None → ends_of a x p ≡ []
   none_ends a v x (Ready ks) e = absurd (let z : ⊥ = cc in z)
   none_ends a v x Closing e = absurd (let z : ⊥ = cc in z)
@@ -144,7 +144,7 @@ module _ {V : Type 0} where
       ∙ ap (λ (rs : List (ℕ × Record V)). total h rs + total h (ends a v)) (ready_records a v (stage_of v a))
 
   -- ---- aborted transactions
-  -- a stage at which no action is due ends nothing
+  -- a stage at which no action is next ends nothing
   none_aborted : (a : ℕ) (v : World V) (x : Seat V) (p : Stage V) → atomic_action a v p ≡ None → ended_by a x p ≡ []
   none_aborted a v x Leaving e = absurd (let z : ⊥ = cc in z)
   none_aborted a v x p e = refl

@@ -23,7 +23,7 @@ use Rattle.tx_table.specs.Opening.{blocks_at, locations_at, words_at, world_at}
 use Rattle.tx_table.specs.Turns.{asked_all, lone, spot, stage_of, found_at, moved, ends}
 use Rattle.tx_table.specs.Shown.{View, Slot, HasHappened, IsBaseAt, IsReached, acting}
 
--- The place of collection k among the locations behind n words.
+-- The place of collection k among the locations after n words.
 pub record IsBlockAt (n : ℕ) (bs : List Block) (k : ℕ) (b : placed.Block) : Type 0 where
   pub block : block_of bs k ≡ Some (record { kind = kind_of b.kind; stripes = b.stripes })
   pub first : b.first ≡ first_of n bs k
@@ -77,7 +77,7 @@ module _ {V : Type 0} where
   abbrev pub IsSameSeat : Seat V → Seat V → Type 0
   IsSameSeat s t = (t.place.table_id ≡ s.place.table_id) × (t.place.id ≡ s.place.id) × (t.last ≡ s.last)
 
-  -- ---- what is due in an actor's own world
+  -- ---- what is next in an actor's lone world
   -- what the word of its next step becomes, where k is found there
   abbrev pub turned : ℕ → World V → ℕ → ℕ
   turned a w k = becomes (deed_of (ready_at a w (stage_of w a)) a) k
@@ -103,7 +103,7 @@ module _ {V : Type 0} where
   Rests a w = (is_half_done (stage_of w a) ≡ false) × ((k : ℕ) → is_actor a (w.boosted.gates k) ≡ false)
 
   -- ---- the base that is handed in at a gate
-  -- its collection was written: the base as the own world had it, with the log of the transaction folded in
+  -- its collection was written: the base as the lone world had it, with the log of the transaction folded in
   pub record IsFoldedIn (o : World V) (a : ℕ) (w : World V) (k : ℕ) (base : Base V) : Type 0 where
     pub block : Block
     pub before : Base V
@@ -113,16 +113,16 @@ module _ {V : Type 0} where
     pub folded : IsFolded (log_changes k block (w.boosted.shadows a).outcomes)
         (log_locations k block (w.boosted.shadows a).outcomes) before base
 
-  -- the base goes home as the actor found it, or with its log folded in
+  -- the base is put back as the actor found it, or with its log folded in
   abbrev pub IsHome : World V → (a : ℕ) → World V → (k : ℕ) → Base V → Type 0
   IsHome o a w k base =
       (Puts w a k × IsBaseAt o.blocks k base × ShowsBase o.words o.blocks (happens (found_at a w (Gate k) 1 None) (Step a)).0 k base)
       ⊎ (GoesHome w a k × IsFoldedIn o a w k base)
 
   -- ---- what a step makes of a seat
-  -- The seat took the turn that was due, which found this; it knows this clock, and has these bases out. Its actor's own world is what
-  -- the step of the definitions leaves of it. The step has happened in a world that events have reached, and they lead on to one that is
-  -- to the actor as its own world is now.
+  -- The seat took the turn that was next, which found this; it knows this clock, and has these bases out. Its actor's lone world is what
+  -- the step of the definitions leaves of it. The step has happened in a world that events have reached, and they lead on to one that is to
+  -- the actor as its lone world is now.
   pub record Takes (o : World V) (s : Seat V) (clock found : ℕ) (base : Option (Base V)) (bases : List (ℕ × Slot V)) (t : Seat V)
       : Type 0 where
     pub seat : IsSameSeat s t

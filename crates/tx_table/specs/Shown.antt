@@ -1,7 +1,7 @@
 -- The rule of the table: some list of events reaches a world that its words, its slots and the views of its seats show.
 --
--- A gate and the base of its collection go together: the base lies in its slot while the gate is free, and is out with the seat that has
--- the gate. Each seat's actor knows the world in which it is alone with what it found.
+-- A gate and the base of its collection go together: the base is in its slot while the gate is free, and is out with the seat that has the
+-- gate. Each seat's actor knows the world in which it is alone with what it found.
 use Rattle.std.specs.Prelude.{◌≡◌, ◌⊎◌, ℕ, zero, suc, ◌+◌, ◌-◌, ◌^◌, ◌<◌, ◌≤◌, true, false, max, All, List, [], ◌∷◌, ◌++◌, drop, map}
 use Rattle.std.specs.Prelude.{take, length, get_or, slice_get, Option as Maybe, Some, None, ◌==◌, if◌then◌else◌}
 use mathlib.Core.Option.{Option, none, some}
@@ -128,7 +128,8 @@ module _ {V : Type 0} where
     pub aborted : aborted_by j w.aborted ≡ o.aborted
     pub committed : (h : ℕ × Record V → ℕ) → total (only_by j h) w.records ≡ total h o.records
 
-  -- the receipts of the seat of j are what the actors for which it stands have committed: its own, and those whose seats were joined into it
+  -- the receipts of the seat of j are what the actors for which it stands have committed: its own, and those whose seats were joined into
+  -- it
   abbrev pub HasReceipts : World V → ℕ → View V → Type 0
   HasReceipts o j v = (h : ℕ × Record V → ℕ)
       → total h v.receipts ≡ total h (lone j o v.turns).records + total (λ p. total h (lone p.0 o p.1).records) v.joined
@@ -143,8 +144,8 @@ module _ {V : Type 0} where
   abbrev pub IsJoined : List (View V) → ℕ × List (Turn V) → Type 0
   IsJoined views p = (u : View V) × (get_elem? views p.0 ≡ some u) × (u.shares ≡ 0) × (u.turns ≡ p.1)
 
-  -- The table, opened with o, shows w in s: its words, gates and bases, each actor as its seat's own world has it, with the transactions that
-  -- it has committed and aborted, and all records. A seat has the turns of those that were joined into it, and their receipts.
+  -- The table, opened with o, shows w in s: its words, gates and bases, each actor as its seat's lone world has it, with the transactions
+  -- that it has committed and aborted, and all records. A seat has the turns of those that were joined into it, and their receipts.
   pub record Shows (o w : World V) (s : State (Slot V) (View V)) : Type 0 where
     pub shape : (w.words ≡ o.words) × (w.blocks ≡ o.blocks)
     pub table : Table o.words o.blocks w s.words s.homes
@@ -186,7 +187,7 @@ module _ {V : Type 0} where
   Went o a m = IsReached o a (lone a o m.0.turns)
 
   -- Some events lead from the opening o to a world that is to actor a as w is, also in the bases that a has out; and a's next step there
-  -- finds this number, and leaves to it, and tells, what it does in w with what it found.
+  -- finds this number, and leaves to it, and answers, what it does in w with what it found.
   pub record HasHappened (o : World V) (a : ℕ) (w : World V) (found : ℕ) (base : Maybe (Base V)) : Type 0 where
     pub events : List (Event V)
     pub alike : Alike a (run o events) w
@@ -194,20 +195,20 @@ module _ {V : Type 0} where
     pub finds : number_at (run o events) (spot a w) ≡ found
     pub same : SameAfter a (happens (run o events) (Step a)) (moved a w found base)
 
-  -- what a step tells of a seat: it took this turn, which is the step that happened
+  -- what a step says of a seat: it took this turn, which is the step that happened
   abbrev pub Told : World V → ℕ → List (Event V) → ℕ → Me (Slot V) (View V) → ℕ → Maybe (Base V) → View V → Type 0
   Told o id qs k m found b v =
       let w = asked_all id (lone id o m.0.turns) qs in
       (v ≡ acting m.0 (record { asks = qs; found = found; base = b }) (ends id w) k) × HasHappened o id w found b
 
-  -- what a try on the gate of k tells: it found the gate free and has its base, or found it taken
+  -- what a try on the gate of k says: it found the gate free and has its base, or found it taken
   abbrev pub Took : World V → ℕ → List (Event V) → Me (Slot V) (View V) → ℕ → ℕ → Me (Slot V) (View V) → Type 0
   Took o id qs m k found t =
       ((found ≡ 0) × (b : Base V) × IsBaseAt o.blocks k b × Told o id qs m.0.clock m found (Some b) t.0 × (t.1 ≡ (k, Some b) ∷ m.1))
       ⊎ ((found ≡ 1) × Told o id qs m.0.clock m found None t.0 × (t.1 ≡ m.1))
 
   -- A step of a seat on the word at i, which becomes f of what it was. If these events reach a world that the table shows, then what the
-  -- seat has asked and its step behind them reach the one that it shows then, and this is told of what was found.
+  -- seat has asked and its step after them reach the one that it shows then, and this is said of what was found.
   abbrev pub Steps : World V → ℕ → ℕ → Me (Slot V) (View V) → List (Event V) → ℕ → (ℕ → ℕ) → (ℕ → Me (Slot V) (View V) → Type 0) → Type 0
   Steps o slots id m asks i f tells = (s : State (Slot V) (View V)) (es : List (Event V)) → Shows o (run o es) s → length s.homes ≡ slots
       → get_elem? s.views id ≡ some m.0 → get_or s.words i 0 < 2 ^ 64
@@ -251,7 +252,7 @@ module _ {V : Type 0} where
     pub idle : (a : ℕ) → is_half_done (stage_of o a) ≡ false
 
   -- What a closed table shows, whose last seat is that of actor j: some events lead from the opening o to a world that has the receipts of
-  -- the seat as its records. In it j, and each actor whose seat was joined into that of j, is as its own world has it after its turns. The
+  -- the seat as its records. In it j, and each actor whose seat was joined into that of j, is as its lone world has it after its turns. The
   -- table's clock is that of this world, which is no less than the seat knows; and each slot has the base of its collection, of its kind
   -- and shape, with what it holds there and with its editions.
   pub record ShowsWorld (o : World V) (j : ℕ) (v : View V) (words : List ℕ) (homes : List (Option (Slot V))) : Type 0 where

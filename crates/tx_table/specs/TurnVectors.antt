@@ -1,4 +1,4 @@
--- A table's addresses, and an actor's own world turn by turn, computed by the definitions.
+-- A table's addresses, and an actor's lone world turn by turn, computed by the definitions.
 use Rattle.std.specs.Prelude.{◌≡◌, ℕ, true, List, [], ◌∷◌, None, refl}
 use Rattle.tx_sets.specs.Entries.{lookup, with_entry, locations}
 use Rattle.vlock_word.specs.LockWord.{unbits}
@@ -16,7 +16,7 @@ use Rattle.replay_log.specs.Worlds.{opened}
 use Rattle.tx_table.specs.Layout.{address, gate_address, width}
 use Rattle.tx_table.specs.Turns.{Turn, ends, lone}
 
--- three locations lie side by side, and two gates eight words apart
+-- three locations are laid out side by side, and two gates eight words apart
 thirty_words :
     (address 3 ClockCell ≡ 0) × (address 3 (LockCell 0) ≡ 1) × (address 3 (LockCell 2) ≡ 3) × (address 3 (ValueCell 0) ≡ 4)
     × (address 3 (ValueCell 2) ≡ 6)

@@ -13,7 +13,7 @@ use Rattle.atomic_steps.specs.Spots.{Spot, Gate, spot_at, planted}
 pub use Rattle.tx_table.specs.declared.view.Turn.{Turn}
 
 module _ {V : Type 0} where
-  -- what a asks, or that it wants memory
+  -- what a asks, or that it is out of memory
   abbrev pub own : ℕ → Event V → Event V
   own a (Ask b q) = Ask a q
   own a (Step b) = Starve a
@@ -49,11 +49,11 @@ module _ {V : Type 0} where
   editions_found w f None l = w.boosted.editions l
   editions_found w f (Some b) l = slice_index (editions_of b) (l - f)
 
-  -- w with what was found at this spot
+  -- w with what was found at this word or gate
   abbrev pub found_at : ℕ → World V → Spot → ℕ → Option (Base V) → World V
   found_at a w s n b = planted a w s n (parts_found w (first_at w s) b) (editions_found w (first_at w s) b)
 
-  -- and what a's step there leaves and tells
+  -- and what a's step there leaves and answers
   abbrev pub moved : ℕ → World V → ℕ → Option (Base V) → After V
   moved a w n b = happens (found_at a w (spot a w) n b) (Step a)
 

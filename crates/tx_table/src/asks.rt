@@ -22,8 +22,8 @@ impl<V> Seat<V> {
         self.last
     }
 
-    /// The seat has committed this number, or is to know of it; it is no higher than the clock that the seat knows. That it was a commit's is
-    /// the caller's to say: `last_number` tells what was noted here.
+    /// The seat has committed this number, or is to know of it; it is no higher than the clock that the seat knows. Whether it was a
+    /// commit's is up to the caller: `last_number` returns what was noted here.
     pub fn note(&mut self, number: u64)
         requires { number ≤ (view self.old).clock }
         ensures last { self.new.last ≡ max self.old.last number }
@@ -33,7 +33,7 @@ impl<V> Seat<V> {
         self.last = self.last.max(number);
     }
 
-    /// The actor of this seat asks, or wants memory. The next step takes it in.
+    /// The actor of this seat asks, or an allocation for its request fails. The next step takes it in.
     pub fn ask(&mut self, event: &Event<V>)
         ensures same { IsSameSeat self.old self.new × (self.new.place.me ≡ self.old.place.me) }
         ensures asked { list_of self.new.asked ≡ list_of self.old.asked ++ event.now ∷ [] }

@@ -1,4 +1,4 @@
-//! How the locations of a table lie.
+//! How the locations of a table are laid out.
 ghost use Rattle.std.specs.Prelude.{◌≡◌, ◌<◌, None, Some, length, MatchOption};
 ghost use Rattle.replay_log.specs.Contents.{block_of, first_of};
 ghost use Rattle.replay_log.specs.Contents as contents;
@@ -39,7 +39,7 @@ impl<V: Value> TxTable<V> {
         self.words
     }
 
-    /// How its locations lie.
+    /// How its locations are laid out.
     pub fn blocks(&self) -> &Blocks
         ensures words { result.now.words ≡ words_in self.now }
         ensures blocks { result.now.blocks ≡ blocks_in self.now }

@@ -1,4 +1,4 @@
-//! The steps of a seat, each by its name. Each is one atomic step on the table, the one that is due to the seat's actor.
+//! The steps of a seat, each by its name. Each is one atomic step on the table, the one that is next for the seat's actor.
 ghost use Rattle.std.specs.Prelude.{◌≡◌, ◌≢◌, ◌+◌, ◌^◌, ◌<◌, ◌≤◌, ◌∷◌, ◌++◌, [], MatchOption, None, Some, length};
 ghost use Rattle.atomic_table.specs.Table.{rest};
 ghost use Rattle.atomic_steps.specs.Gates.{Tries};
@@ -83,7 +83,7 @@ impl<V: Value> TxTable<V> {
         )
     }
 
-    /// Locks a location whose lock word was found as `old`. Where it is another number by now, that is the answer, and it stays.
+    /// Locks a location whose lock word was found as `old`. Where it is another number by now, that is the answer, and it is unchanged.
     pub fn lock(&self, seat: &mut Seat<V>, location: u32, old: u64) -> Option<u64>
         requires own { Owns self.now seat.old }
         requires live { 0 < (view seat.old).shares }

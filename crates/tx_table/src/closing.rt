@@ -113,7 +113,7 @@ impl<V: Value> Closed<V> {
     }
 
     /// What the words and the collections hold, as the state that the receipts' run leaves. Each collection has to be within the limits of
-    /// a state, as `close` tells that it is. `Memory` where there is none for the copies; what was closed is gone either way.
+    /// a state, as `close` promises. `Memory` where an allocation for the copies fails; what was closed is gone either way.
     pub fn state(self) -> Result<State<V>, Memory>
         requires { All IsWithinLimits (held_in self) }
         ensures words { IfOk result (λ state. state.words ≡ take self.words (drop (1 + self.locations) (row_of self))) }

@@ -1,4 +1,4 @@
-//! Where a base lies while its gate is free.
+//! Where a base is stored while its gate is free.
 //!
 //! Each home is a piece of memory of its own. A slot of the table holds the pointer to it, which no step writes, so that the bases of two
 //! collections are lifted and put back at once without a line of the cache that both write.
@@ -49,7 +49,7 @@ impl<B> Home<B> {
         self.base.take()
     }
 
-    // Nothing lies there, so nothing is dropped.
+    // Nothing is stored there, so nothing is dropped.
     #[inline(always)]
     fn put(&mut self, base: Boxed<B>)
         requires { self.old ≡ None }

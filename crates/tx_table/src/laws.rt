@@ -1,5 +1,5 @@
-//! The laws of the table's rule. Each step has one event appended to those that reach the table's world, behind what its seat has asked;
-//! a split, a join and a look at the clock leave the world as it is.
+//! The laws of the table's rule. Each step has one event appended to those that reach the table's world, after what its seat has asked; a
+//! split, a join and a look at the clock leave the world as it is.
 ghost use Rattle.tx_table.specs.declared.view.TheConstants.{SHARES};
 ghost use Rattle.std.specs.Prelude.{◌≡◌, ◌+◌, ◌<◌, ◌≤◌, ◌==◌, ◌∷◌, ℕ, List, Option, [], Some, None, false, length};
 ghost use mathlib.Core.Option.{some, Option as Home};
@@ -51,8 +51,8 @@ ghost use Rattle.tx_table.specs.Shown.{
 use replay_log::laws::{bounds, serial_worlds};
 use seq_model::Value;
 
-/// A step on a word leaves an actor what it leaves it alone, with the number that it found, and tells the same. The records grow by
-/// what the step commits, by any weight.
+/// A step on a word leaves an actor what it leaves it alone, with the number that it found, and answers the same. The records grow by what
+/// the step commits, by any weight.
 pub fn turns<V>()
     ensures word { (a : ℕ) (v w : World V) (c : Cell) (b : Option (Base V)) → Alike a v w → spot a v ≡ Word c →
         SameAfter a (happens v (Step a)) (happens (found_at a w (Word c) (cell v.boosted.words c) b) (Step a)) }
@@ -78,10 +78,9 @@ pub fn word_steps<V>()
         (λ found t. Told o id asks (left found) m found None t.0 × (t.1 ≡ m.1) × (m.0.clock ≤ found) × (found ≤ highest_clock)) }
 {}
 
-/// A step on a gate of a table that was opened, likewise. A gate that is tried and found free goes
-/// to the seat with its base. One that is put back takes its base home: as the actor's own world has it then, or with the log of the
-/// transaction folded into what the own world had. Which step is due in the own world is all that a seat has to know; the machine's
-/// guards hold.
+/// A step on a gate of a table that was opened, likewise. A gate that is tried and found free goes to the seat with its base. One that is
+/// put back puts its base back: as the actor's lone world has it then, or with the log of the transaction folded into what the lone world
+/// had. Which step is next in the lone world is all that a seat has to know; the machine's guards hold.
 pub fn gate_steps<V>()
     ensures take { (blocks : List Block) (clock : ℕ) (values : List ℕ) (held : List (Held V)) → HaveStripes blocks →
         let o = opened blocks clock values held in

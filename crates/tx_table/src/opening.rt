@@ -21,7 +21,7 @@ use std::snapshot::Snapshot;
 use step_core::Cells;
 use world_table::lay;
 
-// The words of the table: the clock, the lock words, the values, the gates with what lies between them.
+// The words of the table: the clock, the lock words, the values, the gates with what is between them.
 fn laid_out(alloc: Global, cells: &Cells, gates: usize) -> Result<Vec<u64>, Memory>
     requires { gates ≤ COLLECTION_LIMIT }
     ensures { IfOk result (λ row. row.items ≡
@@ -51,7 +51,7 @@ fn at_home<V: Value>(
     Ok(homes)
 }
 
-// How the locations lie, where there is a number of stripes for each collection, and it is not refused.
+// How the locations are laid out, where there is a number of stripes for each collection, and it is not refused.
 fn blocks_for<V: Value>(alloc: Global, shape: &Shape, state: &State<V>) -> Option<Blocks>
     ensures words { IfSome result (λ blocks. blocks.words ≡ length state.now.words) }
     ensures blocks { IfSome result (λ blocks. blocks.blocks ≡ blocks_of shape.now.stripes state.now.held) }
@@ -68,12 +68,12 @@ fn blocks_for<V: Value>(alloc: Global, shape: &Shape, state: &State<V>) -> Optio
 }
 
 impl<V: Value> TxTable<V> {
-    /// A table that opens with these words and collections, and with this clock, and its first seat, which has all shares. Each
-    /// collection is in as many stripes as the shape says.
+    /// A table that opens with these words and collections, and with this clock, and its first seat, which has all shares. Each collection
+    /// is in as many stripes as the shape says.
     ///
-    /// `NoSuch` where the shape has not as many numbers of stripes as there are collections. `TooLong` where the clock is above its
-    /// limit, there are more than 256 collections or more than 1,048,576 locations, or a collection can't have so many stripes. What
-    /// was moved in is dropped. A want of memory is told only where nothing of these is so.
+    /// `NoSuch` where the shape has not as many numbers of stripes as there are collections. `TooLong` where the clock is above its limit,
+    /// there are more than 256 collections or more than 1,048,576 locations, or a collection can't have so many stripes. What was moved in
+    /// is dropped. `Memory`, where an allocation fails, only where nothing of these is so.
     pub fn open(
         alloc: Global,
         shape: &Shape,

@@ -19,7 +19,7 @@ impl<V> TableRule<Boxed<Home<Base<V>>>, View<V>, Opening<V>> for Order {
     ghost first = { λ _. first_view };
 }
 
-// Each call picks what its step tells.
+// Each call picks what its step answers.
 impl<V> Play<Boxed<Home<Base<V>>>, View<V>> for Brand {
     ghost then = { λ _ _ _ _. Unit {0} };
 }
@@ -40,8 +40,11 @@ impl<V> Join<View<V>> for Brand {
     ghost spent = { first };
 }
 
+/// What all threads share of a table.
 pub type Board<V> = Shared<Boxed<Home<Base<V>>>, View<V>, Opening<V>, Order>;
 
+/// A whole table, which one thread owns.
 pub type Whole<V> = Table<Boxed<Home<Base<V>>>, View<V>, Opening<V>, Order, Global>;
 
+/// What a seat has of a table: its view, and the slots that it took out.
 pub type Place<V> = Seat<Boxed<Home<Base<V>>>, View<V>>;

@@ -1,6 +1,6 @@
--- The step that is due at each place, and what its number makes of the actor.
+-- The step that is next at each place, and what its number makes of the actor.
 --
--- A place of the code is one of the machine once its index is taken for the list behind it; the deed is then that of the place.
+-- A place of the code is one of the machine once its index is taken for the list after it; the deed is then that of the place.
 use Rattle.std.proofs.Common.{◌≡◌, ℕ, ◌+◌, ◌<◌, ◌≤◌, ◌*◌, ◌^◌, subst, List, [], ◌∷◌, length, drop, refl, sym, ap, ◌∙◌, get_or, arith, Ok}
 use Rattle.std.proofs.Common.{Err, Option, None}
 use Rattle.std.proofs.lemmas.Bool.{cond-true, cond-false}
@@ -49,7 +49,7 @@ learns_at x y p n r e own says = record {
   told = says ∙ sym (ap (λ (q : Place). result_of (told_at x q n)) e);
 }
 
--- the locations behind an index
+-- the locations after an index
 pub next_is : (es : Entries) (i : ℕ) (e : ℕ × ℕ) → i < length es → e ≡ get_or es i e
     → drop i (locations es) ≡ e.0 ∷ drop (i + 1) (locations es)
 next_is es i e low q =
@@ -70,7 +70,7 @@ no_items : (es : Entries) → length es ≡ 0 → es ≡ []
 no_items [] e = refl
 no_items (d ∷ es) e = absurd (omega (arith, e))
 
--- ---- which deed is due
+-- ---- which deed is next
 pub lock_is : (x : Actor) (i : ℕ) (e : ℕ × ℕ) → i < length x.writes.entries → e ≡ get_or x.writes.entries i e
     → deed_at x (Lock i) ≡ LoadLock e.0 (seen_to_lock (actor_of x) e.0 (drop (i + 1) (locations x.writes.entries)))
 lock_is x i e low q = ap (λ (ls : List ℕ). plan (actor_of x) (machine.Lock ls)) (next_is x.writes.entries i e low q)

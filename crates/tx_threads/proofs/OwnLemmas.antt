@@ -1,7 +1,7 @@
--- What is known of an actor's own world, as events have reached one that is the same to it.
+-- What is known of an actor's lone world, as events have reached one that is the same to it.
 --
 -- In a world that events have reached, each seat stands at a place that fits its stage, holds the gates that its stage says, and where a
--- step of the words is due the word actor does not rest. All this is said of what is the actor's own, so it holds of its own world too.
+-- step of the words is next the word actor is not idle. All this is said of what is the actor's own, so it holds of its lone world too.
 use Rattle.std.proofs.Common.{◌≡◌, ℕ, List, [], ◌∷◌, Option, Some, refl, sym, ap, ◌∙◌, subst}
 use Rattle.tx_sets.specs.Entries.{Entries}
 use Rattle.collection_machine.specs.Content.{has}
@@ -26,7 +26,7 @@ use Rattle.tx_table.specs.declared.view.Opening.{Opening}
 use Rattle.tx_table.specs.Opening.{blocks_at, world_at}
 use Rattle.tx_table.specs.Shown.{IsReached}
 
--- ---- a deed that rests
+-- ---- a deed of an idle actor
 first_rests : (x : Actor) (es : Entries) → first_store x es ≡ Rests → last_notice es Stored ≡ NoTransaction
 first_rests x [] e = refl
 first_rests x (d ∷ es) e = let z : ⊥ = cc in absurd z
@@ -39,7 +39,7 @@ undo_rests : (x : Actor) (es : Entries) → undo x es ≡ Rests → last_notice 
 undo_rests x [] e = refl
 undo_rests x (d ∷ es) e = let z : ⊥ = cc in absurd z
 
--- it tells that there is no transaction
+-- it answers that there is no transaction
 rests_told : (s : words.World) (x : Actor) (p : Place) → plan x p ≡ Rests → notice s x p ≡ NoTransaction
 rests_told s x Idle e = refl
 rests_told s x Begin e = let z : ⊥ = cc in absurd z
@@ -66,7 +66,7 @@ some_first x [] h e = h
 some_first x (d ∷ es) h e = cc
 
 module _ {V : Type 0} where
-  -- where a step of the words is due
+  -- where a step of the words is next
   pub word_action : (w : World V) (a : ℕ) (s : Stage V) → next_of s ≡ next.Word → step_action w a s ≡ Some (moves a)
   word_action w a seats.Idle e = let z : ⊥ = cc in absurd z
   word_action w a seats.Open e = let z : ⊥ = cc in absurd z
@@ -104,7 +104,7 @@ module _ {V : Type 0} where
     pub own_gates : (k : ℕ) → is_actor a (u.boosted.gates k) ≡ has (gates_of (u.seats a).stage) k
     own_gates k = sym (h.alike.boosted.gates k) ∙ (linked.seats a).gates k ∙ ap (λ (x : Seat V). has (gates_of x.stage) k) h.alike.seat
 
-    -- where a step of the words is due the word actor does not rest
+    -- where a step of the words is next the word actor is not idle
     pub own_due : next_of (u.seats a).stage ≡ next.Word
         → plan (actor_of u a) (actor_of u a).place ≡ Rests → ⊥
     own_due due e =

@@ -1,4 +1,4 @@
--- The step of the words that is due to an actor, and what it makes of the number that the step found.
+-- The step of the words that is next for an actor, and what it makes of the number that the step found.
 use Rattle.std.specs.Prelude.{◌≡◌, ℕ, ◌+◌, ◌*◌, ◌<◌, ◌≤◌, ◌^◌, Option, Result, length}
 use Rattle.vlock_word.specs.declared.lock_word.LockWord.TheVariants.{Free}
 use Rattle.word_machine.specs.Actor as machine
@@ -40,7 +40,7 @@ IsWithin n d = Unit {0}
 abbrev pub HasClock : ℕ → Actor → Type 0
 HasClock found x = (i : ℕ) → x.place ≡ Lock i → length x.writes.entries ≤ i → found + 1 < 2 ^ 63
 
--- x becomes y by the number that its step found, which tells r
+-- x becomes y by the number that its step found, which answers r
 pub record Learns (x : Actor) (found : ℕ) (y : Actor) (r : Result (Option WordAnswer) WordRefusal) : Type 0 where
   pub actor : actor_of y ≡ learns (plan (actor_of x) (actor_of x).place) (actor_of x) found
   pub told : r ≡ result_of (tells (actor_of x) (actor_of x).place found)

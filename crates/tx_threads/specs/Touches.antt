@@ -35,7 +35,7 @@ changed (due.StoreValue l v) n = v
 changed (due.StoreLock l w) n = w
 changed d n = n
 
--- a store tells nobody what it found
+-- a store learns nothing of what it found
 abbrev pub Finds : Due → (told found : ℕ) → Type 0
 Finds (due.StoreValue l v) m n = Unit {0}
 Finds (due.StoreLock l w) m n = Unit {0}
@@ -53,12 +53,12 @@ IsInWord (due.Lock l old) = old + 1 < 2 ^ 64
 IsInWord d = Unit {0}
 
 module _ {V : Type 0} where
-  -- in the own world of the seat's actor, at a table that opened with o, this is what the next step does
+  -- in the lone world of the seat's actor, at a table that opened with o, this is what the next step does
   pub record Awaits (o : World V) (s : Seat V) (d : Due) : Type 0 where
     pub spot : spot (actor s) (acts o s) ≡ spot_due d
     pub becomes : (k : ℕ) → turned (actor s) (acts o s) k ≡ changed d k
 
-  -- the seat has taken that step, which told n
+  -- the seat has taken that step, and learnt n
   pub record Touches (o : World V) (s : Seat V) (d : Due) (n : ℕ) (t : Seat V) : Type 0 where
     pub clock : ℕ
     pub found : ℕ
@@ -67,11 +67,11 @@ module _ {V : Type 0} where
     pub rises : (view s).clock ≤ clock
     pub clocks : IsClock d n clock
 
-  -- what is due to the word actor x is what the own world of the seat's actor does next
+  -- what is next for the word actor x is what the lone world of the seat's actor does next
   abbrev pub IsNext : World V → Seat V → Actor → Type 0
   IsNext o s x = (d : Due) → IsDeed d (plan (actor_of x) (actor_of x).place) → Awaits o s d
 
-  -- The seat has taken the step that was due to the word actor x, which y is by the number that it told, and which tells r.
+  -- The seat has taken the step that was next for the word actor x, which by the number that was learnt is y, and answers r.
   pub record StepsWords (o : World V) (s : Seat V) (x : Actor) (t : Seat V) (y : Actor) (r : Result (Option WordAnswer) WordRefusal)
       : Type 0 where
     pub due : Due

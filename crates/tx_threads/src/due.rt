@@ -1,4 +1,4 @@
-//! The atomic step of the words that is due to an actor.
+//! The atomic step of the words that is next for an actor.
 ghost use Rattle.std.specs.Prelude.{◌≡◌, ℕ, ◌<◌, length};
 ghost use Rattle.std.specs.VecDeque.{deque_len};
 ghost use Rattle.word_machine.specs.World.{plan};
@@ -12,7 +12,7 @@ use step_core::{Actor, Place};
 /// One load, store, compare_exchange or fetch_add of one word.
 #[derive(Clone, Copy)]
 pub enum Due {
-    /// No step is due.
+    /// There is no step to take.
     Nothing,
     LoadClock,
     AddToClock,
@@ -109,7 +109,7 @@ fn due_to_take(actor: &Actor, location: u32, version: u64, i: usize) -> Due
     Due::Lock(location, 2 * version)
 }
 
-/// The atomic step that is due to an actor.
+/// The atomic step that is next for an actor.
 #[inline(always)]
 pub fn next_due(actor: &Actor) -> Due
     requires fits { (n : ℕ) × Fits n actor.now }

@@ -102,8 +102,8 @@ fn learn_to_undo(actor: &mut Actor, found: u64) -> Heard
     Ok(actor.undo())
 }
 
-/// The actor's step was taken, and found this number. A store finds none that anybody learns. A load takes no room but for the read that
-/// it tells.
+/// The actor's step was taken, and found this number. A store finds none that anybody learns. A load takes no room but for the read that it
+/// answers.
 #[inline(always)]
 pub fn learn(actor: &mut Actor, found: u64) -> Heard
     requires fits { (n : ℕ) × Fits n actor.old }

@@ -14,8 +14,8 @@ use step_core::{Actor, WordAnswer, WordRefusal};
 use tx_table::{Seat, TxTable};
 
 /// The next step of a word actor, taken on the table: one load, store, compare_exchange or fetch_add of one word. The actor becomes what
-/// the word machine makes of it by the number that was found, and what the machine tells is the answer. A step is due to it, and is the
-/// one that the own world of the seat's actor does next.
+/// the word machine makes of it by the number that was found, and the machine's answer is returned: a refusal is that of TL2 (DISC 2006),
+/// and takes no memory. There is a step to take, and it is the one that the lone world of the seat's actor does next.
 #[inline(always)]
 pub fn step_words<V: Value>(
     table: &TxTable<V>,

@@ -1,4 +1,4 @@
-//! One atomic step on the table, the one that is due to a seat.
+//! One atomic step on the table, the one that is next for a seat.
 ghost use Rattle.std.specs.Prelude.{◌≡◌, ◌≢◌, ◌<◌};
 ghost use Rattle.tx_table.specs.Seated.{Owns, locations_in, opening_of, view};
 ghost use Rattle.tx_threads.specs.Dues.{IsWithin};
@@ -23,7 +23,7 @@ fn try_lock<V: Value>(table: &TxTable<V>, seat: &mut Seat<V>, location: u32, old
     }
 }
 
-/// The atomic step that is due to a seat, and the number that it found.
+/// The atomic step that is next for a seat, and the number that it found.
 #[inline(always)]
 pub(crate) fn touch<V: Value>(table: &TxTable<V>, seat: &mut Seat<V>, due: Due) -> u64
     requires own { Owns table.now seat.old }

@@ -1,6 +1,6 @@
--- Changes that were admitted and then settled are made. What was admitted has at each key that is not changed what the
--- tables had, so the changes laid over it are the changes laid over the tables; and of a queue no more tickets of its
--- own are taken off than it has, so those that are given out at its end stay.
+-- Changes that were admitted and then settled are made. What was admitted has at each key that is not changed what the tables had, so the
+-- changes laid over it are the changes laid over the tables; and of a queue no more tickets of its own are taken off than it has, so those
+-- that are given out at its end remain.
 use Rattle.std.proofs.Common.{◌≡◌, ℕ, ◌+◌, ◌≤◌, true, List, ◌++◌, length, drop, sym, ◌∙◌, ap, subst, arith}
 use Rattle.std.specs.Prelude.{min, nat_le}
 use Rattle.std.proofs.lemmas.List.{drop-append-le, drop_all}

@@ -1,6 +1,6 @@
 //! Changes of the tables that are not made yet.
 //!
-//! An action works on changes beside the tables, which stay as they are until nothing can be refused any more.
+//! An action works on changes beside the tables, which are unchanged until nothing can be refused any more.
 ghost use Rattle.std.specs.Prelude.{◌≡◌, ◌≢◌, ℕ, None, OnOk};
 ghost use Rattle.std.specs.Option.{option_copied};
 ghost use Rattle.std.specs.FinMap as map;
@@ -100,7 +100,7 @@ fn admit_one<T: Value>(
     Ok(())
 }
 
-/// Adds each entry whose key is new, and notes the keys: those that can be refused memory.
+/// Adds each entry whose key is new, and notes the keys: those for which an allocation can fail.
 pub(crate) fn admit<T: Value>(
     below: &mut Entries<T>,
     changes: &Entries<Option<T>>,

@@ -1,4 +1,4 @@
-//! The making of changes: first what can be refused memory, and then the rest.
+//! The making of changes: first those for which an allocation can fail, and then the others.
 ghost use Rattle.std.specs.Prelude.{◌≡◌, ◌<◌, OnOk, OnErr};
 ghost use Rattle.vac_model.specs.Balanced.{IsBalanced};
 ghost use Rattle.vac_model.specs.Makings as makings;
@@ -135,7 +135,7 @@ impl Tables {
         self.next = changes.next;
     }
 
-    /// Makes the changes, or none of them where memory is refused.
+    /// Makes the changes, or none of them where an allocation fails.
     pub(crate) fn make(&mut self, changes: Changes) -> Result<(), Memory>
         requires { IsBalanced (with_changes self.old changes) }
         ensures ok { OnOk result (self.new ≡ with_changes self.old changes) }

@@ -5,7 +5,7 @@
 //! holds the lock. A reader takes a value only if the location was free before and after the load,
 //! at one version that is not above the reading of the clock with which it began. A writer locks by
 //! one compare_exchange from the free word to the locked word of the same version, and releases by
-//! a store of the free word of its own number; one that gives up puts the old free word back, which
+//! a store of the free word of its own number; one that aborts puts the old free word back, which
 //! is why a locked word keeps the old version.
 //!
 //! A lock word is kept as the number `2 * version + locked`: the lowest bit is the lock, the rest is

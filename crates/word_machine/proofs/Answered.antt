@@ -23,7 +23,7 @@ use Rattle.word_machine.proofs.Invariant.{IsSomeEntry, PlaceOk, Inv}
 use Rattle.word_machine.proofs.Schedules.{happens_ok}
 use Rattle.word_machine.proofs.Progress.{progress, length-locations}
 
--- the request is answered, or goes on
+-- the request is answered, or continues
 abbrev pub Further : Notice → Actor → Type 0
 Further n y = IsAnswered n ⊎ (0 < steps_left y y.place)
 

@@ -1,5 +1,5 @@
 -- A request that is taken and not answered at once leaves a step to do. A commit that stores or releases has something written and
--- something held by the invariant; the other requests go to a place where a step is due, or are answered, or leave their actor as it is.
+-- something held by the invariant; the other requests go to a place where a step is next, or are answered, or leave their actor as it is.
 use Rattle.std.proofs.Common.{◌≡◌, ◌≢◌, ℕ, ◌<◌, Bool, true, false, Option, Some, None, [], ◌∷◌, ◌⊎◌, inl, inr, length, refl, sym, ap, ◌∙◌}
 use Rattle.std.proofs.Common.{subst, arith}
 use Rattle.tx_sets.specs.Entries.{Entries, lookup}

@@ -1,7 +1,7 @@
--- A number that was given to a transaction which then gave up is no writer's, at any later moment. Such a number is *spent*: the clock
--- has passed it, no writer in the history has it, and no commit under way has it. Every event keeps that: a commit is given the number
--- after the clock, and a record has the number of a commit that was under way. An actor that has no number yet counts as of 0, which is
--- spent from the start.
+-- A number that was given to a transaction which then aborted is no writer's, at any later moment. Such a number is *spent*: the clock has
+-- passed it, no writer in the history has it, and no commit under way has it. Every event keeps that: a commit is given the number after
+-- the clock, and a record has the number of a commit that was under way. An actor that has no number yet counts as of 0, which is spent
+-- from the start.
 use Rattle.std.proofs.Common.{◌≡◌, ◌≢◌, ℕ, ◌<◌, ◌≤◌, cond, Bool, true, false, eqb, ltb, leb, Option, Some, None, List, [], ◌∷◌, ◌⊎◌, inl}
 use Rattle.std.proofs.Common.{inr, refl, sym, ap, ◌∙◌, subst, arith}
 use Rattle.std.proofs.lemmas.Bool.{cases_eq}
@@ -52,7 +52,7 @@ abbrev pub IsChecking : Place → Type 0
 IsChecking (Check ls) = Unit {0}
 IsChecking p = ⊥
 
--- where a transaction can give up from
+-- where a transaction can abort from
 abbrev pub GivesUp : Place → Type 0
 GivesUp p = IsUnnumbered p ⊎ (IsChecking p ⊎ IsEnding p)
 
@@ -86,16 +86,16 @@ turns_if : (b : Bool) (c : ℕ) (x : Actor) (p : Place) (y z : Actor) → Turns 
 turns_if true c x p y z f g = f
 turns_if false c x p y z f g = g
 
--- an open transaction, at any place where it has no number, or gives up
+-- an open transaction, at any place where it has no number, or aborts
 opens : (c : ℕ) (x : Actor) (p : Place) (y : Actor) → y.wv ≡ x.wv → (IsUnnumbered p → x.wv ≡ 0) → IsUnnumbered p
     → (IsPending y.place → ⊥) → Turns c x p y
 opens c x p y same none at_p g = numbered c x p y same none (λ _. at_p) (λ h. absurd (g h)) (λ _. inl at_p)
 
--- a commit that has its number goes on, or gives up
+-- a commit that has its number continues, or aborts
 presses : (c : ℕ) (x : Actor) (ls : List ℕ) (y : Actor) → y.wv ≡ x.wv → (IsUnnumbered y.place → ⊥) → Turns c x (Check ls) y
 presses c x ls y same g = record { none = λ u. absurd (g u); kept = λ _. inl (tt, sym same); ended = λ _. (inr (inl tt), sym same) }
 
--- one that gives up goes on to its end
+-- one that aborts continues to its end
 winds : (c : ℕ) (x : Actor) (p : Place) (y : Actor) → y.wv ≡ x.wv → IsEnding p → (IsUnnumbered y.place → ⊥) → (IsPending y.place → ⊥)
     → Turns c x p y
 winds c x p y same at_p f g = record { none = λ u. absurd (f u); kept = λ u. absurd (g u); ended = λ _. (inr (inr at_p), sym same) }
@@ -302,7 +302,7 @@ event_other : (s : World) (e : Event) (b : ℕ) → b ≢ whose e → (happens s
 event_other s (Ask a request) b ne = put-other s.actors a (ask (s.actors a) (s.actors a).place request) b ne
 event_other s (Step a) b ne = step_other s a b ne
 
--- what is spent stays so
+-- what is spent remains so
 spent_kept : (s : World) (e : Event) (n : ℕ) → Inv s → NumberOk s (s.actors (whose e)) → Spent s n → Spent (happens s e) n
 spent_kept s e n v ok g =
     let t = happens s e in
@@ -338,7 +338,7 @@ spent_none s v = record {
   pending = λ b at_p is. (let m = (stamp_of s b v at_p).after_rv in let b : ⊥ = omega (arith, m, is) in b);
 }
 
--- the number of a commit that gives up was nobody else's
+-- the number of a commit that aborts was nobody else's
 unused_listed : (n : ℕ) (h : List Record) → AllRecords (λ r. (r.writer ≡ true → n ≡ r.number → ⊥)) h → NoWriterHas n h
 unused_listed n [] g = tt
 unused_listed n (r ∷ rs) g = (λ w is. g.0 w (sym is), unused_listed n rs g.1)
@@ -424,7 +424,7 @@ unused_later clock memory events later a ends =
     let all = all_numbers clock memory events in
     (run_spent later s (s.actors a).wv (reached clock memory events) all ((all a).spent ends)).listed
 
--- while a transaction can give up, no writer has its number
+-- while a transaction can abort, no writer has its number
 unused_where : (s : World) (a : ℕ) → Inv s → NumberOk s (s.actors a) → GivesUp (s.actors a).place
     → NoWriterHas (s.actors a).wv s.history
 unused_where s a v ok at =

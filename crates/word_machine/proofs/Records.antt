@@ -300,7 +300,7 @@ head_memory r rs m l false e a g h =
     (λ _. final_untouched r.calls l (m l) (h.reader e l)) (λ _. refl))
     ∙ settled_from r.number rs (r ∷ rs) m l (m l) (no_write r (r ∷ rs) m rs l r.number a g (inr (refl, e)))
 
--- what a later record saw, from behind the first one
+-- what a later record saw, from after the first one
 base_from : (r x : Record) (w : Bool) → x.writer ≡ w → InOrder r x → (x.writer ≡ true → 0 < x.number) → r.number ≤ base w x.number
 base_from r x true e o p =
     elim (cases_lt r.number x.number) [

@@ -11,20 +11,20 @@ pub data Call : Type 0 where
 
 -- Where an actor stands. Each place but the resting ones is the next atomic step.
 pub data Place : Type 0 where
-  Idle : Place  -- at rest
+  Idle : Place  -- idle
   Begin : Place  -- load the clock
-  Open : Place  -- at rest
+  Open : Place  -- idle
   Look : (l : ℕ) → Place  -- load the lock word
   Fetch : (l k : ℕ) → Place  -- load the value, after version k
   Again : (l k v : ℕ) → Place  -- load the lock word again
   Lock : (ls : List ℕ) → Place  -- load the next lock word; with none left, advance the clock
   Take : (l k : ℕ) → (ls : List ℕ) → Place  -- compare_exchange from free at k to locked
-  Check : (ls : List ℕ) → Place  -- load the next lock word of the read set; at rest with none left
-  Broken : Place  -- at rest, after a refused lock or check
+  Check : (ls : List ℕ) → Place  -- load the next lock word of the read set; idle with none left
+  Broken : Place  -- idle, after a refused lock or check
   First : Place  -- the first value store, which commits
-  Store : (ls : List ℕ) → Place  -- the next value store; at rest with none left
+  Store : (ls : List ℕ) → Place  -- the next value store; idle with none left
   Release : Place  -- store the next lock word with the new version
-  Undo : Place  -- store the next old lock word; at rest with none left
+  Undo : Place  -- store the next old lock word; idle with none left
   Leave : Place  -- load the clock, which ends an aborted transaction
   Close : Place  -- load the clock, which commits a reader
 

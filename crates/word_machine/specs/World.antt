@@ -60,7 +60,7 @@ in_order sorted (r ∷ rs) = in_order (insert r sorted) rs
 
 -- An atomic step: one load, store, compare_exchange or fetch_add of one word, and its actor's record when it has found what stood there.
 pub data Deed : Type 0 where
-  Rests : Deed  -- no step is due
+  Rests : Deed  -- no step is next
   LoadClock : (found : ℕ → Actor) → Deed
   AddToClock : (found : ℕ → Actor) → Deed  -- fetch_add of 1, which finds the clock before
   LoadLock : (l : ℕ) → (found : LockWord → Actor) → Deed
@@ -84,7 +84,7 @@ abbrev pub undo : Actor → Entries → Deed
 undo x [] = Rests
 undo x (e ∷ es) = StoreLock e.0 (Free e.1) (freed x es Undo)
 
--- the atomic step that is due at a place
+-- the atomic step that is next at a place
 abbrev pub plan : Actor → Place → Deed
 plan x Idle = Rests
 plan x Begin = LoadClock (begun x)

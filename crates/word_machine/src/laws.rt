@@ -63,9 +63,9 @@ pub fn opacity()
         (s.actors a).place ≡ Idle → (s.actors a).held ≡ [] }
 {}
 
-/// The clock is at least every number given so far: no record's number and no lock word's version is
-/// above it. A number that a transaction got which then gave up is no writer's, now and at every
-/// later moment (one that gives up before it has a number counts as of 0, which nobody gets).
+/// The clock is at least every number given so far: no record's number and no lock word's version is above it. A number that a transaction
+/// got which then aborted is no writer's, now and at every later moment (one that aborts before it has a number counts as of 0, which
+/// nobody gets).
 pub fn numbers()
     ensures records { (clock : ℕ) (memory : Memory) (events : List Event) →
         let s = after_events clock memory events in
@@ -80,7 +80,7 @@ pub fn numbers()
 
 /// An atomic step changes at most the one word that it touches. What that word becomes depends on what
 /// it was, and what the actor's record becomes on that number and the record, alone. The other actors
-/// stay as they are. A request changes no word.
+/// are as they were. A request changes no word.
 ///
 /// So a table of words shows the machine: to take a step is to load, store, exchange or add at one
 /// word of it, and to change one's own record by the number found.

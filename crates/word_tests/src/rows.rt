@@ -6,13 +6,14 @@ use std::alloc::{AllocError, Global};
 use std::fmt::Write;
 use step_core::Words;
 
-/// The rows, each with its answer. How many have one is said at the end. An empty row and one that begins with `#` have none. What is refused is answered by the refusal.
+/// The rows, each with its answer. How many have one is said at the end. An empty row and one that begins with `#` have none. What is
+/// refused is answered by the refusal.
 ///
 /// - `table 3 1 5*0` opens a table of words, which takes the place of the one before: its clock, and then its words, of which
 ///   `5*0` are five. The rows that speak of a table speak of the last one.
 /// - `1 begin; write 0 5; lock` has an actor make moves, each of which is answered. `begin`, `begin_read`, `read LOCATION`,
-///   `write LOCATION VALUE`, `lock`, `store`, `release`, `cancel`, `abort` and `close` are requests, which go on up to their
-///   answers; behind `ask` they are asked alone. `step` is one step, and `snapshot` the clock of the open transaction.
+///   `write LOCATION VALUE`, `lock`, `store`, `release`, `cancel`, `abort` and `close` are requests, which continue up to their
+///   answers; after `ask` they are asked alone. `step` is one step, and `snapshot` the clock of the open transaction.
 ///   `read_first COUNT` reads the first so many locations, and `write_first COUNT VALUE` writes to each: the last answer, or the
 ///   first refusal.
 /// - `value LOCATION`: the word. `left`: all words, and the records. `calls`: the calls of the records.

@@ -1,7 +1,7 @@
 -- Records in commit order are audited in that order, so those of a run have no fault.
 --
--- A record that comes before none that stands before it goes to the head of those behind it, with its place for its actor: at one number
--- only the first is a writer, and the places rise. Whether records are a run, and what they leave, does not hang on their actors. And no
+-- A record that comes before none that stands before it goes to the head of those after it, with its place for its actor: at one number
+-- only the first is a writer, and the places rise. Whether records are a run, and what they leave, does not depend on their actors. And no
 -- two writers in commit order share a number.
 use Rattle.std.proofs.Common.{◌≡◌, ℕ, zero, suc, ◌+◌, ◌≤◌, ltb, Bool, true, false, cond, List, [], ◌∷◌, inl, inr, refl}
 use Rattle.std.proofs.Common.{sym, ap, ◌∙◌, subst, arith, lt-ltb, le-ltb, eqb-true}
@@ -105,7 +105,7 @@ module _ {V : Type 0} where
         | inr later ↦ right_replies xs e k (after_calls x.1.calls s) run.1 later.1
       ]
 
-  -- behind a record, none is a writer of its number
+  -- after a record, none is a writer of its number
   none_writes : (x : ℕ × Record V) (xs : List (ℕ × Record V)) → NoneComesBefore x xs
       → count_by (λ r. r.writes && (r.number == x.1.number)) (without_actors xs) ≡ 0
   none_writes x [] none = refl
@@ -145,7 +145,7 @@ module _ {V : Type 0} where
       absurd (f.2 (ap (λ ys. after_run ys opening) (in_place 0 xs o) ∙ placed_leaves 0 xs opening ∙ leaves))
   no_fault opening xs last o run leaves OutOfMemory f = refl
 
-  -- what is told of them, once their records were audited
+  -- what is said of them, once their records were audited
   pub audited : (opening last : Contents V) (rs : List (Record V)) (xs : List (ℕ × Record V)) (r : Result (Unit {0}) AuditFault)
       → rs ≡ without_actors xs → IfErr r (IsAuditFault opening rs last) → IsInCommitOrder xs → IsRun xs opening
       → after_run xs opening ≡ last → IfErr r (λ fault. fault ≡ OutOfMemory)

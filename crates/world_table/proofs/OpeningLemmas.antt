@@ -1,8 +1,8 @@
 -- The opening of a table: it has what the definitions' opening has.
 --
--- The locations are counted along the numbers of stripes and the collections together: what has been counted, with what is left, is the
--- end of all blocks. The bases are opened one after another, and each is the one of its collection. A location lies in the collection
--- that its home names, and shows that part of it; its word opens as 0, and so does the edition of each base.
+-- The locations are counted along the numbers of stripes and the collections together: what has been counted, with what is left, is the end
+-- of all blocks. The bases are opened one after another, and each is the one of its collection. A location is in the collection that its
+-- home names, and shows that part of it; its word opens as 0, and so does the edition of each base.
 use Rattle.std.proofs.Common.{◌≡◌, ℕ, zero, suc, ◌+◌, ◌-◌, ◌<◌, ◌≤◌, ltb, List, [], ◌∷◌, ◌++◌, Some, length, drop, take}
 use Rattle.std.proofs.Common.{get_or, replicate, inl, inr, refl, sym, ap, ◌∙◌, subst, arith, lt-ltb, le-ltb, length-append}
 use Rattle.std.specs.Prelude.{All, ◌↔◌, slice_get}
@@ -32,7 +32,7 @@ use Rattle.world_table.specs.declared.table.Table.{Table}
 use Rattle.atomic_steps.proofs.Bases.{in_range}
 
 module _ {V : Type 0} where
-  -- the locations behind one more collection
+  -- the locations after one more collection
   pub next_end : (e i : ℕ) (ns : List ℕ) (hs : List (Held V)) (h : Held V) → i < length ns → i < length hs → get_or hs i h ≡ h
       → end_of (e + size_by (kind_of_held h) (get_or ns i 0)) (blocks_of (drop (suc i) ns) (drop (suc i) hs))
       ≡ end_of e (blocks_of (drop i ns) (drop i hs))
@@ -42,7 +42,7 @@ module _ {V : Type 0} where
       ap (λ (x : Held V). end_of (e + size_by (kind_of_held x) n) (blocks_of ns hs)) (sym at)
   next_end e (suc i) (n ∷ ns) (g ∷ hs) h low inn at = next_end e i ns hs h (omega (arith, low)) (omega (arith, inn)) at
 
-  -- what a location shows is the part of the collection that it lies in
+  -- what a location shows is the part of the collection that it is in
   pub shown_home : (w : ℕ) (ns : List ℕ) (hs : List (Held V)) (k n l : ℕ) (h : Held V) → w ≤ l → l < end_of w (blocks_of ns hs)
       → home_of w (blocks_of ns hs) l ≡ k → slice_get ns k ≡ Some n → slice_get hs k ≡ Some h
       → shown_from w (blocks_of ns hs) hs l ≡ part n (l - first_of w (blocks_of ns hs) k) (viewed h)

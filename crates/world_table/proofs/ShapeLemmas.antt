@@ -36,7 +36,7 @@ module _ {V : Type 0} (t u : Table V) (n : ℕ) (bs : List Block) where
     wide = ap length folded.editions.3 ∙ raised_long folded.editions.0 (editions_of before) ∙ fit.wide;
   }
 
-  -- and where a base has gone home
+  -- and where a base was put back
   pub keeps_shape_home : (k : ℕ) (before now : Base V) (changes : List (Change V)) (locations : List ℕ) → u.cells ≡ t.cells
       → length u.gates.items ≡ length t.gates.items → u.bases.items ≡ set t.bases.items k now → slice_get t.bases.items k ≡ Some before
       → IsFolded changes locations before now → HasShape t n bs → HasShape u n bs

@@ -47,7 +47,7 @@ module _ {V : Type 0} where
       ∙ ap (λ k. whole b.stripes k (λ i. part b.stripes i (shown_of base))) (sym fit.kind)
       ∙ is_whole b.stripes (shown_of base) pos
 
-  -- base k shows what lies on the locations of block k
+  -- base k shows what is on the locations of block k
   abbrev pub Shows : ℕ → List Block → (ℕ → Shown V) → List (Base V) → Type 0
   Shows f bs v bases =
       (k : ℕ) (b : Block) (base : Base V) → block_of bs k ≡ Some b → slice_get bases k ≡ Some base
@@ -81,7 +81,7 @@ module _ {V : Type 0} where
             shown.0 ∙ ap (λ j. part (stripes_of base) j (shown_of base)) there)),
       )))
 
-  -- what is told of a state that is made of these
+  -- what is said of a state that is made of these
   pub told : (t : Table V) (n : ℕ) (ws : List ℕ) (hs : List (Held V)) (r : Result (Contents V) Refusal) → ws ≡ take n t.cells.values.items
       → hs ≡ held_in t → IfOk r (λ s. s.words ≡ ws) → IfOk r (λ s. s.held ≡ hs)
       → IfOk r (λ s. (w : World V) → HasTable t w → HasShape t w.words w.blocks → HaveStripes w.blocks → w.words ≡ n → state w ≡ s)

@@ -182,7 +182,7 @@ module _ {V : Type 0} where
         (λ l plain home. (let shown = h.bases k base got l plain home in (o.parts l ∙ shown.0, o.editions l ∙ shown.1))));
   }
 
--- A base that goes home: the words stand, and so do the other gates and their bases.
+-- A base that is put back: the words stand, and so do the other gates and their bases.
 module _ {V : Type 0} (t u : Table V) (k : ℕ) (before now : Base V) (blocks : List Block) (clock : ℕ) (values : List ℕ)
     (held : List (Held V)) (events : List (Event V)) (a : ℕ) where
   abbrev here : World V

@@ -12,9 +12,9 @@ ghost use Rattle.world_table.specs.Audits.{without_actors};
 use seq_model::{AuditFault, Memory, Record, State, Value, audit};
 use std::alloc::Global;
 
-/// Whether the records, which stand in commit order, are a run from `opening` that leaves `last`: what `seq_model::audit` says of
-/// them. It looks at copies of them. Of a run there is no fault but want of memory; nor of the records of a world that events have
-/// reached, whatever the events, with the state that it shows where no commit is half done.
+/// Whether the records, which stand in commit order, are a run from `opening` that leaves `last`: what `seq_model::audit` says of them. It
+/// looks at copies of them. Of a run there is no fault but `Memory`, where an allocation fails; nor of the records of a world that events
+/// have reached, whatever the events, with the state that it shows where no commit is half done.
 pub fn audit_records<V: Value>(
     alloc: Global,
     opening: &State<V>,

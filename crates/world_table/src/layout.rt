@@ -1,4 +1,4 @@
-//! How the locations of an opening lie: its words come first, then the block of each collection in turn.
+//! How the locations of an opening are laid out: its words come first, then the block of each collection in turn.
 ghost use Rattle.std.specs.Prelude.{◌≡◌, IfOk, length};
 ghost use Rattle.replay_log.specs.Collections.{kind_of_held};
 ghost use Rattle.actor_words.specs.Blocks.{kind_of};
@@ -19,8 +19,8 @@ fn kind<V>(held: &Held<V>) -> Kind
     }
 }
 
-/// How the locations of so many words and of these collections lie, each collection in so many stripes. It is refused where there are too
-/// many, or for want of memory.
+/// How the locations of so many words and of these collections are laid out, each collection in so many stripes. It is refused where there
+/// are too many, or an allocation fails.
 pub fn lay<V>(
     alloc: Global,
     words: usize,

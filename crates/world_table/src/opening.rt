@@ -64,7 +64,7 @@ fn open_base<V: Value>(alloc: Global, stripes: u32, held: Held<V>) -> Result<Bas
     }
 }
 
-/// The base of each collection, in so many stripes.
+/// The base of each collection, in so many stripes. `Memory` where an allocation fails.
 pub fn open_bases<V: Value>(
     alloc: Global,
     stripes: &[u32],

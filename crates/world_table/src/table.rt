@@ -122,7 +122,7 @@ impl<V: Value> Table<V> {
         Ok((first, held))
     }
 
-    /// The next atomic step of an actor on the words.
+    /// The next atomic step of an actor on the words. Refused like `step_core::Cells::step`.
     pub fn step(&mut self, actor: &mut Actor) -> Result<Option<WordAnswer>, WordRefusal>
         requires fits { Fits (length self.old.cells.locks.items) actor.old }
         requires same { length self.old.cells.values.items ≡ length self.old.cells.locks.items }

@@ -364,7 +364,7 @@ impl Actor {
         None
     }
 
-    /// A request that is not refused where there are so many locations, but for want of memory.
+    /// A request that is refused only as Memory, where there are so many locations.
     pub fn ask(
         &mut self,
         locations: usize,

@@ -22,7 +22,8 @@ loop-element-preserved c =
     let rest = tail_is from list in
     let left = ap (drop used) rest ∙ drop-drop used from list in
     let few : used ≤ length (drop from list) = subst (λ t. used ≤ length t) rest c.in_ok-from.ensures.used in
-    let is : map.from_sorted {R = nat_cmp} (now ++ drop (from + used) list) ≡ with_copies (map.from_sorted (made ++ drop from list)) e.0 e.1 =
+    let is : map.from_sorted {R = nat_cmp} (now ++ drop (from + used) list)
+    ≡ with_copies (map.from_sorted (made ++ drop from list)) e.0 e.1 =
     ap (λ t. map.from_sorted (now ++ t)) (sym left) ∙ c.in_ok-from.ensures.made
     ∙ ap (λ t. with_copies (map.from_sorted (made ++ t)) e.0 e.1) rest in (
       is ∙ ap (λ m. with_copies m e.0 e.1) before.0 ∙ sym (laid_next (map.from_sorted list) over i (0, 0) lt),

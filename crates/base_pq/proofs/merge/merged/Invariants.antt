@@ -4,8 +4,8 @@ use Rattle.seq_model.specs.Entries.{IsRising}
 use Rattle.base_pq.specs.Laid.{laid}
 use Rattle.base_pq.proofs.merge.merged.Given as goal
 
--- what is made, and behind it what is left of the list, is the list with the entries so far laid over it; what is made lies below those
--- that are still to come
+-- what is made, and after it what is left of the list, is the list with the entries so far laid over it; what is made is below those that
+-- are still to come
 abbrev pub invariant-loop-element : goal.invariant-loop-element
 invariant-loop-element l =
     (map.from_sorted (l.made.items ++ drop l.from l.list) ≡ laid (map.from_sorted l.list) (take l.element-index l.over))

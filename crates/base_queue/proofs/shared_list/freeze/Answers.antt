@@ -12,7 +12,8 @@ loop-at-preserved c =
     let count : at + 256 - at ≡ 256 = omega arith in
     let le : at + 256 ≤ length xs = omega (arith, c.loop-at-test.true) in
     let chunk = c.in_ok-of_slice.ensures ∙ ap (λ k. take k (drop at xs)) count in
-    let full : length c.in_ok-of_slice.field-0 ≡ 256 = ap length chunk ∙ omega (arith, le, length-take 256 (drop at xs), length-drop at xs) in
+    let full : length c.in_ok-of_slice.field-0 ≡ 256 =
+    ap length chunk ∙ omega (arith, le, length-take 256 (drop at xs), length-drop at xs) in
     let pushed = c.in_ok-push.ensures.items in (
       ap (λ cs. flat cs ++ drop (at + 256) xs) (pushed ∙ ap (λ x. c.loop-at.list.items ++ x ∷ []) chunk)
           ∙ frozen_at 256 at c.loop-at.list.items xs ∙ before.0,

@@ -7,7 +7,8 @@ use Rattle.driven_turns.proofs.driving.drive_call.Goals as goal
 
 pub finish_after-requires-clause-own : goal.finish_after-requires-clause-own
 finish_after-requires-clause-own g c =
-    subst (λ (bs : List (Base _)). HasOwn c.args.table.now c.word_read_on-quiet.new.seat c.word_read_on-quiet.new.actor bs) c.as_slice.ensures.value
+    subst (λ (bs : List (Base _)). HasOwn c.args.table.now c.word_read_on-quiet.new.seat c.word_read_on-quiet.new.actor bs)
+    c.as_slice.ensures.value
     c.word_read_on-quiet.ensures.own
 
 pub finish_after-requires-clause-come : goal.finish_after-requires-clause-come

@@ -19,7 +19,9 @@ load_lock-found-requires-clause-location g c = c.requires.ties.running.fits.plac
 pub load_lock-found-requires-clause-due : goal.load_lock-found-requires-clause-due
 load_lock-found-requires-clause-due g c =
     again_due c.args.table.now c.args.seat.now c.args.actor.now c.args.location c.args.version c.args.value
-    (loads_word (at_place c.args.actor.now (Again c.args.location c.args.version c.args.value)) c.args.actor.now.stage c.requires.loading c.requires.ties.running.room) c.requires.ties
+    (loads_word (at_place c.args.actor.now (Again c.args.location c.args.version c.args.value)) c.args.actor.now.stage
+    c.requires.loading c.requires.ties.running.room)
+    c.requires.ties
 
 pub again-told-requires-clause-place : goal.again-told-requires-clause-place
 again-told-requires-clause-place g c = refl

@@ -16,7 +16,9 @@ load_value-requires-clause-location g c = c.requires.ties.running.fits.place.0
 pub load_value-requires-clause-due : goal.load_value-requires-clause-due
 load_value-requires-clause-due g c =
     fetch_due c.args.table.now c.args.seat.now c.args.actor.now c.args.location c.args.version
-    (loads_word (at_place c.args.actor.now (Fetch c.args.location c.args.version)) c.args.actor.now.stage c.requires.loading c.requires.ties.running.room) c.requires.ties
+    (loads_word (at_place c.args.actor.now (Fetch c.args.location c.args.version)) c.args.actor.now.stage
+    c.requires.loading c.requires.ties.running.room)
+    c.requires.ties
 
 pub returns : goal.returns
 returns g c =

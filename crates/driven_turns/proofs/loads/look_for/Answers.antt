@@ -19,7 +19,9 @@ load_lock-found-requires-clause-location g c = c.requires.ties.running.fits.plac
 pub load_lock-found-requires-clause-due : goal.load_lock-found-requires-clause-due
 load_lock-found-requires-clause-due g c =
     look_due c.args.table.now c.args.seat.now c.args.actor.now c.args.location
-    (loads_word (at_place c.args.actor.now (Look c.args.location)) c.args.actor.now.stage c.requires.loading c.requires.ties.running.room) c.requires.ties
+    (loads_word (at_place c.args.actor.now (Look c.args.location)) c.args.actor.now.stage
+    c.requires.loading c.requires.ties.running.room)
+    c.requires.ties
 
 pub returns-then-version-actor-clause-actor : goal.returns-then-version-actor-clause-actor
 returns-then-version-actor-clause-actor g c = refl

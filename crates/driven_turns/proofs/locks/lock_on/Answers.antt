@@ -16,7 +16,8 @@ take_on-requires-clause-ties g c =
 pub take_on-requires-clause-own : goal.take_on-requires-clause-own
 take_on-requires-clause-own g c =
     subst (λ (r : TxActor _). HasOwn c.args.table.now c.seek_on.new.seat
-    (at_place r (Take c.in-Ok.location c.in-Ok.version (c.args.i + 1))) c.args.bases.now) (sym c.in-Ok.ensures.actor) c.in-Ok.ensures.led.own
+    (at_place r (Take c.in-Ok.location c.in-Ok.version (c.args.i + 1))) c.args.bases.now) (sym c.in-Ok.ensures.actor)
+    c.in-Ok.ensures.led.own
 
 pub take_on-requires-clause-stage : goal.take_on-requires-clause-stage
 take_on-requires-clause-stage g c = ap (λ (r : TxActor _). is_locking r.stage) c.in-Ok.ensures.actor ∙ c.requires.stage

@@ -12,7 +12,8 @@ drive_call-told-requires-clause-under g c =
 pub reply_told-requires : goal.reply_told-requires
 reply_told-requires g c =
     call_said (opening_of c.args.table.now) c.args.seat.now c.drive_call-told.new.seat c.requires.calls.0 c.requires.calls.1.0
-    c.requires.calls.1.1 c.drive_call-told.result.0 c.drive_call-told.result.1 c.drive_call-told.ensures.answered c.drive_call-told.ensures.driven
+    c.requires.calls.1.1 c.drive_call-told.result.0 c.drive_call-told.result.1 c.drive_call-told.ensures.answered
+    c.drive_call-told.ensures.driven
 
 pub returns-clause-driven : goal.returns-clause-driven
 returns-clause-driven g c = (

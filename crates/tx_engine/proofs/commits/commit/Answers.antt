@@ -44,7 +44,8 @@ returns-clause-commits g c =
     c.requires.drives.ties c.requires.open.1 c.in_ok-ask_open.ensures.asked
     (bare_out c.args.table.now c.drive_commit-told.new.seat c.drive_commit-told.new.actor c.drive_commit-told.ensures.own
     ∙ sym (bare_out c.args.table.now c.ask_open.new.seat c.ask_open.new.actor c.ask_open.ensures.drives.own))
-    c.drive_commit-told.result.0 c.drive_commit-told.result.1 c.commit_told.result c.drive_commit-told.ensures.answered c.drive_commit-told.ensures.driven
+    c.drive_commit-told.result.0 c.drive_commit-told.result.1 c.commit_told.result
+    c.drive_commit-told.ensures.answered c.drive_commit-told.ensures.driven
     c.commit_told.ensures
 
 pub returns-clause-last : goal.returns-clause-last

@@ -23,7 +23,8 @@ begin_told-requires g c =
 
 pub returns-clause-keeps : goal.returns-clause-keeps
 returns-clause-keeps g c =
-    (begins_to (opening_of c.args.table.now) c.args.seat.now c.drive_begin-told.new.seat c.drive_begin-told.result.0 c.drive_begin-told.result.1
+    (begins_to (opening_of c.args.table.now) c.args.seat.now c.drive_begin-told.new.seat
+    c.drive_begin-told.result.0 c.drive_begin-told.result.1
     (begins c.args.table.now c.args.seat.now c.args.actor.now c.requires.drives.ties c.requires.stage)
     (bare_out c.args.table.now c.drive_begin-told.new.seat c.drive_begin-told.new.actor c.drive_begin-told.ensures.own
     ∙ sym (bare_out c.args.table.now c.args.seat.now c.args.actor.now c.requires.drives.own))

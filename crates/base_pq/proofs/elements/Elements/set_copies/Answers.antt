@@ -19,10 +19,12 @@ returns-then-count-ne0-clause-elements c =
 pub invariant_of-self : goal.invariant_of-self
 invariant_of-self c =
     let m = map.from_sorted {R = nat_cmp} (drop c.self.inside.gone c.self.inside.shared) in
-    let is = ap (λ o. laid m (map.entries o)) c.put.ensures.elements ∙ put_over m c.self.inside.own.elements c.args.element c.args.count in (
+    let is = ap (λ o. laid m (map.entries o)) c.put.ensures.elements
+    ∙ put_over m c.self.inside.own.elements c.args.element c.args.count in (
       c.self.invariant.0,
       c.self.invariant.1,
-      subst HasNoZero (sym is) (no_zero_with (laid m (map.entries c.self.inside.own.elements)) c.args.element c.args.count c.self.invariant.2),
+      subst HasNoZero (sym is)
+      (no_zero_with (laid m (map.entries c.self.inside.own.elements)) c.args.element c.args.count c.self.invariant.2),
     )
 
 pub place_of-requires : goal.place_of-requires
@@ -88,7 +90,8 @@ invariant_of-self-in-Err c =
     let es = c.self.inside.shared in
     let m = map.from_sorted {R = nat_cmp} (drop c.self.inside.gone es) in
     let o = c.self.inside.own.elements in
-    let out = not_there c.self.inside.gone c.args.element c.in-Err.field-0 es c.left.result.now c.self.invariant.0 c.left.ensures c.in-Err.ensures in
+    let out = not_there c.self.inside.gone c.args.element c.in-Err.field-0 es
+    c.left.result.now c.self.invariant.0 c.left.ensures c.in-Err.ensures in
     let is = ap (λ t. laid m (map.entries t)) c.remove-in-Err.ensures.elements ∙ remove_over m m o c.args.element out in (
       c.self.invariant.0,
       c.self.invariant.1,
@@ -100,6 +103,7 @@ returns-in-Err-clause-elements c =
     let es = c.self.inside.shared in
     let m = map.from_sorted {R = nat_cmp} (drop c.self.inside.gone es) in
     let none : 0 ≡ c.args.count = omega (arith, c.if-count-ne0.false) in
-    let out = not_there c.self.inside.gone c.args.element c.in-Err.field-0 es c.left.result.now c.self.invariant.0 c.left.ensures c.in-Err.ensures in
+    let out = not_there c.self.inside.gone c.args.element c.in-Err.field-0 es
+    c.left.result.now c.self.invariant.0 c.left.ensures c.in-Err.ensures in
     ap (λ t. laid m (map.entries t)) c.remove-in-Err.ensures.elements ∙ remove_over m m c.self.inside.own.elements c.args.element out
     ∙ (λ i. with_copies (c.self.view_is i).elements c.args.element (none i))

@@ -11,7 +11,8 @@ pub invariant_of-self : goal.invariant_of-self
 invariant_of-self c =
     let m = c.args.self.now.elements in
     let items : c.in-Ok-of.shared ≡ map.entries m = c.in-Ok-of.ensures ∙ c.in-Ok.ensures.all in
-    let is = (λ i. laid (map.from_sorted (items i)) (map.entries (c.clear.ensures.elements i))) ∙ none_over (map.from_sorted (map.entries m))
+    let is = (λ i. laid (map.from_sorted (items i)) (map.entries (c.clear.ensures.elements i)))
+    ∙ none_over (map.from_sorted (map.entries m))
     ∙ map.same_entries_map _ _ (entries_of (map.entries m) (map.entries_sorted m)) in (
       subst IsRising (sym items) (map.entries_sorted m),
       omega arith,

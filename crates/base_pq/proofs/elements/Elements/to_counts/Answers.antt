@@ -14,4 +14,5 @@ from_entries-requires c =
 pub returns : goal.returns
 returns c =
     c.from_entries.ensures ∙ c.in_ok-insert_all.ensures
-    ∙ (λ i. inserts (c.new-entries.ensures i) ((c.as_slice.ensures.value ∙ c.in_ok-all.ensures.all) i)) ∙ inserts_all c.args.self.now.elements
+    ∙ (λ i. inserts (c.new-entries.ensures i) ((c.as_slice.ensures.value ∙ c.in_ok-all.ensures.all) i))
+    ∙ inserts_all c.args.self.now.elements

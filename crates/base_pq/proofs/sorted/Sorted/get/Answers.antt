@@ -12,7 +12,8 @@ index-requires c = omega (
 
 pub returns-in-Ok : goal.returns-in-Ok
 returns-in-Ok c =
-    ap (λ e. Some e.1) c.index.ensures ∙ get_there _ c.self.invariant _ (ap (λ r. r.elements) c.self.view_is) c.args.element _ _ c.in-Ok.ensures
+    ap (λ e. Some e.1) c.index.ensures
+    ∙ get_there _ c.self.invariant _ (ap (λ r. r.elements) c.self.view_is) c.args.element _ _ c.in-Ok.ensures
 
 pub returns-in-Err : goal.returns-in-Err
 returns-in-Err c = get_absent _ c.self.invariant _ (ap (λ r. r.elements) c.self.view_is) c.args.element _ c.in-Err.ensures

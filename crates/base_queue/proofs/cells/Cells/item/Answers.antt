@@ -8,7 +8,8 @@ returns-then-index c =
     let m = cells_from c.self.inside.first (drop c.self.inside.gone c.self.inside.items.items) in
     let lt : c.loop-at.at - 1 < length c.self.inside.odd.items = omega (arith, c.loop-at-test.true, c.loop-at.invariant.1) in
     let next : suc (c.loop-at.at - 1) ≡ c.loop-at.at = omega (arith, c.loop-at-test.true) in
-    found_odd m c.self.inside.odd.items c.loop-at.at (c.loop-at.at - 1) c.args.index c.index.result.now c.index-then-index.result.now next lt
+    found_odd m c.self.inside.odd.items c.loop-at.at (c.loop-at.at - 1) c.args.index
+    c.index.result.now c.index-then-index.result.now next lt
     c.index.ensures c.index-then-index.ensures c.if-index.true
     ∙ sym c.loop-at.invariant.0
 

@@ -9,7 +9,7 @@ use Rattle.client_sessions.specs.Sessions.{SessionProgram}
 use Rattle.client_sessions.proofs.WalkLemmas.{stops_along}
 use Rattle.client_sessions.proofs.walk.Walk.delete_found.Goals as goal
 
--- what comes behind the units, the waits and the customer
+-- what comes after the units, the waits and the customer
 abbrev pub serves : Customer → SessionProgram
 serves who = programs.serve_all who.bookings (λ served. Answers (reply.Deleted (actions.bill who.bookings) served))
 

@@ -37,7 +37,8 @@ close-told-requires-clause-stage g c =
 pub insert_record-requires : goal.insert_record-requires
 insert_record-requires g c =
     let w = c.requires.world in
-    subst IsInCommitOrder (sym (c.reserve.ensures.items ∙ w.parts.records)) (serial_at c.serial_worlds.ensures.serial w.opening w.world w.reached).ordered
+    subst IsInCommitOrder (sym (c.reserve.ensures.items ∙ w.parts.records))
+    (serial_at c.serial_worlds.ensures.serial w.opening w.world w.reached).ordered
 
 pub returns-in_default-clause-err : goal.returns-in_default-clause-err
 returns-in_default-clause-err g c =

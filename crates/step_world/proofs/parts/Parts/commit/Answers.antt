@@ -51,7 +51,8 @@ commit-requires-clause-due g c =
 pub insert_record-requires : goal.insert_record-requires
 insert_record-requires g c =
     let w = c.requires.world in
-    subst IsInCommitOrder (sym (c.reserve.ensures.items ∙ w.parts.records)) (serial_at c.serial_worlds.ensures.serial w.opening w.world w.reached).ordered
+    subst IsInCommitOrder (sym (c.reserve.ensures.items ∙ w.parts.records))
+    (serial_at c.serial_worlds.ensures.serial w.opening w.world w.reached).ordered
 
 pub prepare-requires : goal.prepare-requires
 prepare-requires g c =

@@ -37,5 +37,6 @@ returns-clause-promised g c =
 
 pub returns-clause-small : goal.returns-clause-small
 returns-clause-small g c = λ small.
-    small_fed c.others_stand.ensures c.self.inside.parts c.feed.new.self c.args.event c.in_ok-notice.notice (c.self.invariant c.if-self.false)
+    small_fed c.others_stand.ensures c.self.inside.parts c.feed.new.self c.args.event c.in_ok-notice.notice
+    (c.self.invariant c.if-self.false)
     c.in_ok-notice.ensures.ok (subst (λ s. AreSmall s.parts.blocks.blocks) (sym c.self.view_is) small)

@@ -18,7 +18,9 @@ returns-clause-from g c = record {
 }
 
 pub returns-clause-serial : goal.returns-clause-serial
-returns-clause-serial g c = serial_from c.serial_worlds.ensures.serial c.traces.ensures.state c.args.state c.in_ok-parts.parts (returns-clause-from g c)
+returns-clause-serial g c =
+    serial_from c.serial_worlds.ensures.serial c.traces.ensures.state c.args.state c.in_ok-parts.parts
+    (returns-clause-from g c)
 
 pub returns-clause-small : goal.returns-clause-small
 returns-clause-small g c =

@@ -24,7 +24,7 @@ returns-in-Idle-clause-still g c =
 pub returns-in_default-clause-still : goal.returns-in_default-clause-still
 returns-in_default-clause-still g c w a k is = is
 
--- anywhere but at rest
+-- anywhere but where it is idle
 pub returns-in-Idle-clause-apart : goal.returns-in-Idle-clause-apart
 returns-in-Idle-clause-apart g c apart = c.asks_idle.ensures.apart
 

@@ -110,7 +110,7 @@ returns-in-Ok-Some-clause-keeps g c r base can taken noreads =
     (subst (λ (p : Prepared g.row.V.Denot). CanGoOn v u p.call p.left.items → KeepsIn v (at u stage.Idle) n) ready.1
     (c.goes_on.ensures.keeps v))
 
--- memory was refused
+-- an allocation failed
 pub returns-in_default-clause-err : goal.returns-in_default-clause-err
 returns-in_default-clause-err g c r base can taken =
     starves_behind c.args.blocks.now r c.args.self.now c.readies.new.self c.gives_up.new.self c.gives_up.result base c.args.taken.asked

@@ -7,7 +7,7 @@ use Rattle.tx_actor.proofs.HeardLemmas.{heard_apart, heard_at, heard_quiet}
 use Rattle.tx_actor.proofs.GoneLemmas.{apart_loaded, loaded_at, loaded_quiet}
 use Rattle.tx_actor.proofs.actor.TxActor.loaded.Goals as goal
 
--- nothing was told
+-- nothing was answered
 pub returns-then-is_quiet-clause-does : goal.returns-then-is_quiet-clause-does
 returns-then-is_quiet-clause-does g c =
     load_quiet c.args.self.now _ _ (notice_told c.args.told) (sym c.of_told-heard.ensures ∙ c.is_quiet.ensures c.if-is_quiet.true) refl refl

@@ -9,7 +9,7 @@ use Rattle.tx_actor.proofs.KeepingLemmas.{keeps_at, keeps_from, keeps_same}
 use Rattle.tx_actor.proofs.HavingLemmas.{copies_at, copies_idle, copies_same}
 use Rattle.tx_actor.proofs.actor.TxActor.stepped.Goals as goal
 
--- nothing was told
+-- nothing was answered
 pub returns-then-is_waiting-clause-does : goal.returns-then-is_waiting-clause-does
 returns-then-is_waiting-clause-does g c =
     word_waits c.args.self.now _ _ (notice_told c.args.told)

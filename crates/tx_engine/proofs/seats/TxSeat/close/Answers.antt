@@ -17,7 +17,8 @@ returns-clause-left g c =
     let t = c.args.table in
     let e = c.into_closed.ensures in
     subst (λ s. IsLeftBy (contents_in t) (view s).receipts c.into_closed.result) c.into_seat.ensures
-    (left_by (words_in t) (blocks_in t) (contents_in t) (view c.into_seat.result) c.into_closed.result e.words e.locations e.collections e.closes)
+    (left_by (words_in t) (blocks_in t) (contents_in t) (view c.into_seat.result) c.into_closed.result
+    e.words e.locations e.collections e.closes)
 
 pub returns-clause-shows : goal.returns-clause-shows
 returns-clause-shows g c =
