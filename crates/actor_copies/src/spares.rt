@@ -18,7 +18,6 @@ use std::marker::Model;
 use std::mem;
 
 /// A memo, with the table of editions beside it, in the boxes in which both serve again.
-#[derive(Drop)]
 pub(crate) struct Spare<V> {
     pub memo: Boxed<Memo<V>>,
     pub editions: Boxed<FewKeys<u64>>,
@@ -34,6 +33,12 @@ pub struct Spares<V> {
     left: VecDeque<(u32, u64)>,
     homes: VecDeque<u32>,
     editions: LocationEditions,
+}
+
+impl<V: Drop> Drop for Spares<V> {
+    fn drop(self) {
+        let Spares { kept: _, wholes: _, logs: _, left: _, homes: _, editions: _ } = self;
+    }
 }
 
 impl<V> Model for Spares<V> {

@@ -18,11 +18,20 @@ use std::alloc::Global;
 use std::marker::Model;
 
 /// A multiset in stripes, with an edition for each.
-#[derive(Drop)]
 pub struct BagBase {
     elements: Elements,
     stripes: u32,
     editions: Editions,
+}
+
+impl Drop for BagBase {
+    fn drop(self) {
+        let BagBase {
+            elements: _,
+            stripes: _,
+            editions: _,
+        } = self;
+    }
 }
 
 impl Model for BagBase {

@@ -20,11 +20,20 @@ use std::alloc::Global;
 use std::marker::Model;
 
 /// A map in stripes, with an edition for each.
-#[derive(Drop)]
 pub struct MapBase<V> {
     table: Table<V>,
     stripes: u32,
     editions: Editions,
+}
+
+impl<V: Drop> Drop for MapBase<V> {
+    fn drop(self) {
+        let MapBase {
+            table: _,
+            stripes: _,
+            editions: _,
+        } = self;
+    }
 }
 
 impl<V> Model for MapBase<V> {

@@ -16,11 +16,16 @@ use std::alloc::Global;
 use std::marker::Model;
 
 /// A queue in stripes, with an edition for its head, its tail and each stripe.
-#[derive(Drop)]
 pub struct QueueBase {
     cells: Cells,
     stripes: u32,
     editions: Editions,
+}
+
+impl Drop for QueueBase {
+    fn drop(self) {
+        let QueueBase { cells: _, stripes: _, editions: _ } = self;
+    }
 }
 
 impl Model for QueueBase {

@@ -9,9 +9,14 @@ use std::alloc::Global;
 use std::marker::Model;
 
 /// An edition for each location from 0 on. Contracts see it as the list of the editions.
-#[derive(Drop)]
 pub struct Editions {
     numbers: Vec<u64>,
+}
+
+impl Drop for Editions {
+    fn drop(self) {
+        let Editions { numbers: _ } = self;
+    }
 }
 
 impl Model for Editions {

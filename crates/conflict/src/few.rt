@@ -16,11 +16,20 @@ use std::marker::Model;
 const FEW: usize = 16;
 
 /// A finite map from numbers. Its keys stand in the list, or all in the table.
-#[derive(Drop)]
 pub struct FewKeys<V> {
     few: Vec<(u64, V)>,
     many: Table<V>,
     is_many: bool,
+}
+
+impl<V: Drop> Drop for FewKeys<V> {
+    fn drop(self) {
+        let FewKeys {
+            few: _,
+            many: _,
+            is_many: _,
+        } = self;
+    }
 }
 
 impl<V> Model for FewKeys<V> {

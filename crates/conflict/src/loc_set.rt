@@ -10,9 +10,14 @@ use std::alloc::Global;
 use std::marker::Model;
 
 /// A set of locations. Contracts see it as the list of its locations, which rises strictly. Up to eight take no memory.
-#[derive(Drop)]
 pub struct LocSet {
     locations: SmallVec<u32, 8>,
+}
+
+impl Drop for LocSet {
+    fn drop(self) {
+        let LocSet { locations: _ } = self;
+    }
 }
 
 impl Model for LocSet {

@@ -11,10 +11,18 @@ use std::alloc::Global;
 use std::marker::Model;
 
 /// A finite map from numbers. Its order of entries is left open.
-#[derive(Drop)]
 pub struct Table<V> {
     entries: IndexMap<u64, V>,
     alloc: Global,
+}
+
+impl<V: Drop> Drop for Table<V> {
+    fn drop(self) {
+        let Table {
+            entries: _,
+            alloc: _,
+        } = self;
+    }
 }
 
 impl<V> Model for Table<V> {

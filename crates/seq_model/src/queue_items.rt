@@ -8,9 +8,14 @@ use std::collections::VecDeque;
 use std::marker::Model;
 
 /// The items of a queue, first to last. Contracts see the list; neither end costs more than a constant.
-#[derive(Drop)]
 pub struct QueueItems {
     items: VecDeque<u64>,
+}
+
+impl Drop for QueueItems {
+    fn drop(self) {
+        let QueueItems { items: _ } = self;
+    }
 }
 
 impl Model for QueueItems {
@@ -44,7 +49,8 @@ impl QueueItems {
     pub fn into_vec(self) -> Vec<u64>
         ensures { result.items ≡ self }
     {
-        self.items.into_vec()
+        let QueueItems { items } = self;
+        items.into_vec()
     }
 
     /// The items, first to last, in two pieces.

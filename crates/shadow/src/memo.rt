@@ -43,7 +43,6 @@ pub struct KeyPlace {
 
 /// The keys that were touched, with what they have after the changes of the accepted calls, and the log of these. Of a map also the
 /// number of its keys, where that was touched, and by how many the accepted calls made it grow and shrink.
-#[derive(Drop)]
 pub struct Memo<V> {
     kind: MemoKind,
     stripes: u32,
@@ -58,6 +57,25 @@ pub struct Memo<V> {
     is_ready: bool,
     change: Option<Change<V>>,
     written: Option<u32>,
+}
+
+impl<V: Drop> Drop for Memo<V> {
+    fn drop(self) {
+        let Memo {
+            kind: _,
+            stripes: _,
+            alloc: _,
+            entries: _,
+            copies: _,
+            total: _,
+            grown: _,
+            shrunk: _,
+            log: _,
+            is_ready: _,
+            change: _,
+            written: _,
+        } = self;
+    }
 }
 
 impl<V> Model for Memo<V> {

@@ -24,10 +24,15 @@ use std::marker::Model;
 /// A world of transactions over words and collections.
 ///
 /// Contracts see its parts, and whether a growth was refused to an event (`failed`): then every later call answers `Memory`.
-#[derive(Drop)]
 pub struct World<V> {
     parts: Parts<V>,
     failed: bool,
+}
+
+impl<V: Drop> Drop for World<V> {
+    fn drop(self) {
+        let World { parts: _, failed: _ } = self;
+    }
 }
 
 impl<V> Model for World<V> {

@@ -8,7 +8,6 @@ use std::collections::VecDeque;
 use step_core::Actor;
 
 /// A call on a collection.
-#[derive(Drop)]
 pub struct Asked<V> {
     pub collection: u32,
     pub op: Op<V>,
@@ -84,4 +83,20 @@ pub struct TxActor<V> {
     pub copies: Vec<CopyOf<V>>,
     /// Memory that earlier calls and transactions took.
     pub spares: Kept<V>,
+}
+
+impl<V: Drop> Drop for TxActor<V> {
+    fn drop(self) {
+        let TxActor {
+            words: _,
+            stage: _,
+            rv: _,
+            wv: _,
+            cause: _,
+            calls: _,
+            made: _,
+            copies: _,
+            spares: _,
+        } = self;
+    }
 }

@@ -16,7 +16,6 @@ use std::marker::Model;
 use std::mem;
 
 /// A call on a collection, in the box that will hold its outcome. Contracts see the call alone.
-#[derive(Drop)]
 pub struct Asking<V> {
     call: Boxed<Answered<V>>,
 }
@@ -52,6 +51,12 @@ impl<V> Asking<V> {
 pub struct Kept<V> {
     copies: Spares<V>,
     call: Option<Boxed<Answered<V>>>,
+}
+
+impl<V: Drop> Drop for Kept<V> {
+    fn drop(self) {
+        let Kept { copies: _, call: _ } = self;
+    }
 }
 
 impl<V> Model for Kept<V> {

@@ -41,7 +41,6 @@ pub type ReadSet = AccessSet<Reads>;
 pub type WriteSet = AccessSet<Writes>;
 
 /// A finite map from locations to values, of at most `LOCATION_LIMIT` entries.
-#[derive(Drop)]
 pub struct AccessSet<Role> {
     entries: Vec<(u32, u64)>,
     // The locations as they were put, each with one more than the place of the one before it in its
@@ -53,6 +52,18 @@ pub struct AccessSet<Role> {
     // Where the location is that was sought last, or where it would go.
     sought: usize,
     role: PhantomData<Role>,
+}
+
+impl<Role: Drop> Drop for AccessSet<Role> {
+    fn drop(self) {
+        let AccessSet {
+            entries: _,
+            links: _,
+            heads: _,
+            sought: _,
+            role: _,
+        } = self;
+    }
 }
 
 impl<Role> Model for AccessSet<Role> {

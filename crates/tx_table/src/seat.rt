@@ -6,7 +6,6 @@ use seq_model::Event;
 use std::snapshot::Snapshot;
 
 /// What an actor has asked since its last step. A snapshot has nothing in it as the program runs: only clauses read it.
-#[derive(Drop)]
 pub enum Asked<V> {
     Nothing,
     More(Snapshot<Asked<V>>, Snapshot<Event<V>>),
@@ -21,4 +20,10 @@ pub struct Seat<V> {
     pub(crate) last: u64,
     ghost counted: { shares ≡ place.me.0.shares },
     ghost known: { last ≤ place.me.0.clock },
+}
+
+impl<V: Drop> Drop for Seat<V> {
+    fn drop(self) {
+        let Seat { place: _, asked: _, shares: _, last: _ } = self;
+    }
 }

@@ -9,7 +9,6 @@ use actor_words::Blocks;
 use std::alloc::Global;
 
 /// A table of words and collections that threads share.
-#[derive(Drop)]
 pub struct TxTable<V> {
     pub(crate) whole: Whole<V>,
     pub(crate) words: u32,
@@ -22,4 +21,10 @@ pub struct TxTable<V> {
     ghost wide: { whole.shared.table_id.words ≡ width locations (length (blocks_at whole.shared.key)) },
     ghost slots: { whole.shared.table_id.slots ≡ length (blocks_at whole.shared.key) },
     ghost few: { (locations ≤ TABLE_LIMIT) × (length (blocks_at whole.shared.key) ≤ COLLECTION_LIMIT) },
+}
+
+impl<V: Drop> Drop for TxTable<V> {
+    fn drop(self) {
+        let TxTable { whole: _, blocks: _, alloc: _ } = self;
+    }
 }
