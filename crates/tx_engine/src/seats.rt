@@ -20,7 +20,6 @@ use tx_actor::{Stage, TxActor};
 use tx_table::{Seat, TxTable};
 
 /// A seat of a table, with the actor that runs its transactions there, one at a time.
-#[derive(Drop)]
 pub struct TxSeat<V> {
     pub(crate) seat: Seat<V>,
     pub(crate) actor: TxActor<V>,
@@ -31,7 +30,36 @@ pub struct TxSeat<V> {
     pub(crate) alloc: Global,
 }
 
+impl<V: Drop> Drop for TxSeat<V> {
+    fn drop(self) {
+        let TxSeat {
+            seat: _,
+            actor: _,
+            bases: _,
+            replies: _,
+            alloc: _,
+        } = self;
+    }
+}
+
 impl<V: Value> TxSeat<V> {
+    /// Its seat alone, for a table that closes.
+    pub(crate) fn into_seat(self) -> Seat<V>
+        ensures { result ≡ self.seat }
+    {
+        let TxSeat {
+            seat,
+            actor,
+            bases,
+            replies,
+            alloc: _,
+        } = self;
+        drop(replies);
+        drop(bases);
+        drop(actor);
+        seat
+    }
+
     /// A seat that opened with its table, or was split from another, gets its actor. It takes no memory.
     pub(crate) fn new(alloc: Global, table: &TxTable<V>, seat: Seat<V>) -> TxSeat<V>
         requires opened { HasOpened table.now }

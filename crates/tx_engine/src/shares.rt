@@ -94,20 +94,4 @@ impl<V: Value> TxSeat<V> {
     {
         Ok(table.into_closed(self.into_seat()))
     }
-
-    fn into_seat(self) -> Seat<V>
-        ensures { result ≡ self.seat }
-    {
-        let TxSeat {
-            seat,
-            actor,
-            bases,
-            replies,
-            alloc: _,
-        } = self;
-        drop(replies);
-        drop(bases);
-        drop(actor);
-        seat
-    }
 }
