@@ -1,0 +1,143 @@
+//! Jobs at one seat, and workers that run lists of jobs.
+ghost use Rattle.std.specs.Prelude.{◌≡◌, IfOk, length};
+ghost use Rattle.tx_table.specs.Seated.{view};
+ghost use Rattle.tx_engine.specs.Ready.{IsReady};
+
+use crate::seats::open;
+use seq_model::{Call, Memory, Op, Refusal, Reply, Value};
+use std::alloc::Global;
+use std::fmt::Write;
+use std::sync::Wait;
+use std::thread::Threads;
+use tx_engine::{Ask, Attempt, Job, Receipt, TxSeat, attempt};
+use tx_table::TxTable;
+use workers::{LastAbort, Pause, Report, retry, run_workers};
+
+/// How often a job is attempted at most.
+const TRIES: u64 = 1_000;
+
+/// Writes this number to word 0.
+#[derive(Drop)]
+struct Write0 {
+    number: u64,
+}
+
+impl Job<u64> for Write0 {
+    ghost use Rattle.std.specs.Prelude.{⊤};
+
+    ghost asks = { λ _ _ _. ⊤ };
+
+    fn ask(&self, replies: &[Reply<u64>]) -> Result<Ask<u64>, Memory> {
+        if replies.is_empty() {
+            let op = Op::Write(self.number);
+            return Ok(Ask::Call(Call { target: 0, op }));
+        }
+        Ok(Ask::Done)
+    }
+}
+
+/// Gives up at once.
+struct GivesUp;
+
+impl Job<u64> for GivesUp {
+    ghost use Rattle.std.specs.Prelude.{⊤};
+
+    ghost asks = { λ _ _ _. ⊤ };
+
+    fn ask(&self, _replies: &[Reply<u64>]) -> Result<Ask<u64>, Memory> {
+        Ok(Ask::GiveUp)
+    }
+}
+
+/// Holds no worker.
+pub struct Unheld;
+
+impl Pause for Unheld {
+    fn before_commit(&self, _worker: u64) {}
+
+    fn after_receipt(&self, _worker: u64, _number: u64) {}
+}
+
+pub fn tell<R: Threads + Wait + Sync>(rt: &R, text: &mut String) -> Result<(), Refusal> {
+    let (table, mut seat) = open(*text.allocator())?;
+    let told = tell_workers(rt, text, &table, &mut seat);
+    drop(seat);
+    drop(table);
+    told
+}
+
+fn tell_workers<R: Threads + Wait + Sync>(
+    rt: &R,
+    text: &mut String,
+    table: &TxTable<u64>,
+    seat: &mut TxSeat<u64>,
+) -> Result<(), Refusal>
+    requires ready { IsReady table.now seat.old }
+    requires shares { (view seat.old.seat).shares ≡ 64 }
+{
+    let report = run(rt, table, seat, lists(*text.allocator())?);
+    print_report(text, report)?;
+    let attempted = attempt(table, seat, &GivesUp);
+    print_attempt(text, attempted)?;
+    let retried = retry(table, seat, &Write0 { number: 1 }, TRIES, 1, &Unheld);
+    print_retried(text, retried)
+}
+
+fn lists(alloc: Global) -> Result<Vec<Vec<Write0>>, Memory>
+    ensures { IfOk result (λ lists. length lists.items ≡ 2) }
+{
+    Ok(vec![in alloc; list(alloc, 2)?, list(alloc, 3)?]?)
+}
+
+fn list(alloc: Global, number: u64) -> Result<Vec<Write0>, Memory> {
+    Ok(vec![in alloc; Write0 { number }]?)
+}
+
+fn run<R: Threads + Wait + Sync, V: Value + Send + Sync, J: Job<V> + Drop + Send + Sync>(
+    rt: &R,
+    table: &TxTable<V>,
+    seat: &mut TxSeat<V>,
+    lists: Vec<Vec<J>>,
+) -> Result<Report<V>, Memory>
+    requires ready { IsReady table.now seat.old }
+    requires shares { (view seat.old.seat).shares ≡ 64 }
+    requires lists { length lists.items ≡ 2 }
+    ensures ready { IsReady table.now seat.new }
+{
+    run_workers(rt, *lists.allocator(), table, seat, lists, TRIES, &Unheld)
+}
+
+fn print_attempt(
+    text: &mut String,
+    attempted: Result<Attempt<u64>, Refusal>,
+) -> Result<(), Refusal> {
+    match attempted? {
+        Attempt::Committed(_) => text.push_str("attempt: committed\n")?,
+        Attempt::GivenUp => text.push_str("attempt: given up\n")?,
+    }
+    Ok(())
+}
+
+fn print_retried(
+    text: &mut String,
+    retried: Result<Receipt<u64>, LastAbort>,
+) -> Result<(), Refusal> {
+    match retried {
+        Ok(receipt) => {
+            let number = receipt.number;
+            writeln!(text, "retry: commit {number}")?;
+        }
+        Err(LastAbort::Refused(refusal)) => return Err(refusal),
+        Err(LastAbort::GivenUp) => text.push_str("retry: given up\n")?,
+        Err(LastAbort::NotStarted) => text.push_str("retry: not started\n")?,
+    }
+    Ok(())
+}
+
+fn print_report(text: &mut String, report: Result<Report<u64>, Memory>) -> Result<(), Refusal> {
+    let report = report?;
+    let lists = report.receipts.len();
+    let missed = report.missed.len();
+    writeln!(text, "workers: lists {lists}, missed {missed}")?;
+    Ok(())
+}
