@@ -3,15 +3,15 @@ ghost use Rattle.std.specs.Prelude.{◌≡◌, IfOk, length};
 ghost use Rattle.tx_table.specs.Seated.{view};
 ghost use Rattle.tx_engine.specs.Ready.{IsReady};
 
+use crate::rows::ensure;
 use crate::seats::open;
 use seq_model::{Call, Memory, Op, Refusal, Reply, Value};
 use std::alloc::Global;
-use std::fmt::Write;
 use std::sync::Wait;
 use std::thread::Threads;
-use tx_engine::{Ask, Attempt, Job, Receipt, TxSeat, attempt};
+use tx_engine::{Ask, Job, TxSeat, attempt};
 use tx_table::TxTable;
-use workers::{LastAbort, Pause, Report, retry, run_workers};
+use workers::{Pause, Report, retry, run_workers};
 
 /// How often a job is attempted at most.
 const TRIES: u64 = 1_000;
@@ -58,29 +58,34 @@ impl Pause for Unheld {
     fn after_receipt(&self, _worker: u64, _number: u64) {}
 }
 
-pub fn tell<R: Threads + Wait + Sync>(rt: &R, text: &mut String) -> Result<(), Refusal> {
-    let (table, mut seat) = open(*text.allocator())?;
-    let told = tell_workers(rt, text, &table, &mut seat);
+pub fn call<R: Threads + Wait + Sync>(rt: &R, alloc: Global) -> Result<(), Refusal> {
+    let (table, mut seat) = open(alloc)?;
+    let called = call_at(rt, alloc, &table, &mut seat);
     drop(seat);
     drop(table);
-    told
+    called
 }
 
-fn tell_workers<R: Threads + Wait + Sync>(
+fn call_at<R: Threads + Wait + Sync>(
     rt: &R,
-    text: &mut String,
+    alloc: Global,
     table: &TxTable<u64>,
     seat: &mut TxSeat<u64>,
 ) -> Result<(), Refusal>
     requires ready { IsReady table.now seat.old }
     requires shares { (view seat.old.seat).shares ≡ 64 }
 {
-    let report = run(rt, table, seat, lists(*text.allocator())?);
-    print_report(text, report)?;
-    let attempted = attempt(table, seat, &GivesUp);
-    print_attempt(text, attempted)?;
-    let retried = retry(table, seat, &Write0 { number: 1 }, TRIES, 1, &Unheld);
-    print_retried(text, retried)
+    let report = run(rt, table, seat, lists(alloc)?);
+    let attempted = attempt(table, seat, &GivesUp).is_ok();
+    let retried = retry(table, seat, &GivesUp, TRIES, 1, &Unheld).is_err();
+    let report = report?;
+    let is = is_whole(&report);
+    drop(report);
+    ensure(is && attempted && retried)
+}
+
+fn is_whole(report: &Report<u64>) -> bool {
+    report.receipts.len() == 2 && report.missed.len() == 0
 }
 
 fn lists(alloc: Global) -> Result<Vec<Vec<Write0>>, Memory>
@@ -105,39 +110,4 @@ fn run<R: Threads + Wait + Sync, V: Value + Send + Sync, J: Job<V> + Drop + Send
     ensures ready { IsReady table.now seat.new }
 {
     run_workers(rt, *lists.allocator(), table, seat, lists, TRIES, &Unheld)
-}
-
-fn print_attempt(
-    text: &mut String,
-    attempted: Result<Attempt<u64>, Refusal>,
-) -> Result<(), Refusal> {
-    match attempted? {
-        Attempt::Committed(_) => text.push_str("attempt: committed\n")?,
-        Attempt::GivenUp => text.push_str("attempt: given up\n")?,
-    }
-    Ok(())
-}
-
-fn print_retried(
-    text: &mut String,
-    retried: Result<Receipt<u64>, LastAbort>,
-) -> Result<(), Refusal> {
-    match retried {
-        Ok(receipt) => {
-            let number = receipt.number;
-            writeln!(text, "retry: commit {number}")?;
-        }
-        Err(LastAbort::Refused(refusal)) => return Err(refusal),
-        Err(LastAbort::GivenUp) => text.push_str("retry: given up\n")?,
-        Err(LastAbort::NotStarted) => text.push_str("retry: not started\n")?,
-    }
-    Ok(())
-}
-
-fn print_report(text: &mut String, report: Result<Report<u64>, Memory>) -> Result<(), Refusal> {
-    let report = report?;
-    let lists = report.receipts.len();
-    let missed = report.missed.len();
-    writeln!(text, "workers: lists {lists}, missed {missed}")?;
-    Ok(())
 }

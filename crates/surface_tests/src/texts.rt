@@ -1,11 +1,11 @@
 //! Step scripts, session files and what is drawn: how they are read, and what is printed.
+use crate::rows::ensure;
 use seq_model::{Memory, Refusal};
 use session_text::{
     Line, Options, ScriptRun, generate, opening, parse_sessions, parse_steps, print_sessions,
     print_trace, run_script,
 };
 use std::alloc::Global;
-use std::fmt::Write;
 use vac_model::{ActionReply, Tables};
 
 /// What sessions and tables are drawn from.
@@ -13,15 +13,13 @@ const SEED: u64 = 3;
 
 const SCRIPT: &[u8] = b"map 1\n1 do begin\n1 do call 0 put 5 50\n1 do call 0 get 5\n1 do commit\n";
 
-pub fn tell(text: &mut String) -> Result<(), Refusal> {
-    tell_script(text)?;
-    tell_sessions(text)?;
-    tell_drawn(text)
-}
-
-fn tell_script(text: &mut String) -> Result<(), Refusal> {
-    let run = run_of(*text.allocator())?;
-    print_run(text, &run)
+pub fn call(alloc: Global) -> Result<(), Refusal> {
+    let run = run_of(alloc)?;
+    let called = call_run(alloc, &run);
+    drop(run);
+    called?;
+    call_sessions(alloc)?;
+    call_draws(alloc)
 }
 
 fn run_of(alloc: Global) -> Result<ScriptRun, Refusal> {
@@ -29,45 +27,22 @@ fn run_of(alloc: Global) -> Result<ScriptRun, Refusal> {
     run_script(alloc, &script)
 }
 
-fn print_run(text: &mut String, run: &ScriptRun) -> Result<(), Refusal> {
-    let notices = run.notices.len();
-    writeln!(text, "script: notices {notices}")?;
-    let printed = print_trace(*text.allocator(), run)?;
-    push(text, printed.as_slice())
+fn call_run(alloc: Global, run: &ScriptRun) -> Result<(), Refusal> {
+    drop(print_trace(alloc, run)?);
+    ensure(run.notices.len() == 4 && run.opening.held().len() == 1 && run.trace.records.len() == 1)
 }
 
-fn push(text: &mut String, printed: &[u8]) -> Result<(), Refusal> {
-    text.push_str(std::str::from_utf8(printed).unwrap_or("no text\n"))?;
-    Ok(())
-}
-
-fn tell_sessions(text: &mut String) -> Result<(), Refusal> {
-    let (tables, actions) = parse_sessions(*text.allocator(), b"have car 1 1 50\ndelete 7\n")?;
-    let count = actions.len();
+fn call_sessions(alloc: Global) -> Result<(), Refusal> {
+    let (tables, actions) = parse_sessions(alloc, b"have car 1 1 50\ndelete 7\n")?;
     drop(actions);
-    let told = print_lines(text, count, &tables);
+    let printed = print(alloc, &tables);
     drop(tables);
-    told
-}
-
-fn print_lines(text: &mut String, count: usize, tables: &Tables) -> Result<(), Refusal> {
-    writeln!(text, "sessions: {count}")?;
-    let mut lines = Vec::new(*text.allocator());
-    push_lines(&mut lines)?;
-    let printed = print_sessions(*text.allocator(), lines.as_slice(), tables);
-    drop(lines);
-    push(text, printed?.as_slice())
-}
-
-fn push_lines(lines: &mut Vec<Line>) -> Result<(), Memory> {
-    lines.push(Line::Done(1, ActionReply::Absent))?;
-    lines.push(Line::Refused(Refusal::Busy {
-        location: 1,
-        word: 1,
-    }))?;
-    lines.push(Line::GivenUp)?;
-    lines.push(Line::NotStarted)?;
+    drop(printed?);
     Ok(())
+}
+
+fn print(alloc: Global, tables: &Tables) -> Result<Vec<u8>, Memory> {
+    print_sessions(alloc, &[Line::Done(1, ActionReply::Absent)], tables)
 }
 
 fn options() -> Options {
@@ -81,25 +56,12 @@ fn options() -> Options {
     }
 }
 
-fn tell_drawn(text: &mut String) -> Result<(), Refusal> {
-    let alloc = *text.allocator();
+fn call_draws(alloc: Global) -> Result<(), Refusal> {
     let options = options();
-    let sessions = drawn(alloc, 1, &options)?;
-    let balanced = opened(alloc, &options)?;
-    writeln!(text, "drawn: {sessions} sessions, balanced {balanced}")?;
+    if !options.are_within() || options.clients < 1 {
+        return Err(Refusal::TooLong);
+    }
+    drop(generate(alloc, SEED, 1, &options)?);
+    drop(opening(alloc, SEED, &options)?);
     Ok(())
-}
-
-fn drawn(alloc: Global, worker: u32, options: &Options) -> Result<usize, Refusal> {
-    if !options.are_within() || worker == 0 || worker > options.clients {
-        return Err(Refusal::TooLong);
-    }
-    Ok(generate(alloc, SEED, worker, options)?.len())
-}
-
-fn opened(alloc: Global, options: &Options) -> Result<bool, Refusal> {
-    if !options.are_within() {
-        return Err(Refusal::TooLong);
-    }
-    Ok(opening(alloc, SEED, options)?.balanced())
 }

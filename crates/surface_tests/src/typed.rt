@@ -1,8 +1,8 @@
-//! Typed calls of a transaction. One that is refused is told by the commit.
+//! The calls of a transaction, by kind and by number. One that is refused ends it, and the commit says so.
 ghost use Rattle.std.specs.Prelude.{◌≡◌};
 ghost use Rattle.tx_engine.specs.Ready.{HasBegunSince, IsReady};
 
-use seq_model::Value;
+use seq_model::{Op, Value};
 use tx_engine::Tx;
 use tx_wrap::{TBag, TMap, TPq, TQueue, TWord};
 
@@ -15,53 +15,18 @@ pub fn call_word_and_map<V: Value>(tx: &mut Tx<'_, V>, value: V)
     ensures ready { IsReady tx.new.table.now tx.new.seat.now }
     ensures since { HasBegunSince tx.new.table.now tx.new.seat.now }
 {
-    call_word(tx);
-    call_map(tx, value);
-}
-
-fn call_word<V: Value>(tx: &mut Tx<'_, V>)
-    requires ready { IsReady tx.old.table.now tx.old.seat.now }
-    requires since { HasBegunSince tx.old.table.now tx.old.seat.now }
-    ensures same_reference { tx.new.seat.ghost_name ≡ tx.old.seat.ghost_name }
-    ensures same_table { tx.new.table.now ≡ tx.old.table.now }
-    ensures ready { IsReady tx.new.table.now tx.new.seat.now }
-    ensures since { HasBegunSince tx.new.table.now tx.new.seat.now }
-{
     let word = TWord::new(0);
-    let _ = word.read(tx);
-    let _ = word.write(tx, 10);
-}
-
-fn call_map<V: Value>(tx: &mut Tx<'_, V>, value: V)
-    requires ready { IsReady tx.old.table.now tx.old.seat.now }
-    requires since { HasBegunSince tx.old.table.now tx.old.seat.now }
-    ensures same_reference { tx.new.seat.ghost_name ≡ tx.old.seat.ghost_name }
-    ensures same_table { tx.new.table.now ≡ tx.old.table.now }
-    ensures ready { IsReady tx.new.table.now tx.new.seat.now }
-    ensures since { HasBegunSince tx.new.table.now tx.new.seat.now }
-{
+    drop(word.read(tx));
+    drop(word.write(tx, 10));
     let map = TMap::new(0);
-    let _ = map.put(tx, 5, value);
-    let _ = map.get(tx, 5);
-    let _ = map.remove(tx, 2);
-    let _ = map.len(tx);
+    drop(map.put(tx, 5, value));
+    drop(map.get(tx, 5));
+    drop(map.remove(tx, 2));
+    drop(map.len(tx));
 }
 
-/// The calls on multiset 1, priority queue 2 and queue 3.
-pub fn call_collections<V: Value>(tx: &mut Tx<'_, V>)
-    requires ready { IsReady tx.old.table.now tx.old.seat.now }
-    requires since { HasBegunSince tx.old.table.now tx.old.seat.now }
-    ensures same_reference { tx.new.seat.ghost_name ≡ tx.old.seat.ghost_name }
-    ensures same_table { tx.new.table.now ≡ tx.old.table.now }
-    ensures ready { IsReady tx.new.table.now tx.new.seat.now }
-    ensures since { HasBegunSince tx.new.table.now tx.new.seat.now }
-{
-    call_bag(tx);
-    call_pq(tx);
-    call_queue(tx);
-}
-
-fn call_bag<V: Value>(tx: &mut Tx<'_, V>)
+/// The calls on multiset 1 and priority queue 2.
+pub fn call_bag_and_pq<V: Value>(tx: &mut Tx<'_, V>)
     requires ready { IsReady tx.old.table.now tx.old.seat.now }
     requires since { HasBegunSince tx.old.table.now tx.old.seat.now }
     ensures same_reference { tx.new.seat.ghost_name ≡ tx.old.seat.ghost_name }
@@ -70,26 +35,17 @@ fn call_bag<V: Value>(tx: &mut Tx<'_, V>)
     ensures since { HasBegunSince tx.new.table.now tx.new.seat.now }
 {
     let bag = TBag::new(1);
-    let _ = bag.count(tx, 5);
-    let _ = bag.add(tx, 5);
-    let _ = bag.take(tx, 5);
-}
-
-fn call_pq<V: Value>(tx: &mut Tx<'_, V>)
-    requires ready { IsReady tx.old.table.now tx.old.seat.now }
-    requires since { HasBegunSince tx.old.table.now tx.old.seat.now }
-    ensures same_reference { tx.new.seat.ghost_name ≡ tx.old.seat.ghost_name }
-    ensures same_table { tx.new.table.now ≡ tx.old.table.now }
-    ensures ready { IsReady tx.new.table.now tx.new.seat.now }
-    ensures since { HasBegunSince tx.new.table.now tx.new.seat.now }
-{
+    drop(bag.count(tx, 5));
+    drop(bag.add(tx, 5));
+    drop(bag.take(tx, 5));
     let pq = TPq::new(2);
-    let _ = pq.least(tx);
-    let _ = pq.insert(tx, 3);
-    let _ = pq.take_least(tx);
+    drop(pq.least(tx));
+    drop(pq.insert(tx, 3));
+    drop(pq.take_least(tx));
 }
 
-fn call_queue<V: Value>(tx: &mut Tx<'_, V>)
+/// The calls on queue 3, and those by number.
+pub fn call_queue_and_numbers<V: Value>(tx: &mut Tx<'_, V>)
     requires ready { IsReady tx.old.table.now tx.old.seat.now }
     requires since { HasBegunSince tx.old.table.now tx.old.seat.now }
     ensures same_reference { tx.new.seat.ghost_name ≡ tx.old.seat.ghost_name }
@@ -98,8 +54,11 @@ fn call_queue<V: Value>(tx: &mut Tx<'_, V>)
     ensures since { HasBegunSince tx.new.table.now tx.new.seat.now }
 {
     let queue = TQueue::new(3);
-    let _ = queue.enqueue(tx, 9);
-    let _ = queue.dequeue(tx);
-    let _ = queue.peek(tx);
-    let _ = queue.len(tx);
+    drop(queue.enqueue(tx, 9));
+    drop(queue.dequeue(tx));
+    drop(queue.peek(tx));
+    drop(queue.len(tx));
+    drop(tx.read(0));
+    drop(tx.write(0, 9));
+    drop(tx.call(Op::Len, 0));
 }
