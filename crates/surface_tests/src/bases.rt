@@ -26,9 +26,14 @@ pub fn laws() {
 }
 
 fn call_maps(alloc: Global) -> Result<(), Refusal> {
-    call_map(alloc, &mut MapBase::new(alloc, STRIPES)?)?;
+    let mut base = MapBase::new(alloc, STRIPES)?;
+    let called = call_map(alloc, &mut base);
+    drop(base);
+    called?;
     let base = MapBase::open(alloc, STRIPES, map_of_one(alloc)?)?;
-    call_trait(&base, &Op::Put(2, 21))
+    let called = call_trait(&base, &Op::Put(2, 21));
+    drop(base);
+    called
 }
 
 fn call_map(alloc: Global, base: &mut MapBase<u64>) -> Result<(), Memory>
@@ -43,9 +48,14 @@ fn call_map(alloc: Global, base: &mut MapBase<u64>) -> Result<(), Memory>
 }
 
 fn call_bags(alloc: Global) -> Result<(), Refusal> {
-    call_bag(alloc, &mut BagBase::new(alloc, STRIPES)?)?;
+    let mut base = BagBase::new(alloc, STRIPES)?;
+    let called = call_bag(alloc, &mut base);
+    drop(base);
+    called?;
     let base = BagBase::open(alloc, STRIPES, bag_of_one(alloc)?)?;
-    call_trait(&base, &Op::Add(5))
+    let called = call_trait(&base, &Op::Add(5));
+    drop(base);
+    called
 }
 
 fn call_bag(alloc: Global, base: &mut BagBase) -> Result<(), Memory>
@@ -60,9 +70,14 @@ fn call_bag(alloc: Global, base: &mut BagBase) -> Result<(), Memory>
 }
 
 fn call_pqs(alloc: Global) -> Result<(), Refusal> {
-    call_pq(alloc, &mut PqBase::new(alloc, STRIPES)?)?;
+    let mut base = PqBase::new(alloc, STRIPES)?;
+    let called = call_pq(alloc, &mut base);
+    drop(base);
+    called?;
     let base = PqBase::open(alloc, STRIPES, pq_of_one(alloc)?)?;
-    call_trait(&base, &Op::Insert(9))
+    let called = call_trait(&base, &Op::Insert(9));
+    drop(base);
+    called
 }
 
 fn call_pq(alloc: Global, base: &mut PqBase) -> Result<(), Memory>
@@ -77,9 +92,14 @@ fn call_pq(alloc: Global, base: &mut PqBase) -> Result<(), Memory>
 }
 
 fn call_queues(alloc: Global) -> Result<(), Refusal> {
-    call_queue(alloc, &mut QueueBase::new(alloc, STRIPES)?)?;
+    let mut base = QueueBase::new(alloc, STRIPES)?;
+    let called = call_queue(alloc, &mut base);
+    drop(base);
+    called?;
     let base = QueueBase::open(alloc, STRIPES, queue_of_one(alloc)?)?;
-    call_trait(&base, &Op::Enqueue(9))
+    let called = call_trait(&base, &Op::Enqueue(9));
+    drop(base);
+    called
 }
 
 fn call_queue(alloc: Global, base: &mut QueueBase) -> Result<(), Memory>

@@ -39,8 +39,9 @@ fn call_replay(alloc: Global, base: &mut Base<u64>) -> Result<(), Memory> {
 }
 
 fn call_fold(alloc: Global, base: &mut Base<u64>) -> Result<(), Memory> {
-    base.prepare(&[])?;
-    Log::new(alloc).fold_into(base);
+    let log = Log::new(alloc);
+    base.prepare(log.changes())?;
+    log.fold_into(base);
     Ok(())
 }
 

@@ -6,7 +6,9 @@ use std::alloc::Global;
 pub fn call(alloc: Global) -> Result<(), Refusal> {
     ensure(7u64.try_copy()?.same(&7))?;
     let mut state = state(alloc)?;
-    call_state(alloc, &mut state)
+    let called = call_state(alloc, &mut state);
+    drop(state);
+    called
 }
 
 fn call_state(alloc: Global, state: &mut State<u64>) -> Result<(), Refusal> {
@@ -14,7 +16,11 @@ fn call_state(alloc: Global, state: &mut State<u64>) -> Result<(), Refusal> {
     call_bag_and_pq(state)?;
     call_queue(state)?;
     ensure(state.words().len() == 1 && state.held().len() == 4)?;
-    ensure(audit(alloc, state, &[], state).is_ok())
+    ensure(is_run_of_none(alloc, state))
+}
+
+fn is_run_of_none(alloc: Global, state: &State<u64>) -> bool {
+    audit(alloc, state, &[], state).is_ok()
 }
 
 fn call_words_and_map(state: &mut State<u64>) -> Result<(), Refusal> {
