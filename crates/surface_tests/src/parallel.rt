@@ -22,12 +22,12 @@ struct Write0 {
     number: u64,
 }
 
-impl Job<u64> for Write0 {
+impl<V: Value> Job<V> for Write0 {
     ghost use Rattle.std.specs.Prelude.{⊤};
 
     ghost asks = { λ _ _ _. ⊤ };
 
-    fn ask(&self, replies: &[Reply<u64>]) -> Result<Ask<u64>, Memory> {
+    fn ask(&self, replies: &[Reply<V>]) -> Result<Ask<V>, Memory> {
         if replies.is_empty() {
             let op = Op::Write(self.number);
             return Ok(Ask::Call(Call { target: 0, op }));
@@ -39,12 +39,12 @@ impl Job<u64> for Write0 {
 /// Gives up at once.
 struct GivesUp;
 
-impl Job<u64> for GivesUp {
+impl<V: Value> Job<V> for GivesUp {
     ghost use Rattle.std.specs.Prelude.{⊤};
 
     ghost asks = { λ _ _ _. ⊤ };
 
-    fn ask(&self, _replies: &[Reply<u64>]) -> Result<Ask<u64>, Memory> {
+    fn ask(&self, _replies: &[Reply<V>]) -> Result<Ask<V>, Memory> {
         Ok(Ask::GiveUp)
     }
 }
@@ -66,11 +66,11 @@ pub fn call<R: Threads + Wait + Sync>(rt: &R, alloc: Global) -> Result<(), Refus
     called
 }
 
-fn call_at<R: Threads + Wait + Sync>(
+fn call_at<R: Threads + Wait + Sync, V: Value + Send + Sync>(
     rt: &R,
     alloc: Global,
-    table: &TxTable<u64>,
-    seat: &mut TxSeat<u64>,
+    table: &TxTable<V>,
+    seat: &mut TxSeat<V>,
 ) -> Result<(), Refusal>
     requires ready { IsReady table.now seat.old }
     requires shares { (view seat.old.seat).shares ≡ 64 }
@@ -84,7 +84,7 @@ fn call_at<R: Threads + Wait + Sync>(
     ensure(is && attempted && retried)
 }
 
-fn is_whole(report: &Report<u64>) -> bool {
+fn is_whole<V>(report: &Report<V>) -> bool {
     report.receipts.len() == 2 && report.missed.len() == 0
 }
 

@@ -4,7 +4,7 @@ ghost use Rattle.tx_table.specs.Seated.{Owns, view};
 ghost use Rattle.tx_engine.specs.Ready.{IsReady};
 
 use crate::rows::{ensure, shape, state};
-use crate::typed::{call_bag_and_pq, call_queue_and_numbers, call_word_and_map};
+use crate::typed::{call_bag, call_map, call_pq, call_queue, call_word};
 use seq_model::{Refusal, Value};
 use std::alloc::Global;
 use tx_engine::{Receipt, TxSeat, begin, begin_read, learn};
@@ -28,7 +28,7 @@ pub fn open(alloc: Global) -> Result<(TxTable<u64>, TxSeat<u64>), Refusal>
 pub fn call(alloc: Global) -> Result<(), Refusal> {
     call_bare(alloc)?;
     let (table, mut seat) = open(alloc)?;
-    let called = call_table(&table, &mut seat);
+    let called = call_table(&table, &mut seat, 21);
     let ended = call_end(table, seat);
     called.and(ended)
 }
@@ -52,13 +52,17 @@ fn open_bare(alloc: Global) -> Result<(TxTable<u64>, Seat<u64>), Refusal>
     TxTable::open(alloc, &shape, state(alloc)?)
 }
 
-fn call_table(table: &TxTable<u64>, seat: &mut TxSeat<u64>) -> Result<(), Refusal>
+fn call_table<V: Value>(
+    table: &TxTable<V>,
+    seat: &mut TxSeat<V>,
+    value: V,
+) -> Result<(), Refusal>
     requires ready { IsReady table.now seat.old }
     requires shares { (view seat.old.seat).shares ≡ 64 }
     ensures ready { IsReady table.now seat.new }
 {
     let mut other = seat.split(table, HALF);
-    let written = write_at(table, &mut other, 21);
+    let written = write_at(table, &mut other, value);
     let read = read_at(table, seat);
     let learnt = learn(table, seat, 1);
     let is = other.shares() == HALF && other.last_number() == 1;
@@ -93,9 +97,11 @@ fn write_at<V: Value>(
 {
     match begin(seat, table) {
         Ok(mut tx) => {
-            call_word_and_map(&mut tx, value);
-            call_bag_and_pq(&mut tx);
-            call_queue_and_numbers(&mut tx);
+            call_word(&mut tx);
+            call_map(&mut tx, value);
+            call_bag(&mut tx);
+            call_pq(&mut tx);
+            call_queue(&mut tx);
             tx.commit()
         }
         Err(refusal) => Err(refusal),
@@ -115,7 +121,7 @@ fn read_at<V: Value>(table: &TxTable<V>, seat: &mut TxSeat<V>) -> Result<(), Ref
     }
 }
 
-fn call_end(table: TxTable<u64>, seat: TxSeat<u64>) -> Result<(), Refusal>
+fn call_end<V: Value>(table: TxTable<V>, seat: TxSeat<V>) -> Result<(), Refusal>
     requires ready { IsReady table seat }
 {
     if seat.shares() != ALL || table.words() == 0 {
@@ -129,7 +135,7 @@ fn call_end(table: TxTable<u64>, seat: TxSeat<u64>) -> Result<(), Refusal>
     Ok(())
 }
 
-fn call_closed(closed: &Closed<u64>)
+fn call_closed<V: Value>(closed: &Closed<V>)
     requires { 0 < closed.now.words }
 {
     let _ = closed.word(0);
