@@ -144,15 +144,7 @@ fn lists(alloc: Global) -> Result<Vec<Vec<Action>>, Memory>
 
 fn call_served<R: Threads + Wait + Sync>(rt: &R, alloc: Global) -> Result<(), Refusal> {
     let lists = lists(alloc)?;
-    drop(serve(
-        rt,
-        alloc,
-        tables(alloc)?,
-        STRIPES,
-        lists,
-        TRIES,
-        &Unheld,
-    )?);
+    drop(serve(rt, alloc, tables(alloc)?, STRIPES, lists, TRIES, &Unheld)?);
     Ok(())
 }
 

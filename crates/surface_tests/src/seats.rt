@@ -52,11 +52,7 @@ fn open_bare(alloc: Global) -> Result<(TxTable<u64>, Seat<u64>), Refusal>
     TxTable::open(alloc, &shape, state(alloc)?)
 }
 
-fn call_table<V: Value>(
-    table: &TxTable<V>,
-    seat: &mut TxSeat<V>,
-    value: V,
-) -> Result<(), Refusal>
+fn call_table<V: Value>(table: &TxTable<V>, seat: &mut TxSeat<V>, value: V) -> Result<(), Refusal>
     requires ready { IsReady table.now seat.old }
     requires shares { (view seat.old.seat).shares ≡ 64 }
     ensures ready { IsReady table.now seat.new }
