@@ -7,6 +7,7 @@ use session_text::{
 };
 use std::alloc::Global;
 use vac_model::{ActionReply, Tables};
+use workers::LastAbort;
 
 /// What sessions and tables are drawn from.
 const SEED: u64 = 3;
@@ -43,6 +44,15 @@ fn call_sessions(alloc: Global) -> Result<(), Refusal> {
 
 fn print(alloc: Global, tables: &Tables) -> Result<Vec<u8>, Memory> {
     print_sessions(alloc, &[Line::Done(1, ActionReply::Absent)], tables)
+}
+
+/// The lines of sessions without a receipt.
+pub fn missed(refusal: Refusal) -> [Line; 3] {
+    [
+        Line::Missed(LastAbort::Refused(refusal)),
+        Line::Missed(LastAbort::GivenUp),
+        Line::Missed(LastAbort::NotStarted),
+    ]
 }
 
 fn options() -> Options {
