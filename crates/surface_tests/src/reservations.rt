@@ -4,7 +4,7 @@ ghost use Rattle.vac_model.specs.Balanced.{IsBalanced};
 
 use crate::parallel::Unheld;
 use crate::rows::ensure;
-use seq_model::{Entries, Items, Memory, Refusal};
+use seq_model::{Items, Memory, Refusal};
 use session_text::parse_sessions;
 use std::alloc::Global;
 use std::sync::Wait;
@@ -57,7 +57,7 @@ fn call_tables(alloc: Global) -> Result<(), Refusal> {
     drop(tables);
     replied?;
     drop(Tables::new(alloc));
-    drop(of_parts(alloc));
+    drop(of_parts(alloc)?);
     ensure(is)
 }
 
@@ -79,12 +79,7 @@ fn is_read(tables: &Tables) -> bool {
     tables.balanced() && cars == 1 && customers == 1 && tickets == 0 && waiting == 0 && next == 0
 }
 
-fn of_parts(alloc: Global) -> Tables {
-    let items = Each {
-        car: Entries::new(alloc),
-        flight: Entries::new(alloc),
-        room: Entries::new(alloc),
-    };
+fn of_parts(alloc: Global) -> Result<Tables, Memory> {
     let waiting = Each {
         car: Queue::new(alloc),
         flight: Queue::new(alloc),
@@ -92,9 +87,11 @@ fn of_parts(alloc: Global) -> Tables {
     };
     Tables::of_parts(
         alloc,
-        items,
-        Entries::new(alloc),
-        Entries::new(alloc),
+        Vec::new(alloc),
+        Vec::new(alloc),
+        Vec::new(alloc),
+        Vec::new(alloc),
+        Vec::new(alloc),
         waiting,
         3,
     )

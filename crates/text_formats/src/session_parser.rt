@@ -79,7 +79,7 @@ fn opening(alloc: Global, items: Each<Entries<Item>>) -> Tables
         flight: Queue::new(alloc),
         room: Queue::new(alloc),
     };
-    Tables::of_parts(
+    Tables::of_maps(
         alloc,
         items,
         Entries::new(alloc),
