@@ -15,7 +15,7 @@ fn call_state(alloc: Global, state: &mut State<u64>) -> Result<(), Refusal> {
     call_words_and_map(state)?;
     call_bag_and_pq(state)?;
     call_queue(state)?;
-    ensure(state.words().len() == 1 && state.held().len() == 4)?;
+    ensure(state.words.len() == 1 && state.held.len() == 4)?;
     ensure(is_run_of_none(alloc, state))
 }
 
