@@ -7,7 +7,7 @@ use base_map::MapBase;
 use base_pq::PqBase;
 use base_queue::QueueBase;
 use conflict::{Conflict, LocSet, Outcome, conflicts};
-use seq_model::{Items, Memory, Op, Refusal};
+use seq_model::{Memory, Op, Refusal};
 use std::alloc::Global;
 
 const STRIPES: u32 = 2;
@@ -40,7 +40,7 @@ fn call_map(alloc: Global, base: &mut MapBase<u64>) -> Result<(), Memory>
     requires { base.old.stripes ≡ 2 }
 {
     base.prepare(&[])?;
-    base.replay(Items::new(alloc), &LocSet::empty(alloc));
+    base.replay(Vec::new(alloc), &LocSet::empty(alloc));
     let _ = base.edition(1);
     drop(base.held()?);
     drop(base.try_copy()?);
@@ -62,7 +62,7 @@ fn call_bag(alloc: Global, base: &mut BagBase) -> Result<(), Memory>
     requires { base.old.stripes ≡ 2 }
 {
     base.prepare::<u64>(&[])?;
-    base.replay::<u64>(Items::new(alloc), &LocSet::empty(alloc));
+    base.replay::<u64>(Vec::new(alloc), &LocSet::empty(alloc));
     let _ = base.edition(1);
     drop(base.held::<u64>()?);
     drop(base.try_copy()?);
@@ -84,7 +84,7 @@ fn call_pq(alloc: Global, base: &mut PqBase) -> Result<(), Memory>
     requires { base.old.stripes ≡ 2 }
 {
     base.prepare::<u64>(&[])?;
-    base.replay::<u64>(Items::new(alloc), &LocSet::empty(alloc));
+    base.replay::<u64>(Vec::new(alloc), &LocSet::empty(alloc));
     let _ = base.edition(2);
     drop(base.held::<u64>()?);
     drop(base.try_copy()?);
@@ -106,7 +106,7 @@ fn call_queue(alloc: Global, base: &mut QueueBase) -> Result<(), Memory>
     requires { base.old.stripes ≡ 2 }
 {
     base.prepare::<u64>(&[])?;
-    base.replay::<u64>(Items::new(alloc), &LocSet::empty(alloc));
+    base.replay::<u64>(Vec::new(alloc), &LocSet::empty(alloc));
     let _ = base.edition(3);
     drop(base.held::<u64>()?);
     drop(base.try_copy()?);

@@ -2,7 +2,7 @@
 use crate::rows::map_of_one;
 use conflict::{Change, LocSet, Outcome};
 use replay_log::{Base, Log, Touch, Touched};
-use seq_model::{Items, Kind, Memory, Op, Refusal};
+use seq_model::{Kind, Memory, Op, Refusal};
 use shadow::{Memo, Shadow};
 use std::alloc::Global;
 
@@ -34,7 +34,7 @@ fn call_base(alloc: Global, base: &mut Base<u64>) -> Result<(), Refusal> {
 
 fn call_replay(alloc: Global, base: &mut Base<u64>) -> Result<(), Memory> {
     base.prepare(&[])?;
-    base.replay(Items::new(alloc), &LocSet::empty(alloc));
+    base.replay(Vec::new(alloc), &LocSet::empty(alloc));
     Ok(())
 }
 
