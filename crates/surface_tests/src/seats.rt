@@ -1,6 +1,6 @@
 //! The shared table, its seats, and transactions that borrow one.
 ghost use Rattle.std.specs.Prelude.{◌≡◌, ◌<◌, IfOk};
-ghost use Rattle.tx_table.specs.Seated.{Owns, view};
+ghost use Rattle.tx_table.specs.Seated.{view};
 ghost use Rattle.tx_engine.specs.Ready.{IsReady};
 
 use crate::rows::{ensure, shape, state};
@@ -8,7 +8,7 @@ use crate::typed::{call_bag, call_map, call_pq, call_queue, call_word};
 use seq_model::{Refusal, Value};
 use std::alloc::Global;
 use tx_engine::{Receipt, TxSeat, begin, begin_read, learn};
-use tx_table::{Block, Closed, Seat, TxTable};
+use tx_table::{Block, Closed, TxTable};
 
 /// A half of the shares of a table.
 const HALF: u64 = 32;
@@ -22,34 +22,14 @@ pub fn open(alloc: Global) -> Result<(TxTable<u64>, TxSeat<u64>), Refusal>
     ensures shares { IfOk result (λ opened. (view opened.1.seat).shares ≡ 64) }
 {
     let shape = shape(alloc)?;
-    TxSeat::open(alloc, &shape, state(alloc)?)
+    TxTable::open(alloc, &shape, state(alloc)?)
 }
 
 pub fn call(alloc: Global) -> Result<(), Refusal> {
-    call_bare(alloc)?;
     let (table, mut seat) = open(alloc)?;
     let called = call_table(&table, &mut seat, 21);
     let ended = call_end(table, seat);
     called.and(ended)
-}
-
-// The table's own seats, at which no transaction runs.
-fn call_bare(alloc: Global) -> Result<(), Refusal> {
-    let (table, mut seat) = open_bare(alloc)?;
-    let other = table.split(&mut seat, HALF);
-    let is = other.shares() == HALF && other.last_number() == 0;
-    drop(other);
-    drop(seat);
-    drop(table);
-    ensure(is)
-}
-
-fn open_bare(alloc: Global) -> Result<(TxTable<u64>, Seat<u64>), Refusal>
-    ensures owns { IfOk result (λ opened. Owns opened.0 opened.1) }
-    ensures shares { IfOk result (λ opened. (view opened.1).shares ≡ 64) }
-{
-    let shape = shape(alloc)?;
-    TxTable::open(alloc, &shape, state(alloc)?)
 }
 
 fn call_table<V: Value>(table: &TxTable<V>, seat: &mut TxSeat<V>, value: V) -> Result<(), Refusal>
@@ -57,12 +37,12 @@ fn call_table<V: Value>(table: &TxTable<V>, seat: &mut TxSeat<V>, value: V) -> R
     requires shares { (view seat.old.seat).shares ≡ 64 }
     ensures ready { IsReady table.now seat.new }
 {
-    let mut other = seat.split(table, HALF);
+    let mut other = table.split(seat, HALF);
     let written = write_at(table, &mut other, value);
     let read = read_at(table, seat);
     let learnt = learn(table, seat, 1);
     let is = other.shares() == HALF && other.last_number() == 1;
-    seat.join(table, other);
+    table.join(seat, other);
     drop(written?);
     drop(read?);
     learnt?;
@@ -125,7 +105,7 @@ fn call_end<V: Value>(table: TxTable<V>, seat: TxSeat<V>) -> Result<(), Refusal>
         drop(table);
         return Err(Refusal::NoSuch);
     }
-    let closed = seat.close(table)?;
+    let closed = table.close(seat)?;
     call_closed(&closed);
     drop(closed.state()?);
     Ok(())
