@@ -13,7 +13,7 @@ ghost use Rattle.base_bag.specs.Conflicts.{rules, view_of, outcome_of, reads_of,
 use crate::elements::Elements;
 use crate::footprints::{change_in, place_in, reads_in, writes_in};
 use conflict::{Change, Changes, Conflict, Editions, LocSet, Note, Outcome, is_stripe_count};
-use seq_model::{COPY_LIMIT, Counts, Held, Items, Memory, Op, Refusal, Reply, Value};
+use seq_model::{COPY_LIMIT, Counts, Held, Memory, Op, Refusal, Reply, Value};
 use std::alloc::Global;
 use std::marker::Model;
 
@@ -197,10 +197,10 @@ impl BagBase {
 
     /// What the outcome changes. Where that is nothing, it is never refused.
     pub fn changes<V: Drop>(&self, outcome: &Outcome<V>) -> Result<Changes<V>, Memory>
-        ensures changes { IfOk result (λ changes. changes ≡ changes_of outcome.now) }
+        ensures changes { IfOk result (λ changes. changes.items ≡ changes_of outcome.now) }
         ensures served { changes_of outcome.now ≡ [] → IsOk result }
     {
-        let mut changes = Items::new(self.editions.allocator());
+        let mut changes = Vec::new(self.editions.allocator());
         if let Some(change) = change_in(outcome)? {
             changes.push(change)?;
         }
@@ -222,16 +222,16 @@ impl BagBase {
 
     /// Applies the changes in order, and raises the edition of each written location by one. There has to be room for the
     /// changes, so it takes no memory and is never refused. It uses up the room for these changes alone.
-    pub fn replay<V: Drop>(&mut self, changes: Changes<V>, written: &LocSet)
-        requires prepared { length changes ≤ self.old.room }
+    pub fn replay<V: Drop>(&mut self, mut changes: Changes<V>, written: &LocSet)
+        requires prepared { length changes.items ≤ self.old.room }
         requires within { All (λ location. location < self.old.stripes) written.now }
         requires below { All (λ location. slice_index self.old.editions location < 2 ^ 63) written.now }
-        ensures shown { self.new.shown ≡ applied (rules V) changes self.old.shown }
+        ensures shown { self.new.shown ≡ applied (rules V) changes.items self.old.shown }
         ensures stripes { self.new.stripes ≡ self.old.stripes }
         ensures editions { self.new.editions ≡ raised written.now self.old.editions }
-        ensures room { self.old.room ≤ self.new.room + length changes }
+        ensures room { self.old.room ≤ self.new.room + length changes.items }
     {
-        self.replay_from(&mut changes.into_vec(), written);
+        self.replay_from(&mut changes, written);
     }
 
     /// What `replay` does, of the changes in a list that is left empty and keeps its memory.

@@ -282,7 +282,7 @@ fn tables_in(alloc: Global, words: &[u64], held: &[Held<Entry>]) -> Result<Table
     let waiting = queues_of(alloc, for_cars, for_flights, for_rooms)?;
     let customers = customers_of(alloc, customers)?;
     let tickets = tickets_of(alloc, tickets)?;
-    Ok(Tables::of_parts(alloc, items, customers, tickets, waiting, *next))
+    Ok(Tables::of_maps(alloc, items, customers, tickets, waiting, *next))
 }
 
 /// The tables that the state holds: those of which it is the [`state_of`]. No two tables have one state.

@@ -1,7 +1,7 @@
 //! The program over a reader and two writers: its words, its file, and its exit status.
 //!
 //! `file_of` answers which file the words name, `run_file` continues with that file as it was opened, and `run_tool` does the work that the
-//! words name on what a reader gives. How words are read is known in `words`, `bench` and `numbers` alone, and what help says in
+//! words name on what a reader gives; `run_tool_with` calls back meanwhile. How words are read is known in `words`, `bench` and `numbers` alone, and what help says in
 //! `texts`; `work` makes of the text, or of drawn sessions, what is to be printed, or why nothing is; `tool` prints it, or the fault,
 //! and answers the status.
 #![tactic(auto)]
@@ -16,6 +16,8 @@ mod work;
 
 pub use client_sessions::{NoProgress, Progress};
 pub use served_runs::Pace;
-pub use tool::{AUDIT_FAULT, DONE, MEMORY, REFUSED, fault, refuse_memory, run_file, run_tool};
+pub use tool::{
+    AUDIT_FAULT, DONE, MEMORY, REFUSED, fault, refuse_memory, run_file, run_tool, run_tool_with,
+};
 pub use words::file_of;
 pub use work::FILE_LIMIT;

@@ -13,7 +13,7 @@ use crate::words::{matches_of, task_in};
 use crate::work::{Cause, Output, output_of};
 use clap::Error;
 use clap::error::ErrorKind;
-use client_sessions::Progress;
+use client_sessions::{NoProgress, Progress};
 use seq_model::Refusal;
 use session_text::RunFault;
 use std::alloc::Global;
@@ -93,7 +93,7 @@ fn refuse_output<E: Write>(err: &mut E) -> u8
     fault(err, REFUSED, "cannot write the output")
 }
 
-/// Runs the words over the file that they name, as it was opened: `run_tool` over its text, with its status, or
+/// Runs the words over the file that they name, as it was opened: `run_tool_with` over its text, with its status, or
 /// the fault that it can't be read.
 pub fn run_file<
     H: Threads + Wait + Clock + Sync,
@@ -131,14 +131,13 @@ pub fn run_file<
     match opened {
         Ok(reader) => {
             let mut reader = reader;
-            run_tool(rt, alloc, words, &mut reader, out, err, progress)
+            run_tool_with(rt, alloc, words, &mut reader, out, err, progress)
         }
         Err(_) => fault(err, REFUSED, "cannot read the file"),
     }
 }
 
-/// Runs the words, without the program's own name, over what the reader gives, and answers the exit status. Meanwhile progress
-/// is called with how many sessions have receipts.
+/// Runs the words, without the program's own name, over what the reader gives, and answers the exit status.
 ///
 /// What it prints goes to `out`, and a fault, one line, to `err`: then nothing goes to `out`. Where a write to `out` fails, `err` says so.
 /// Faults are found in the order words, file, size, text, opening. `sound`: no audit of what was run finds a fault, and all tables
@@ -148,7 +147,46 @@ pub fn run_file<
 /// it fails, is the line of the fault, and `out` is unchanged (`memory`); or it is the line that the output can't be written, and `out`
 /// has grown by a beginning of what the task prints, but not by all of it. `unwritten`: with status 1 `out` has changed, by help and the
 /// version too, only where that line was written.
-pub fn run_tool<H: Threads + Wait + Clock + Sync, R: Read, W: Write, E: Write, P: Progress + Sync>(
+pub fn run_tool<H: Threads + Wait + Clock + Sync, R: Read, W: Write, E: Write>(
+    rt: &H,
+    alloc: Global,
+    words: &[String],
+    reader: &mut R,
+    out: &mut W,
+    err: &mut E,
+) -> u8
+    ensures status { result ≤ AUDIT_FAULT }
+    ensures sound { result ≢ AUDIT_FAULT }
+    ensures done { result ≡ DONE
+        → HasWorked (map string_bytes words.now) (R.remaining reader.old) (W.contents out.old) (W.contents out.new) }
+    ensures quiet { result ≡ DONE → AsksForTimes (task_named (map string_bytes words.now)) ⊎ (err.new ≡ err.old) }
+    ensures refused { result ≡ REFUSED
+        → (out.new ≡ out.old)
+        ⊎ (AskForInformation (map string_bytes words.now)
+        ⊎ HasStopped (map string_bytes words.now) (R.remaining reader.old) (W.contents out.old) (W.contents out.new)) }
+    ensures memory { result ≡ MEMORY → out.new ≡ out.old }
+    ensures unread { ¬ AreTaken (map string_bytes words.now) → reader.new ≡ reader.old }
+    ensures drawn { IsOnDrawn (task_named (map string_bytes words.now)) → reader.new ≡ reader.old }
+    ensures told { AreTaken (map string_bytes words.now) → result ≡ REFUSED
+        → ((out.new ≡ out.old) × HasToldFault (task_named (map string_bytes words.now)) REFUSED (R.remaining reader.old)
+        (E.contents err.old) (E.contents err.new))
+        ⊎ (HasBegun (E.contents err.old) (E.contents err.new) (line_of unwritten_text)
+        × HasStopped (map string_bytes words.now) (R.remaining reader.old) (W.contents out.old) (W.contents out.new)) }
+    ensures unwritten { result ≡ REFUSED
+        → (out.new ≡ out.old) ⊎ HasBegun (E.contents err.old) (E.contents err.new) (line_of unwritten_text) }
+    ensures starved { result ≡ MEMORY → HasBegun (E.contents err.old) (E.contents err.new) (line_of memory_text) }
+{
+    run_tool_with(rt, alloc, words, reader, out, err, &NoProgress)
+}
+
+/// The same, and meanwhile progress is called with how many sessions have receipts.
+pub fn run_tool_with<
+    H: Threads + Wait + Clock + Sync,
+    R: Read,
+    W: Write,
+    E: Write,
+    P: Progress + Sync,
+>(
     rt: &H,
     alloc: Global,
     words: &[String],

@@ -1,6 +1,4 @@
 //! What a call changes in a collection. A list of changes is replayed on the collection when its transaction commits.
-use seq_model::Items;
-
 /// One change to a collection.
 #[derive(Drop)]
 pub enum Change<V> {
@@ -21,4 +19,4 @@ pub enum Change<V> {
 }
 
 /// Changes, in order.
-pub type Changes<V> = Items<Change<V>>;
+pub type Changes<V> = Vec<Change<V>>;

@@ -40,7 +40,7 @@ pub trait Conflict<V: Value>: Drop {
 
     /// What the outcome changes, in order. Where that is nothing, it is never refused.
     fn changes(&self, outcome: &Outcome<V>) -> Result<Changes<V>, Memory>
-        ensures changes { IfOk result (λ changes. changes ≡ rules.changes outcome.now) }
+        ensures changes { IfOk result (λ changes. changes.items ≡ rules.changes outcome.now) }
         ensures served { rules.changes outcome.now ≡ [] → IsOk result };
 
     ghost laws: { FrameLaws rules };

@@ -21,7 +21,7 @@ use Rattle.tx_table.specs.declared.table.TxTable.{TxTable}
 use Rattle.tx_table.specs.declared.view.Turn.{Turn}
 use Rattle.tx_engine.specs.Requests.{KeepsReceipts}
 use Rattle.tx_engine.specs.declared.seats.TxSeat.{TxSeat}
-use Rattle.job_workers.specs.declared.causes.LastAbort.{LastAbort}
+use Rattle.jobs.specs.declared.causes.LastAbort.{LastAbort}
 use Rattle.job_workers.specs.declared.report.Report.{Report}
 use Rattle.job_workers.specs.declared.tree.Tree.{Tree, Taken, Leaf, Both'}
 use Rattle.job_workers.specs.Reports.{AreTaken, IsReportOf, IsTreeOf, Reports, jobs_in, jobs_of, numbered}

@@ -20,8 +20,8 @@ use Rattle.tx_engine.proofs.GainLemmas.{aborts_then, refused_gains}
 use Rattle.tx_engine.specs.Attempts.{Aborts, AttemptsTo}
 use Rattle.tx_engine.specs.declared.attempts.Attempt.{Attempt}
 use Rattle.tx_engine.specs.declared.attempts.Attempt.TheVariants.{Committed, GivenUp}
-use Rattle.job_workers.specs.declared.causes.LastAbort.{LastAbort}
-use Rattle.job_workers.specs.declared.causes.LastAbort.TheVariants as last
+use Rattle.jobs.specs.declared.causes.LastAbort.{LastAbort}
+use Rattle.jobs.specs.declared.causes.LastAbort.TheVariants as last
 use Rattle.job_workers.specs.Tries.{AreInVain, ComesAfter, HasNoReceipt, HasReceipt, IsTransient}
 
 module _ {V : Type 0} (asks : List (Reply V) → Ask V → Type 0) (t : TxTable V) where

@@ -2,4 +2,3 @@ pub mod Tries
 pub mod Tasks
 pub mod Trees
 pub mod Reports
-pub mod Texts

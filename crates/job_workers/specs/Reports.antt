@@ -13,7 +13,7 @@ use Rattle.tx_table.specs.declared.view.Turn.{Turn}
 use Rattle.driven_turns.specs.Begins.{begins_of}
 use Rattle.tx_engine.specs.Ready.{standing}
 use Rattle.tx_engine.specs.Requests.{HasAborted, IsOpen, KeepsReceipts}
-use Rattle.job_workers.specs.declared.causes.LastAbort.{LastAbort}
+use Rattle.jobs.specs.declared.causes.LastAbort.{LastAbort}
 use Rattle.job_workers.specs.declared.report.Draft.{Draft}
 use Rattle.job_workers.specs.declared.report.Report.{Report}
 use Rattle.job_workers.specs.declared.tree.Tree.{Tree}

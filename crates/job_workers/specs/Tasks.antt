@@ -10,8 +10,8 @@ use Rattle.tx_table.specs.declared.view.Turn.{Turn}
 use Rattle.tx_engine.specs.declared.seats.TxSeat.{TxSeat}
 use Rattle.tx_phases.specs.Phases.{Rests}
 use Rattle.tx_engine.specs.Ready.{IsReady, standing}
-use Rattle.job_workers.specs.declared.causes.LastAbort.{LastAbort}
-use Rattle.job_workers.specs.declared.causes.LastAbort.TheVariants.{NotStarted}
+use Rattle.jobs.specs.declared.causes.LastAbort.{LastAbort}
+use Rattle.jobs.specs.declared.causes.LastAbort.TheVariants.{NotStarted}
 use Rattle.job_workers.specs.declared.tasks.Task.{Task}
 use Rattle.job_workers.specs.Tries.{HasNoReceipt, HasReceipt}
 

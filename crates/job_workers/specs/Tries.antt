@@ -14,8 +14,8 @@ use Rattle.tx_engine.specs.Attempts.{Aborts, AttemptsTo}
 use Rattle.tx_engine.specs.Jobs.{IsWholeJob}
 use Rattle.tx_engine.specs.declared.attempts.Attempt.{Attempt}
 use Rattle.tx_engine.specs.declared.attempts.Attempt.TheVariants.{Committed, GivenUp}
-use Rattle.job_workers.specs.declared.causes.LastAbort.{LastAbort}
-use Rattle.job_workers.specs.declared.causes.LastAbort.TheVariants as last
+use Rattle.jobs.specs.declared.causes.LastAbort.{LastAbort}
+use Rattle.jobs.specs.declared.causes.LastAbort.TheVariants as last
 
 -- others stood in the way
 abbrev pub IsTransient : Refusal → Type 0

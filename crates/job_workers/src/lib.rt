@@ -4,7 +4,6 @@
 //! half is given to a thread with a seat of its own, which is joined afterwards, so that the seat that was lent gains all receipts.
 #![tactic(auto)]
 
-mod causes;
 mod halves;
 mod lists;
 mod priority;
@@ -14,7 +13,7 @@ mod tasks;
 mod tree;
 mod tries;
 
-pub use causes::LastAbort;
+pub use jobs::LastAbort;
 pub use report::Report;
 pub use run::{run_workers, run_workers_owned};
 pub use tries::retry;

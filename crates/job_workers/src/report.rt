@@ -4,9 +4,8 @@ ghost use Rattle.std.specs.Vec.{vec_capacity, vec_len};
 ghost use Rattle.job_workers.specs.Trees.{lists_of, missed_of};
 ghost use Rattle.job_workers.specs.Reports.{HasRoomFor, jobs_in};
 
-use crate::causes::LastAbort;
 use crate::tree::Tree;
-use jobs::Job;
+use jobs::{Job, LastAbort};
 use seq_model::{Items, Memory, Record, Value};
 use std::alloc::Global;
 

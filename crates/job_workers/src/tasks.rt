@@ -4,10 +4,9 @@ ghost use Rattle.tx_table.specs.Seated.{actor, view};
 ghost use Rattle.tx_engine.specs.Ready.{IsReady};
 ghost use Rattle.job_workers.specs.Tasks.{Gains, GetsJoined, HasRoom, IsDone, IsFreshTask, IsLeft, IsSameTask, missed_in, receipts_in};
 
-use crate::causes::LastAbort;
 use crate::priority::{Priority, Waiting};
 use crate::tries::retry_in;
-use jobs::Job;
+use jobs::{Job, LastAbort};
 use seq_model::{Record, Value};
 use tx_engine::{Pause, TxSeat};
 use tx_table::TxTable;

@@ -5,9 +5,8 @@ ghost use Rattle.tx_phases.specs.Phases.{Rests};
 ghost use Rattle.tx_engine.specs.Ready.{IsReady, standing};
 ghost use Rattle.job_workers.specs.Tries.{HasReceipt, HasNoReceipt, IsTransient};
 
-use crate::causes::LastAbort;
 use crate::priority::{Priority, Waiting};
-use jobs::Job;
+use jobs::{Job, LastAbort};
 use seq_model::{Record, Refusal, Value};
 use std::hint::spin_loop;
 use std::thread::yield_now;

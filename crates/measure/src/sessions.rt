@@ -57,7 +57,7 @@ pub fn lists_of(alloc: Global, seed: u64, options: &Options) -> Result<Vec<Vec<A
 {
     let mut lists = Vec::new(alloc);
     for worker in 1..=options.clients {
-        lists.push(generate(alloc, seed, worker, options)?)?;
+        lists.push(generate(alloc, seed, u64::from(worker), options)?)?;
     }
     Ok(lists)
 }

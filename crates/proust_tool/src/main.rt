@@ -1,10 +1,12 @@
 //! The program: runs step scripts, session files and drawn sessions.
 //!
-//! The work is done over any reader and writers: `main` hands the opened file to `run_file`, or standard input to `run_tool`, with the
+//! The work is done over any reader and writers: `main` hands the opened file to `run_file`, or standard input to `run_tool_with`, with the
 //! standard streams. Where standard error is a terminal it also says how far sessions have come, in one line, which is gone at the end.
 #![tactic(auto)]
 
-use command_line::{Pace, Progress, REFUSED, fault, file_of, refuse_memory, run_file, run_tool};
+use command_line::{
+    Pace, Progress, REFUSED, fault, file_of, refuse_memory, run_file, run_tool_with,
+};
 use std::io::{IsTerminal, Write};
 use std::process::ExitCode;
 use std::sync::Wait;
@@ -121,7 +123,7 @@ fn run<H: Threads + Wait + Clock + Sync>(threads: &H, rt: &HostRuntime, words: &
             let opened = std::fs::open(rt, file.as_str());
             run_file(threads, alloc, words, opened, &mut out, &mut err, &told)
         }
-        Ok(None) => run_tool(
+        Ok(None) => run_tool_with(
             threads,
             alloc,
             words,

@@ -134,7 +134,7 @@ impl<V: Value> Base<V> {
 
     /// What the outcome changes, in order. Where that is nothing, it is never refused.
     pub fn changes(&self, outcome: &Outcome<V>) -> Result<Changes<V>, Memory>
-        ensures changes { IfOk result (λ changes. changes ≡ changes_of outcome.now (shown_of self.now)) }
+        ensures changes { IfOk result (λ changes. changes.items ≡ changes_of outcome.now (shown_of self.now)) }
         ensures served { changes_of outcome.now (shown_of self.now) ≡ [] → IsOk result }
     {
         match self {
@@ -184,13 +184,13 @@ impl<V: Value> Base<V> {
     /// Applies the changes in order, and raises the edition of each written location by one. There has to be room for the
     /// changes, so it takes no memory and is never refused. It uses up the room for these changes alone.
     pub fn replay(&mut self, changes: Changes<V>, written: &LocSet)
-        requires prepared { IsPreparedFor changes self.old }
+        requires prepared { IsPreparedFor changes.items self.old }
         requires within { All (λ location. location < locations_of (stripes_of self.old) (shown_of self.old)) written.now }
         requires below { All (λ location. slice_index (editions_of self.old) location < 2 ^ 63) written.now }
-        ensures shown { shown_of self.new ≡ after changes (shown_of self.old) }
+        ensures shown { shown_of self.new ≡ after changes.items (shown_of self.old) }
         ensures stripes { stripes_of self.new ≡ stripes_of self.old }
         ensures editions { editions_of self.new ≡ raised written.now (editions_of self.old) }
-        ensures room { LeavesPrepared changes self.old self.new }
+        ensures room { LeavesPrepared changes.items self.old self.new }
     {
         match self {
             Base::Map(base) => base.replay(changes, written),

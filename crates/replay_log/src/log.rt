@@ -97,15 +97,15 @@ impl<V: Value> Log<V> {
 
     /// Appends changes that are made together, with the locations that they write. There has to be room for them, so it takes no
     /// memory and is never refused.
-    pub fn append(&mut self, changes: Changes<V>, locations: &LocSet)
-        requires room { length changes ≤ self.old.room }
+    pub fn append(&mut self, mut changes: Changes<V>, locations: &LocSet)
+        requires room { length changes.items ≤ self.old.room }
         requires places { length self.old.locations + length locations.now ≤ self.old.places }
-        ensures changes { self.new.changes ≡ self.old.changes ++ changes }
+        ensures changes { self.new.changes ≡ self.old.changes ++ changes.items }
         ensures locations { self.new.locations ≡ self.old.locations ++ locations.now }
-        ensures room { self.old.room ≤ self.new.room + length changes }
+        ensures room { self.old.room ≤ self.new.room + length changes.items }
         ensures places { self.old.places ≤ self.new.places }
     {
-        self.append_from(&mut changes.into_vec(), locations);
+        self.append_from(&mut changes, locations);
     }
 
     /// What `append` does, of the changes in a list that is left empty and keeps its memory.

@@ -35,8 +35,8 @@ pub fn opened_by_draws(alloc: Global, seed: u64, options: &[u64]) -> Result<Tabl
     Ok(opening(alloc, seed, &options)?)
 }
 
-fn drawn(alloc: Global, seed: u64, worker: u32, options: &Options) -> Result<Vec<Action>, Refusal> {
-    if !options.are_within() || worker == 0 || worker > options.clients {
+fn drawn(alloc: Global, seed: u64, worker: u64, options: &Options) -> Result<Vec<Action>, Refusal> {
+    if !options.are_within() || worker == 0 || worker > u64::from(options.clients) {
         return Err(Refusal::TooLong);
     }
     Ok(generate(alloc, seed, worker, options)?)
@@ -47,8 +47,8 @@ pub fn answer_drawn(text: &mut String, numbers: &[u64]) -> Result<(), Refusal> {
     let [seed, worker, options @ ..] = numbers else {
         return Err(Refusal::NoSuch);
     };
-    let (worker, options) = (number_in(*worker)?, options_of(options)?);
-    let actions = drawn(*text.allocator(), *seed, worker, &options)?;
+    let options = options_of(options)?;
+    let actions = drawn(*text.allocator(), *seed, *worker, &options)?;
     for action in actions.as_slice() {
         text.push('\n')?;
         print_action(text, action)?;

@@ -1,6 +1,6 @@
 //! Session files, and the actions that stand in them.
 use crate::prints::{print_lines, say};
-use seq_model::{Items, Refusal};
+use seq_model::Refusal;
 use std::alloc::Global;
 use text_formats::{Line, number, parse_sessions};
 use vac_model::{Action, ActionRefusal, ActionReply, Tables};
@@ -30,14 +30,14 @@ fn bytes_of(alloc: Global, file: &str) -> Result<Vec<u8>, Refusal> {
 }
 
 // What the parser promises is no concern of the rows.
-fn parsed(alloc: Global, bytes: &[u8]) -> Result<(Tables, Items<Action>), Refusal> {
+fn parsed(alloc: Global, bytes: &[u8]) -> Result<(Tables, Vec<Action>), Refusal> {
     parse_sessions(alloc, bytes)
 }
 
 fn actions_in(alloc: Global, bytes: &[u8]) -> Result<Vec<Action>, Refusal> {
     let (tables, actions) = parsed(alloc, bytes)?;
     drop(tables);
-    Ok(actions.into_vec())
+    Ok(actions)
 }
 
 /// The action of a line.

@@ -18,7 +18,7 @@ pub fn of_parts(alloc: Global, units: u64, tickets: &[u64], next: u64) -> Result
         room: Queue::new(alloc),
     };
     let (customers, tickets) = (Entries::new(alloc), Entries::new(alloc));
-    Ok(Tables::of_parts(alloc, items, customers, tickets, waiting, next))
+    Ok(Tables::of_maps(alloc, items, customers, tickets, waiting, next))
 }
 
 fn cars_of(alloc: Global, units: u64) -> Result<Entries<Item>, Memory> {
@@ -78,7 +78,7 @@ fn rebuilt(alloc: Global, tables: &Tables) -> Result<Tables, Memory> {
     let tickets = copy_of(alloc, tables.tickets())?;
     let waiting = copy_of_lines(tables)?;
     let next = tables.next_ticket();
-    Ok(Tables::of_parts(alloc, items, customers, tickets, waiting, next))
+    Ok(Tables::of_maps(alloc, items, customers, tickets, waiting, next))
 }
 
 /// Prints what tables of these tables' parts hold.

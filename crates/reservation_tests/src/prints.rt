@@ -1,4 +1,5 @@
 //! What actions answer and what tables hold, as text.
+use jobs::LastAbort;
 use seq_model::Refusal;
 use std::fmt::Write;
 use text_formats::{Line, print_sessions};
@@ -42,10 +43,10 @@ pub fn print_missed(text: &mut String) -> Result<(), Refusal> {
         word_edition: 4,
     };
     let lines = [
-        Line::Refused(stale),
-        Line::Refused(Refusal::Exhausted { clock: 9 }),
-        Line::GivenUp,
-        Line::NotStarted,
+        Line::Missed(LastAbort::Refused(stale)),
+        Line::Missed(LastAbort::Refused(Refusal::Exhausted { clock: 9 })),
+        Line::Missed(LastAbort::GivenUp),
+        Line::Missed(LastAbort::NotStarted),
     ];
     let tables = Tables::new(*text.allocator());
     let printed = print_lines(text, &lines, &tables);

@@ -1,6 +1,6 @@
 //! Numbers and changes that a row spells.
 use conflict::{Change, Changes};
-use seq_model::{Held, Items, Refusal};
+use seq_model::{Held, Refusal};
 use std::alloc::Global;
 use text_formats::{number, tokens_of};
 
@@ -45,7 +45,7 @@ fn change_in(alloc: Global, spelled: &str) -> Result<Change<u64>, Refusal> {
 
 /// The changes that the row spells, with `, ` between.
 pub fn changes_of(alloc: Global, row: &str) -> Result<Changes<u64>, Refusal> {
-    let mut changes = Items::new(alloc);
+    let mut changes = Vec::new(alloc);
     for spelled in row.split(", ") {
         let change = change_in(alloc, spelled)?;
         changes.push(change)?;

@@ -4,7 +4,7 @@ use crate::laid_out::print_laid_out;
 use crate::reading::print_script;
 use crate::times::{print_missed, print_paces};
 use crate::worlds::print_worlds;
-use command_line::{DONE, MEMORY, NoProgress, file_of, run_tool};
+use command_line::{DONE, MEMORY, file_of, run_tool};
 use seq_model::{Memory, Refusal};
 use std::alloc::{AllocError, Global};
 use std::fmt::Write;
@@ -166,7 +166,7 @@ fn run_over<H: Threads + Wait + Clock + Sync>(
 ) -> Result<(), AllocError> {
     let alloc = *text.allocator();
     let mut err = output(alloc, false)?;
-    let status = run_tool(rt, alloc, words, input, out, &mut err, &NoProgress);
+    let status = run_tool(rt, alloc, words, input, out, &mut err);
     if status == MEMORY {
         return Err(AllocError);
     }

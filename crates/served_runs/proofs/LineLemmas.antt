@@ -8,11 +8,12 @@ use Rattle.workers.specs.Deals.{AreDealtLike}
 use Rattle.seq_model.specs.declared.record.Record.{Record}
 use Rattle.vac_model.specs.declared.action.Action.{Action}
 use Rattle.client_sessions.specs.declared.entry.Entry.{Entry}
-use Rattle.job_workers.specs.declared.causes.LastAbort.{LastAbort}
+use Rattle.jobs.specs.declared.causes.LastAbort.{LastAbort}
 use Rattle.job_workers.specs.Tasks.{Outcome, missed_in, receipts_in}
 use Rattle.text_formats.specs.declared.session_print.Line.{Line}
+use Rattle.text_formats.specs.declared.session_print.Line.TheVariants as line
 use Rattle.workers.specs.Serving.{all_missed}
-use Rattle.served_runs.specs.Lines.{AreLinesOf, IsLineOf, missed_line}
+use Rattle.served_runs.specs.Lines.{AreLinesOf, IsLineOf}
 use Rattle.served_runs.specs.Unread.{AreAllLines, AreAllOwn, AreAllUnread, AreOwn, AreUnread, HasUnread, IsBeyond, IsFirst, IsNext}
 
 abbrev pub Missed : Type 0
@@ -54,12 +55,12 @@ not_here w p q (Err cause ∷ os) later lt b first = omega (arith, first.1)
 pub missed_next : (w p : ℕ) (a : Action) (o : Outcome Entry) (os : List (Outcome Entry)) (later : List Missed)
     (receipts : List (Record Entry)) (missed behind : List Missed) (job : Missed) → IsNext w p a o os later receipts missed
     → IsFirst w p missed → missed ≡ job ∷ behind
-    → IsLineOf a o (missed_line job.2) × (receipts ≡ receipts_in os) × (behind ≡ missed_in w (p + 1) os ++ later)
+    → IsLineOf a o (line.Missed job.2) × (receipts ≡ receipts_in os) × (behind ≡ missed_in w (p + 1) os ++ later)
 missed_next w p a (Ok r) os later receipts missed behind job is first at =
     absurd (not_here w p (p + 1) os later (omega arith) is.beyond (subst (IsFirst w p) is.missed_are first))
 missed_next w p a (Err cause) os later receipts missed behind job is first at =
     let same : job ∷ behind ≡ (w, p, cause) ∷ (missed_in w (p + 1) os ++ later) = sym at ∙ is.missed_are in
-    (ap (λ (j : Missed). missed_line j.2) (head_same _ _ _ _ same), is.receipts_are, tail_same _ _ _ _ same)
+    (ap (λ (j : Missed). line.Missed j.2) (head_same _ _ _ _ same), is.receipts_are, tail_same _ _ _ _ same)
 
 -- and else it has the next one
 pub receipt_next : (w p : ℕ) (a : Action) (o : Outcome Entry) (os : List (Outcome Entry)) (later : List Missed)

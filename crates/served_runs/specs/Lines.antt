@@ -3,22 +3,15 @@ use Rattle.std.specs.Prelude.{◌≡◌, ◌<◌, ℕ, List, [], ◌∷◌, Ok, 
 use Rattle.workers.specs.Deals.{every}
 use Rattle.vac_model.specs.declared.action.Action.{Action}
 use Rattle.client_sessions.specs.declared.entry.Entry.{Entry}
-use Rattle.job_workers.specs.declared.causes.LastAbort.{LastAbort}
-use Rattle.job_workers.specs.declared.causes.LastAbort.TheVariants as last
 use Rattle.job_workers.specs.Tasks.{Outcome}
 use Rattle.text_formats.specs.declared.session_print.Line.{Line}
 use Rattle.text_formats.specs.declared.session_print.Line.TheVariants as line
 use Rattle.session_text.specs.Receipts.{IsLine}
 
-abbrev pub missed_line : LastAbort → Line
-missed_line (last.Refused refusal) = line.Refused refusal
-missed_line last.GivenUp = line.GivenUp
-missed_line last.NotStarted = line.NotStarted
-
 -- the number of the receipt and what the session answers in it, or why it has none
 abbrev pub IsLineOf : Action → Outcome Entry → Line → Type 0
 IsLineOf action (Ok r) told = IsLine action r told
-IsLineOf action (Err cause) told = told ≡ missed_line cause
+IsLineOf action (Err cause) told = told ≡ line.Missed cause
 
 abbrev pub AreLinesOf : List Action → List (Outcome Entry) → List Line → Type 0
 AreLinesOf [] [] [] = ⊤

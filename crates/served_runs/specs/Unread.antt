@@ -8,7 +8,7 @@ use Rattle.vac_model.specs.declared.action.Action.{Action}
 use Rattle.vac_model.specs.Holdings.{Holdings}
 use Rattle.client_sessions.specs.declared.entry.Entry.{Entry}
 use Rattle.client_sessions.specs.Sessions.{session}
-use Rattle.job_workers.specs.declared.causes.LastAbort.{LastAbort}
+use Rattle.jobs.specs.declared.causes.LastAbort.{LastAbort}
 use Rattle.job_workers.specs.Tasks.{Outcome, missed_in, receipts_in}
 use Rattle.text_formats.specs.declared.session_print.Line.{Line}
 use Rattle.session_text.specs.declared.printing.SessionRun.{SessionRun}

@@ -57,7 +57,7 @@ fn drawn_lists(alloc: Global, drawn: &Drawn) -> Result<Vec<Vec<Action>>, Memory>
 {
     let mut lists = Vec::new(alloc);
     'workers: for before in 0..drawn.options.clients {
-        lists.push(generate(alloc, drawn.seed, before + 1, &drawn.options)?)?;
+        lists.push(generate(alloc, drawn.seed, u64::from(before) + 1, &drawn.options)?)?;
     }
     Ok(lists)
 }

@@ -43,7 +43,7 @@ pub fn output_of<R: Threads + Wait + Sync, P: Progress + Sync>(
     ensures refused { IfErr result (IsFault text.now) }
 {
     let (tables, actions) = parse_sessions(alloc, text)?;
-    let run = run_dealt(rt, alloc, &tables, actions.into_vec(), workers, progress);
+    let run = run_dealt(rt, alloc, &tables, actions, workers, progress);
     drop(tables);
     progress.end();
     let run = run?;

@@ -2,10 +2,9 @@
 ghost use Rattle.std.specs.Prelude.{◌≡◌, ◌+◌, ◌++◌, ◌≤◌, ◌↔◌, ℕ, List, IfOk, IsTrue, length};
 ghost use Rattle.workers.specs.Deals.{AreDealtLike, in_lists};
 ghost use Rattle.client_sessions.specs.declared.entry.Entry.{Entry as AnEntry};
-ghost use Rattle.job_workers.specs.declared.causes.LastAbort.{LastAbort as ACause};
+ghost use Rattle.jobs.specs.declared.causes.LastAbort.{LastAbort as ACause};
 ghost use Rattle.job_workers.specs.Tasks.{Outcome, missed_in, receipts_in};
 ghost use Rattle.served_runs.specs.Lines.{AreLinesOf, IsLineOf};
-ghost use Rattle.served_runs.specs.Lines as specs;
 ghost use Rattle.served_runs.specs.Unread.{AreAllUnread, AreUnread, HasAllUnread, HasNext, HasUnread, IsFirst, IsNext, IsTold};
 
 use client_sessions::{Entry, Session};
@@ -18,16 +17,6 @@ use workers::{LastAbort, Report, gather};
 
 /// A worker, the place of a job in its list, and why that one has no receipt.
 pub(crate) type Missed = (u64, u64, LastAbort);
-
-fn missed_line(cause: LastAbort) -> Line
-    ensures { result ≡ specs.missed_line cause }
-{
-    match cause {
-        LastAbort::Refused(refusal) => Line::Refused(refusal),
-        LastAbort::GivenUp => Line::GivenUp,
-        LastAbort::NotStarted => Line::NotStarted,
-    }
-}
 
 /// Whether the first of these missed jobs is the one at this place of this worker's list.
 fn is_next_missed(worker: u64, place: u64, missed: &[Missed]) -> bool
@@ -57,7 +46,7 @@ fn next_line<'a>(
         let Some((job, behind)) = missed.split_first() else {
             unreachable!()
         };
-        return Ok((missed_line(job.2), receipts, behind));
+        return Ok((Line::Missed(job.2), receipts, behind));
     }
     let Some((receipt, behind)) = receipts.split_first() else {
         unreachable!()

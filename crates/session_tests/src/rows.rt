@@ -49,8 +49,8 @@ fn action_in(alloc: Global, line: &str) -> Result<Action, Refusal> {
     }
     let mut text = String::from_str(alloc, line)?;
     text.push('\n')?;
-    let (_, actions) = parse_sessions(alloc, text.as_bytes())?;
-    actions.into_vec().pop().ok_or(Refusal::NoSuch)
+    let (_, mut actions) = parse_sessions(alloc, text.as_bytes())?;
+    actions.pop().ok_or(Refusal::NoSuch)
 }
 
 /// The actions of the rows, in their order.

@@ -67,9 +67,7 @@ told [] [] (l ∷ ls) are lines = absurd lines
 told [] (r ∷ rs) ls are lines = absurd are
 told (d ∷ ds) [] ls are lines = absurd are
 told (d ∷ ds) (r ∷ rs) [] are lines = absurd lines
-told (d ∷ ds) (r ∷ rs) (line.Refused refusal ∷ ls) are lines = absurd lines.0
-told (d ∷ ds) (r ∷ rs) (line.GivenUp ∷ ls) are lines = absurd lines.0
-told (d ∷ ds) (r ∷ rs) (line.NotStarted ∷ ls) are lines = absurd lines.0
+told (d ∷ ds) (r ∷ rs) (line.Missed cause ∷ ls) are lines = absurd lines.0
 told (d ∷ ds) (r ∷ rs) (Done number reply ∷ ls) are lines =
     (one number reply r.number d.1 lines.0.0 (answered d r reply are.0.whole lines.0.1), told ds rs ls are.1 lines.1)
   where

@@ -18,6 +18,8 @@ use Rattle.vac_model.specs.declared.item.Kind.{Kind}
 use Rattle.vac_model.specs.declared.item.Kind.TheVariants.{Car, Flight, Room}
 use Rattle.vac_model.specs.declared.item.Wait.{Wait}
 use Rattle.vac_model.specs.Holdings.{Holdings, of_kind, queue}
+use Rattle.jobs.specs.declared.causes.LastAbort.{LastAbort}
+use Rattle.jobs.specs.declared.causes.LastAbort.TheVariants as last
 use Rattle.text_formats.specs.declared.session_print.Line.{Line}
 use Rattle.text_formats.specs.declared.session_print.Line.TheVariants as line
 use Rattle.text_formats.specs.SessionLines.{kind_token}
@@ -61,12 +63,16 @@ reply_text Absent = codes "absent"
 
 -- ---- sessions
 
+-- why a session has no receipt
+abbrev pub missed_text : LastAbort → List ℕ
+missed_text (last.Refused refusal) = codes "missed: " ++ refusal_text refusal
+missed_text last.GivenUp = codes "missed: given up"
+missed_text last.NotStarted = codes "missed: not started"
+
 -- the number of its commit and its reply, or why it has none
 abbrev pub outcome_text : Line → List ℕ
 outcome_text (line.Done number reply) = decimal number ++ (codes ": " ++ reply_text reply)
-outcome_text (line.Refused refusal) = codes "missed: " ++ refusal_text refusal
-outcome_text line.GivenUp = codes "missed: given up"
-outcome_text line.NotStarted = codes "missed: not started"
+outcome_text (line.Missed cause) = missed_text cause
 
 -- the line of the session with this number
 abbrev pub line_text : ℕ → Line → List ℕ

@@ -43,12 +43,12 @@ impl Options {
     }
 
     /// How many sessions a worker makes: the first workers make one more where they don't come out even.
-    pub(crate) fn count_of(&self, worker: u32) -> u32
+    pub(crate) fn count_of(&self, worker: u64) -> u32
         requires { AreWithin self.now }
         ensures { result ≡ count_of self.now worker }
     {
         let share = self.transactions / self.clients;
-        if worker <= self.transactions % self.clients {
+        if worker <= u64::from(self.transactions % self.clients) {
             share + 1
         } else {
             share

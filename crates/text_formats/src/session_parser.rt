@@ -24,13 +24,13 @@ pub struct Sessions {
 
 /// Reads a session file: the tables that it opens with, which are balanced, and the action of each session, which is within
 /// its limits. `BadText` names the first line outside the grammar, counted from 1.
-pub fn parse_sessions(alloc: Global, text: &[u8]) -> Result<(Tables, Items<Action>), Refusal>
-    ensures sessions { IfOk result (λ read. IsSessionText text.now read.0 read.1) }
+pub fn parse_sessions(alloc: Global, text: &[u8]) -> Result<(Tables, Vec<Action>), Refusal>
+    ensures sessions { IfOk result (λ read. IsSessionText text.now read.0 read.1.items) }
     ensures balanced { IfOk result (λ read. IsBalanced read.0) }
-    ensures allowed { IfOk result (λ read. All IsAllowed read.1) }
+    ensures allowed { IfOk result (λ read. All IsAllowed read.1.items) }
     ensures refused { IfErr result (IsUnreadable text.now) }
     ensures only { (tables : Holdings) (actions : List AnAction) → IsSessionText text.now tables actions
-        → MatchResult result (λ read. read ≡ (tables, actions)) (λ refusal. refusal ≡ OutOfMemory) }
+        → MatchResult result (λ read. (read.0 ≡ tables) × (read.1.items ≡ actions)) (λ refusal. refusal ≡ OutOfMemory) }
 {
     let mut sessions = Sessions::new(alloc);
     let mut rest = text;
@@ -46,7 +46,7 @@ pub fn parse_sessions(alloc: Global, text: &[u8]) -> Result<(Tables, Items<Actio
     if !rest.is_empty() {
         return Err(Refusal::BadText { line: number });
     }
-    Ok((opening(alloc, sessions.items), sessions.actions))
+    Ok((opening(alloc, sessions.items), sessions.actions.into_vec()))
 }
 
 // The line that these bytes are, where it may stand after what has been read.
@@ -79,7 +79,7 @@ fn opening(alloc: Global, items: Each<Entries<Item>>) -> Tables
         flight: Queue::new(alloc),
         room: Queue::new(alloc),
     };
-    Tables::of_parts(
+    Tables::of_maps(
         alloc,
         items,
         Entries::new(alloc),

@@ -4,10 +4,11 @@ ghost use Rattle.std.specs.FinMap as map;
 ghost use Rattle.std.specs.String.{string_bytes};
 ghost use Rattle.text_formats.specs.SessionLines.{kind_token};
 ghost use Rattle.text_formats.specs.SessionPrints.{line_text, lines_text, outcome_text, printed, booking_text, changed_text, changes_text};
-ghost use Rattle.text_formats.specs.SessionPrints.{customer_line, item_text, items_text, number_text, part_text, parts_text, queue_text};
+ghost use Rattle.text_formats.specs.SessionPrints.{customer_line, item_text, items_text, missed_text, number_text, part_text, parts_text, queue_text};
 ghost use Rattle.text_formats.specs.SessionPrints.{reply_text, tables_text, wait_text};
 
-use seq_model::{Memory, Refusal};
+use jobs::LastAbort;
+use seq_model::Memory;
 use std::alloc::Global;
 use std::fmt::Write;
 use vac_model::{ActionReply, Booking, Changed, Each, Item, Kind, Part, Tables, Wait};
@@ -17,12 +18,8 @@ use vac_model::{ActionReply, Booking, Changed, Each, Item, Kind, Part, Tables, W
 pub enum Line {
     /// The number of its commit, and its reply.
     Done(u64, ActionReply),
-    /// It has no receipt: its last attempt was refused so.
-    Refused(Refusal),
-    /// It has no receipt: it gave up.
-    GivenUp,
-    /// It has no receipt: its worker was not started.
-    NotStarted,
+    /// Why it has no receipt.
+    Missed(LastAbort),
 }
 
 /// The text of what came of sessions: a line for each, from 1, and then what the tables hold.
@@ -63,9 +60,18 @@ fn print_outcome(text: &mut String, line: &Line) -> Result<(), Memory>
             write!(text, "{number}: ")?;
             print_reply(text, reply)?;
         }
-        Line::Refused(refusal) => write!(text, "missed: {refusal}")?,
-        Line::GivenUp => text.push_str("missed: given up")?,
-        Line::NotStarted => text.push_str("missed: not started")?,
+        Line::Missed(cause) => print_missed(text, *cause)?,
+    }
+    Ok(())
+}
+
+fn print_missed(text: &mut String, cause: LastAbort) -> Result<(), Memory>
+    ensures { OnOk result (string_bytes text.new ≡ string_bytes text.old ++ missed_text cause) }
+{
+    match cause {
+        LastAbort::Refused(refusal) => write!(text, "missed: {refusal}")?,
+        LastAbort::GivenUp => text.push_str("missed: given up")?,
+        LastAbort::NotStarted => text.push_str("missed: not started")?,
     }
     Ok(())
 }

@@ -19,7 +19,7 @@ use vac_model::{Action, Ask, Change, Kind};
 pub fn generate(
     alloc: Global,
     seed: u64,
-    worker: u32,
+    worker: u64,
     options: &Options,
 ) -> Result<Vec<Action>, Memory>
     requires within { AreWithin options.now }
@@ -28,7 +28,7 @@ pub fn generate(
     ensures count { IfOk result (λ actions. length actions.items ≡ count_of options.now worker) }
     ensures allowed { IfOk result (λ actions. All IsAllowed actions.items) }
 {
-    let mut random = Pcg32::new(seed, u64::from(worker));
+    let mut random = Pcg32::new(seed, worker);
     let mut actions = Vec::new(alloc);
     for _ in 0..options.count_of(worker) {
         actions.push(session(alloc, &mut random, options)?)?;

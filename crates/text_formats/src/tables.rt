@@ -32,7 +32,7 @@ pub fn opening(alloc: Global, seed: u64, options: &Options) -> Result<Tables, Me
         room: Queue::new(alloc),
     };
     let (customers, tickets) = (Entries::new(alloc), Entries::new(alloc));
-    Ok(Tables::of_parts(alloc, items, customers, tickets, waiting, 0))
+    Ok(Tables::of_maps(alloc, items, customers, tickets, waiting, 0))
 }
 
 /// So many items of a kind, by id, from 1.

@@ -1,9 +1,10 @@
--- The calls that a job asks, each after the replies to those before it.
+-- The calls that a job asks, each after the replies to those before it. What it asks is handed on, for who writes a job and names this crate
+-- alone.
 use Rattle.std.specs.Prelude.{ℕ, ◌<◌, List, length, take, get_or}
 use Rattle.seq_model.specs.declared.call.Call.{Call}
 use Rattle.seq_model.specs.declared.call.Reply.{Reply}
-use Rattle.jobs.specs.declared.job.Ask.{Ask}
-use Rattle.jobs.specs.declared.job.Ask.TheVariants as ask
+pub use Rattle.jobs.specs.declared.job.Ask.{Ask}
+pub use Rattle.jobs.specs.declared.job.Ask.TheVariants as ask
 use Rattle.jobs.specs.Programs.{replies_of}
 
 module _ {V : Type 0} where

@@ -5,6 +5,7 @@ pub mod Borrowed
 pub mod Jobs
 pub mod Attempts
 pub mod Seats
+pub mod Holder
 pub mod Tries
 pub mod Refused
 pub mod Steps

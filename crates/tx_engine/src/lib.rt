@@ -15,6 +15,7 @@
 mod attempts;
 mod calls;
 mod commits;
+mod holder;
 pub mod laws;
 mod pause;
 mod reply_room;

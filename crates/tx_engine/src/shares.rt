@@ -17,7 +17,7 @@ use tx_table::{Closed, SHARES, Seat, TxTable};
 
 impl<V: Value> TxSeat<V> {
     /// A table that opens with these words and collections, and with this clock, and its first seat, which has all 64 shares. It is refused
-    /// as `TxTable::open` is.
+    /// as `TxTable::open_bare` is.
     pub fn open(
         alloc: Global,
         shape: &Shape,
@@ -35,7 +35,7 @@ impl<V: Value> TxSeat<V> {
     {
         // Called for its contract alone: the collections are within the limits of a state.
         let _ = state.held();
-        let (table, seat) = TxTable::open(alloc, shape, state)?;
+        let (table, seat) = TxTable::open_bare(alloc, shape, state)?;
         let seat = TxSeat::new(alloc, &table, seat);
         Ok((table, seat))
     }
@@ -60,7 +60,7 @@ impl<V: Value> TxSeat<V> {
         ensures left { (view self.new.seat ≡ left_of shares (view self.old.seat)) × (self.new.seat.last ≡ self.old.seat.last) }
         ensures right { (view result.seat ≡ right_of shares (view self.old.seat)) × (result.seat.last ≡ 0) }
     {
-        let seat = table.split(&mut self.seat, shares);
+        let seat = table.split_bare(&mut self.seat, shares);
         TxSeat::new(self.alloc, table, seat)
     }
 
@@ -76,7 +76,7 @@ impl<V: Value> TxSeat<V> {
         ensures both { view self.new.seat ≡ both_of (view self.old.seat) (actor other.seat) (view other.seat) }
         ensures last { self.new.seat.last ≡ max self.old.seat.last other.seat.last }
     {
-        table.join(&mut self.seat, other.into_seat());
+        table.join_bare(&mut self.seat, other.into_seat());
     }
 
     /// What the table holds, once every seat was joined into this one: it is what the receipts leave, one transaction after another. It

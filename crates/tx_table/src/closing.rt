@@ -1,5 +1,5 @@
 //! A table that no thread shares any more.
-ghost use Rattle.std.specs.Prelude.{◌≡◌, ◌+◌, ◌<◌, All, IfOk, IsOk, Some, drop, get_or, length, map, take};
+ghost use Rattle.std.specs.Prelude.{◌≡◌, ◌+◌, ◌<◌, All, IfOk, Some, drop, get_or, length, map, take};
 ghost use Rattle.seq_model.specs.Calls.{IsWithinLimits};
 ghost use mathlib.Core.Option.{some};
 ghost use lib.ListN.{get_elem?};
@@ -17,24 +17,7 @@ use seq_model::{Held, Memory, State, Value};
 
 impl<V: Value> TxTable<V> {
     /// What the table holds, once every seat was joined into this one. No commit of it is half done, and it holds no gate. It takes no
-    /// memory, so it is never refused.
-    pub fn close(self, seat: Seat<V>) -> Result<Closed<V>, Memory>
-        requires own { Owns self seat }
-        requires all { (view seat).shares ≡ SHARES }
-        requires rests { Rests (actor seat) (kept (opening_of self) seat) }
-        ensures served { IsOk result }
-        ensures words { IfOk result (λ closed. closed.words ≡ words_in self) }
-        ensures locations { IfOk result (λ closed. closed.locations ≡ locations_in self) }
-        ensures collections { IfOk result (λ closed. length (homes_of closed) ≡ length (blocks_in self)) }
-        ensures closes { IfOk result (λ closed.
-            Closes (words_in self) (blocks_in self) (contents_in self) (view seat) (row_of closed) (map some (homes_of closed))) }
-        ensures shows { IfOk result (λ closed.
-            ShowsWorld (opening_of self) (actor seat) (view seat) (row_of closed) (map some (homes_of closed))) }
-    {
-        Ok(self.into_closed(seat))
-    }
-
-    /// Like `close`, without the `Result`.
+    /// memory.
     pub fn into_closed(self, seat: Seat<V>) -> Closed<V>
         requires own { Owns self seat }
         requires all { (view seat).shares ≡ SHARES }

@@ -68,13 +68,13 @@ fn blocks_for<V: Value>(alloc: Global, shape: &Shape, state: &State<V>) -> Optio
 }
 
 impl<V: Value> TxTable<V> {
-    /// A table that opens with these words and collections, and with this clock, and its first seat, which has all shares. Each collection
-    /// is in as many stripes as the shape says.
+    /// A table that opens with these words and collections, and with this clock, and its first seat alone, which has all shares. Each
+    /// collection is in as many stripes as the shape says.
     ///
     /// `NoSuch` where the shape has not as many numbers of stripes as there are collections. `TooLong` where the clock is above its limit,
     /// there are more than 256 collections or more than 1,048,576 locations, or a collection can't have so many stripes. What was moved in
     /// is dropped. `Memory`, where an allocation fails, only where nothing of these is so.
-    pub fn open(
+    pub fn open_bare(
         alloc: Global,
         shape: &Shape,
         state: State<V>,

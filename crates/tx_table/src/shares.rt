@@ -60,7 +60,7 @@ fn merge<V: Value>(board: &Board<V>, seat: &mut Seat<V>, other: Seat<V>)
 
 impl<V: Value> TxTable<V> {
     /// A new seat, which gets so many of this one's shares. It has no receipts, and its last number is 0.
-    pub fn split(&self, seat: &mut Seat<V>, shares: u64) -> Seat<V>
+    pub fn split_bare(&self, seat: &mut Seat<V>, shares: u64) -> Seat<V>
         requires own { Owns self.now seat.old }
         requires some { 1 ≤ shares }
         requires fewer { shares < (view seat.old).shares }
@@ -76,7 +76,7 @@ impl<V: Value> TxTable<V> {
 
     /// The other seat's shares and receipts become this one's, and the greater last number. No commit of the other is half done, and it
     /// holds no gate; what it asked since its last step is not asked.
-    pub fn join(&self, seat: &mut Seat<V>, other: Seat<V>)
+    pub fn join_bare(&self, seat: &mut Seat<V>, other: Seat<V>)
         requires own { (Owns self.now seat.old) × (Owns self.now other) }
         requires live { (0 < (view seat.old).shares) × (0 < (view other).shares) }
         requires rests { Rests (actor other) (kept (opening_of self.now) other) }

@@ -28,7 +28,7 @@ use Rattle.tx_table.specs.Shown.{ShowsWorld, first}
 use Rattle.tx_engine.specs.Closing.{IsLeftBy, state_of as held_by}
 use Rattle.tx_engine.specs.declared.seats.TxSeat.{TxSeat}
 use Rattle.tx_engine.specs.Ready.{IsReady}
-use Rattle.job_workers.specs.declared.causes.LastAbort.{LastAbort}
+use Rattle.jobs.specs.declared.causes.LastAbort.{LastAbort}
 use Rattle.job_workers.specs.declared.report.Report.{Report}
 use Rattle.job_workers.specs.Reports.{HasRun, IsReportOf}
 use Rattle.job_workers.specs.Tasks.{Outcome, missed_in, receipts_in}

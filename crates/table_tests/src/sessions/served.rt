@@ -5,7 +5,7 @@ ghost use Rattle.vac_model.specs.Balanced.{IsBalanced};
 use super::printed::{is_refused, print_served};
 use crate::shared::{Meeting, Order, audit_receipts};
 use client_sessions::{Entry, state_of};
-use seq_model::{Items, Record, Refusal, State};
+use seq_model::{Record, Refusal, State};
 use std::alloc::Global;
 use std::sync::Wait;
 use std::thread::Threads;
@@ -43,7 +43,7 @@ fn serve_tables<R: Threads + Wait + Sync>(
     text: &mut String,
     options: Options,
     tables: Tables,
-    actions: Items<Action>,
+    actions: Vec<Action>,
 ) -> Result<(), Refusal>
     requires workers { 1 ≤ options.workers }
     requires balanced { IsBalanced tables }
@@ -68,7 +68,7 @@ fn serve_opening<R: Threads + Wait + Sync>(
     options: Options,
     opening: &State<Entry>,
     tables: Tables,
-    actions: Items<Action>,
+    actions: Vec<Action>,
 ) -> Result<(), Refusal>
     requires workers { 1 ≤ options.workers }
     requires balanced { IsBalanced tables }
@@ -89,13 +89,13 @@ fn serve_actions<R: Threads + Wait + Sync>(
     alloc: Global,
     tables: Tables,
     options: Options,
-    actions: Items<Action>,
+    actions: Vec<Action>,
     meeting: &Meeting,
 ) -> Result<Served, Refusal>
     requires workers { 1 ≤ options.workers }
     requires balanced { IsBalanced tables }
 {
-    match deal(alloc, actions.into_vec(), options.workers) {
+    match deal(alloc, actions, options.workers) {
         Ok(lists) => serve_lists(rt, alloc, tables, options, lists, meeting),
         Err(_) => {
             drop(tables);

@@ -51,4 +51,4 @@ returns-clause-ok c =
       tickets = sym c.in_ok-tickets.ensures i;
       waiting = sym c.in_ok-waiting.ensures i;
       next = get_or c.args.words.now 0 0;
-    })) ∙ ap Some (sym c.of_parts.ensures)
+    })) ∙ ap Some (sym c.of_maps.ensures)

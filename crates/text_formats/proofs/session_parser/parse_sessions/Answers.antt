@@ -77,4 +77,4 @@ returns-clause-sessions c =
     let read = c.loop-line.sessions in
     let whole = read_whole c.loop-line.rest.now read c.in_default.ensures.none
     (search (rules, arith, c.is_empty.ensures, c.if-not-is_empty.false)) in
-    (read, c.loop-line.invariant.front read whole, c.opening.ensures, refl)
+    (read, c.loop-line.invariant.front read whole, c.opening.ensures, c.into_vec.ensures)

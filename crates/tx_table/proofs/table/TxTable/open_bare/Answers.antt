@@ -5,7 +5,7 @@ use Rattle.seq_model.specs.Contents.{Contents}
 use Rattle.tx_table.specs.Layout.{width}
 use Rattle.tx_table.specs.Opening.{blocks_at}
 use Rattle.tx_table.proofs.LaidOut.{few, few_words, locations_are, meets, row_for, slots_are, wide_as, words_are}
-use Rattle.tx_table.proofs.table.TxTable.open.Goals as goal
+use Rattle.tx_table.proofs.table.TxTable.open_bare.Goals as goal
 
 pub new-requires : goal.new-requires
 new-requires g c =

@@ -1,8 +1,8 @@
 -- The sentences that say why a job has no receipt.
 use Rattle.std.specs.Prelude.{ℕ, List, ◌++◌, codes}
 use Rattle.seq_model.specs.Texts.{refusal_text}
-use Rattle.job_workers.specs.declared.causes.LastAbort.{LastAbort}
-use Rattle.job_workers.specs.declared.causes.LastAbort.TheVariants.{Refused, GivenUp, NotStarted}
+use Rattle.jobs.specs.declared.causes.LastAbort.{LastAbort}
+use Rattle.jobs.specs.declared.causes.LastAbort.TheVariants.{Refused, GivenUp, NotStarted}
 
 abbrev pub last_abort_text : LastAbort → List ℕ
 last_abort_text (Refused refusal) = codes "the last attempt was refused: " ++ refusal_text refusal

@@ -1,6 +1,6 @@
 //! Why a job has no receipt.
 ghost use Rattle.std.specs.Prelude.{Some};
-ghost use Rattle.job_workers.specs.Texts.{last_abort_text};
+ghost use Rattle.jobs.specs.Texts.{last_abort_text};
 
 use seq_model::Refusal;
 use std::error::Error;

@@ -1,0 +1,113 @@
+//! Jobs at one seat, and workers that run lists of jobs.
+ghost use Rattle.std.specs.Prelude.{◌≡◌, IfOk, length};
+ghost use Rattle.tx_table.specs.Seated.{view};
+ghost use Rattle.tx_engine.specs.Ready.{IsReady};
+
+use crate::rows::ensure;
+use crate::seats::open;
+use seq_model::{Call, Memory, Op, Refusal, Reply, Value};
+use std::alloc::Global;
+use std::sync::Wait;
+use std::thread::Threads;
+use tx_engine::{Ask, Job, TxSeat, attempt};
+use tx_table::TxTable;
+use workers::{Pause, Report, retry, run_workers};
+
+/// How often a job is attempted at most.
+const TRIES: u64 = 1_000;
+
+/// Writes this number to word 0.
+#[derive(Drop)]
+struct Write0 {
+    number: u64,
+}
+
+impl<V: Value> Job<V> for Write0 {
+    ghost use Rattle.std.specs.Prelude.{⊤};
+
+    ghost asks = { λ _ _ _. ⊤ };
+
+    fn ask(&self, replies: &[Reply<V>]) -> Result<Ask<V>, Memory> {
+        if replies.is_empty() {
+            let op = Op::Write(self.number);
+            return Ok(Ask::Call(Call { target: 0, op }));
+        }
+        Ok(Ask::Done)
+    }
+}
+
+/// Gives up at once.
+struct GivesUp;
+
+impl<V: Value> Job<V> for GivesUp {
+    ghost use Rattle.std.specs.Prelude.{⊤};
+
+    ghost asks = { λ _ _ _. ⊤ };
+
+    fn ask(&self, _replies: &[Reply<V>]) -> Result<Ask<V>, Memory> {
+        Ok(Ask::GiveUp)
+    }
+}
+
+/// Holds no worker.
+pub struct Unheld;
+
+impl Pause for Unheld {
+    fn before_commit(&self, _worker: u64) {}
+
+    fn after_receipt(&self, _worker: u64, _number: u64) {}
+}
+
+pub fn call<R: Threads + Wait + Sync>(rt: &R, alloc: Global) -> Result<(), Refusal> {
+    let (table, mut seat) = open(alloc)?;
+    let called = call_at(rt, alloc, &table, &mut seat);
+    drop(seat);
+    drop(table);
+    called
+}
+
+fn call_at<R: Threads + Wait + Sync, V: Value + Send + Sync>(
+    rt: &R,
+    alloc: Global,
+    table: &TxTable<V>,
+    seat: &mut TxSeat<V>,
+) -> Result<(), Refusal>
+    requires ready { IsReady table.now seat.old }
+    requires shares { (view seat.old.seat).shares ≡ 64 }
+{
+    let report = run(rt, table, seat, lists(alloc)?);
+    let attempted = attempt(table, seat, &GivesUp).is_ok();
+    let retried = retry(table, seat, &GivesUp, TRIES, 1, &Unheld).is_err();
+    let report = report?;
+    let is = is_whole(&report);
+    drop(report);
+    ensure(is && attempted && retried)
+}
+
+fn is_whole<V>(report: &Report<V>) -> bool {
+    report.receipts.len() == 2 && report.missed.len() == 0
+}
+
+fn lists(alloc: Global) -> Result<Vec<Vec<Write0>>, Memory>
+    ensures { IfOk result (λ lists. length lists.items ≡ 2) }
+{
+    Ok(vec![in alloc; list(alloc, 2)?, list(alloc, 3)?]?)
+}
+
+fn list(alloc: Global, number: u64) -> Result<Vec<Write0>, Memory> {
+    Ok(vec![in alloc; Write0 { number }]?)
+}
+
+fn run<R: Threads + Wait + Sync, V: Value + Send + Sync, J: Job<V> + Drop + Send + Sync>(
+    rt: &R,
+    table: &TxTable<V>,
+    seat: &mut TxSeat<V>,
+    lists: Vec<Vec<J>>,
+) -> Result<Report<V>, Memory>
+    requires ready { IsReady table.now seat.old }
+    requires shares { (view seat.old.seat).shares ≡ 64 }
+    requires lists { length lists.items ≡ 2 }
+    ensures ready { IsReady table.now seat.new }
+{
+    run_workers(rt, *lists.allocator(), table, seat, lists, TRIES, &Unheld)
+}

@@ -1,0 +1,122 @@
+//! The shared table, its seats, and transactions that borrow one.
+ghost use Rattle.std.specs.Prelude.{◌≡◌, ◌<◌, IfOk};
+ghost use Rattle.tx_table.specs.Seated.{view};
+ghost use Rattle.tx_engine.specs.Ready.{IsReady};
+
+use crate::rows::{ensure, shape, state};
+use crate::typed::{call_bag, call_map, call_pq, call_queue, call_word};
+use seq_model::{Refusal, Value};
+use std::alloc::Global;
+use tx_engine::{Receipt, TxSeat, begin, begin_read, learn};
+use tx_table::{Block, Closed, TxTable};
+
+/// A half of the shares of a table.
+const HALF: u64 = 32;
+
+/// The shares of a table.
+const ALL: u64 = 64;
+
+/// The table with the word 7 and a collection of each kind, and its first seat, which has all shares.
+pub fn open(alloc: Global) -> Result<(TxTable<u64>, TxSeat<u64>), Refusal>
+    ensures ready { IfOk result (λ opened. IsReady opened.0 opened.1) }
+    ensures shares { IfOk result (λ opened. (view opened.1.seat).shares ≡ 64) }
+{
+    let shape = shape(alloc)?;
+    TxTable::open(alloc, &shape, state(alloc)?)
+}
+
+pub fn call(alloc: Global) -> Result<(), Refusal> {
+    let (table, mut seat) = open(alloc)?;
+    let called = call_table(&table, &mut seat, 21);
+    let ended = call_end(table, seat);
+    called.and(ended)
+}
+
+fn call_table<V: Value>(table: &TxTable<V>, seat: &mut TxSeat<V>, value: V) -> Result<(), Refusal>
+    requires ready { IsReady table.now seat.old }
+    requires shares { (view seat.old.seat).shares ≡ 64 }
+    ensures ready { IsReady table.now seat.new }
+{
+    let mut other = table.split(seat, HALF);
+    let written = write_at(table, &mut other, value);
+    let read = read_at(table, seat);
+    let learnt = learn(table, seat, 1);
+    let is = other.shares() == HALF && other.last_number() == 1;
+    table.join(seat, other);
+    drop(written?);
+    drop(read?);
+    learnt?;
+    ensure(is && is_block(table.block(0)))
+}
+
+fn is_block(block: Option<Block>) -> bool {
+    match block {
+        Some(block) => {
+            let Block {
+                kind: _,
+                stripes,
+                first,
+            } = block;
+            stripes == 2 && first == 1
+        }
+        None => false,
+    }
+}
+
+fn write_at<V: Value>(
+    table: &TxTable<V>,
+    seat: &mut TxSeat<V>,
+    value: V,
+) -> Result<Receipt<V>, Refusal>
+    requires ready { IsReady table.now seat.old }
+    ensures ready { IsReady table.now seat.new }
+{
+    match begin(seat, table) {
+        Ok(mut tx) => {
+            call_word(&mut tx);
+            call_map(&mut tx, value);
+            call_bag(&mut tx);
+            call_pq(&mut tx);
+            call_queue(&mut tx);
+            tx.commit()
+        }
+        Err(refusal) => Err(refusal),
+    }
+}
+
+fn read_at<V: Value>(table: &TxTable<V>, seat: &mut TxSeat<V>) -> Result<(), Refusal>
+    requires ready { IsReady table.now seat.old }
+    ensures ready { IsReady table.now seat.new }
+{
+    match begin_read(seat, table) {
+        Ok(tx) => {
+            tx.abort();
+            Ok(())
+        }
+        Err(refusal) => Err(refusal),
+    }
+}
+
+fn call_end<V: Value>(table: TxTable<V>, seat: TxSeat<V>) -> Result<(), Refusal>
+    requires ready { IsReady table seat }
+{
+    if seat.shares() != ALL || table.words() == 0 {
+        drop(seat);
+        drop(table);
+        return Err(Refusal::NoSuch);
+    }
+    let closed = table.close(seat)?;
+    call_closed(&closed);
+    drop(closed.state()?);
+    Ok(())
+}
+
+fn call_closed<V: Value>(closed: &Closed<V>)
+    requires { 0 < closed.now.words }
+{
+    let _ = closed.word(0);
+    let _ = closed.clock();
+    if closed.collections() > 0 {
+        let _ = closed.collection(0);
+    }
+}
