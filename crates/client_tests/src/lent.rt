@@ -9,6 +9,9 @@ use wolimevar::{
     Body, Failure, Layout, Lender, LentClient, Refusal, Scope, StillLent, Store, Transaction, Word,
 };
 
+/// One more than the clients that may be lent at once.
+const ONE_TOO_MANY: u64 = 64;
+
 /// What transactions that count a word came to: how many read the number before their own, and the sum of their numbers.
 #[derive(Clone, Copy)]
 struct Made {
@@ -139,9 +142,10 @@ fn drop_after_abort(
 }
 
 fn lend_all(lender: &mut Lender<u64>, clients: &mut Vec<LentClient<u64>>) -> Result<(), Refusal> {
-    loop {
+    for _ in 0..ONE_TOO_MANY {
         clients.push(lender.client()?)?;
     }
+    Ok(())
 }
 
 /// Clients are lent up to a refusal, and then all are dropped.
