@@ -7,6 +7,7 @@
 mod contents;
 mod handles;
 mod layouts;
+mod lent;
 mod numbers;
 mod refusals;
 mod rows;

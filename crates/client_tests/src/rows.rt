@@ -2,6 +2,7 @@
 use crate::contents::print_closed;
 use crate::handles::{All, all_of, open};
 use crate::layouts::opens;
+use crate::lent;
 use crate::numbers::{Brittle, Number};
 use crate::refusals::{print_explained, print_failures};
 use crate::scripts::{Script, print_ran, run_at_store};
@@ -26,7 +27,8 @@ use wolimevar::{Refusal, Store, Tally};
 /// - `clients N PART / PART` has so many sessions do these parts, see [`crate::sessions`].
 /// - `learn N` learns a number, and `tally` counts how the store's attempts ended.
 ///
-/// Elsewhere stand `layout KIND N`, `value TYPE`, `tally` of no attempts, `failures`, and `explain`.
+/// The part `lent` is one test, see [`crate::lent`]. Elsewhere stand `layout KIND N`, `value TYPE`, `tally` of no attempts, `failures`, and
+/// `explain`.
 pub fn answer_all<R: Threads + Sync>(
     rt: &R,
     alloc: Global,
@@ -65,6 +67,7 @@ fn answer_part<R: Threads + Sync>(
     match first.split_once(' ') {
         Some(("store", number)) => answer_at::<R, u64>(rt, alloc, text, number, rows),
         Some(("brittle", number)) => answer_at::<R, Brittle>(rt, alloc, text, number, rows),
+        None if first == "lent" => lent::test(rt, alloc, text),
         _ => answer_rows_alone(alloc, text, rows),
     }
 }

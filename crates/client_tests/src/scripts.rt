@@ -7,7 +7,7 @@ use std::fmt::Write;
 use wolimevar::{Body, Client, Failure, Receipt, Scope, Store, Transaction};
 
 /// How often a transaction is attempted at most.
-const TRIES: u64 = 1_000_000;
+pub const TRIES: u64 = 1_000_000;
 
 /// The steps of a transaction, and what they are taken by.
 #[derive(Drop)]

@@ -7,3 +7,4 @@ pub mod ClientLemmas
 pub mod StoreLemmas
 pub mod SessionLemmas
 pub mod LenderLemmas
+pub mod SentLemmas

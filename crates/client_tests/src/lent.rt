@@ -1,0 +1,200 @@
+//! Clients that are lent to two threads of one's own: one is dropped in its thread, the other one comes back. Then one is dropped after a
+//! body that has aborted, and as many are lent as there can be.
+use crate::scripts::TRIES;
+use std::alloc::Global;
+use std::fmt::Write;
+use std::thread;
+use std::thread::Threads;
+use wolimevar::{
+    Body, Failure, Layout, Lender, LentClient, Refusal, Scope, StillLent, Store, Transaction, Word,
+};
+
+/// One more than the clients that may be lent at once.
+const ONE_TOO_MANY: u64 = 64;
+
+/// What transactions that count a word came to: how many read the number before their own, and the sum of their numbers.
+#[derive(Clone, Copy)]
+struct Made {
+    in_order: u64,
+    sum: u64,
+}
+
+impl Made {
+    fn and(self, other: Made) -> Made {
+        Made {
+            in_order: self.in_order.saturating_add(other.in_order),
+            sum: self.sum.saturating_add(other.sum),
+        }
+    }
+}
+
+/// A word holds one more. It gives what the word held.
+#[derive(Drop)]
+struct Count(Word);
+
+impl Body<u64> for Count {
+    type Out = u64;
+
+    type Error = Refusal;
+
+    fn run<S: Scope<u64>>(&self, tx: &mut Transaction<'_, u64, S>) -> Result<u64, Refusal> {
+        let number = self.0.read(tx)?;
+        self.0.write(tx, number.saturating_add(1))?;
+        Ok(number)
+    }
+}
+
+/// Why a body undoes what it has done.
+#[derive(Drop)]
+enum Undone {
+    Wanted,
+    Refused(Refusal),
+}
+
+impl From<Refusal> for Undone {
+    fn from(refusal: Refusal) -> Undone {
+        Undone::Refused(refusal)
+    }
+}
+
+/// A word is written, and then the body aborts.
+#[derive(Drop)]
+struct Undo(Word);
+
+impl Body<u64> for Undo {
+    type Out = ();
+
+    type Error = Undone;
+
+    fn run<S: Scope<u64>>(&self, tx: &mut Transaction<'_, u64, S>) -> Result<(), Undone> {
+        self.0.write(tx, 99)?;
+        Err(Undone::Wanted)
+    }
+}
+
+fn work(client: &mut LentClient<u64>, word: Word) -> Made {
+    let mut made = Made {
+        in_order: 0,
+        sum: 0,
+    };
+    for _ in 0..10u64 {
+        if let Ok((read, receipt)) = client.atomically(TRIES, &Count(word)) {
+            let number = receipt.number;
+            made = made.and(Made {
+                in_order: u64::from(number == read.saturating_add(1)),
+                sum: number,
+            });
+        }
+    }
+    made
+}
+
+/// What two threads made, and the lender, which was asked to end meanwhile.
+fn run_both<R: Threads>(
+    rt: &R,
+    text: &mut String,
+    mut lender: Lender<u64>,
+    word: Word,
+) -> Result<(Made, Lender<u64>), Refusal> {
+    let mut first = lender.client()?;
+    let mut second = lender.client()?;
+    let Ok(one) = thread::spawn(rt, move || work(&mut first, word)) else {
+        return Err(Refusal::Memory);
+    };
+    let other = thread::spawn(rt, move || {
+        let made = work(&mut second, word);
+        (made, second)
+    });
+    let asked = lender.end();
+    let made = one.join(rt);
+    let Ok(other) = other else {
+        return Err(Refusal::Memory);
+    };
+    let (others, second) = other.join(rt);
+    let Err(StillLent { mut lender, .. }) = asked else {
+        return Err(Refusal::NotIdle);
+    };
+    let out = lender.take_back();
+    writeln!(text, "two lent clients = no end, then {out} out")?;
+    drop(second);
+    Ok((made.and(others), lender))
+}
+
+/// A client whose body aborts is dropped.
+fn drop_after_abort(
+    text: &mut String,
+    lender: &mut Lender<u64>,
+    word: Word,
+) -> Result<(), Refusal> {
+    let mut client = lender.client()?;
+    let undone = client.atomically(9, &Undo(word));
+    let aborted = matches!(undone, Err(Failure::Aborted(Undone::Wanted)));
+    let tally = client.tally();
+    drop(undone);
+    drop(client);
+    let out = lender.take_back();
+    writeln!(
+        text,
+        "a lent client aborts = {aborted}, {} aborted, then {out} out",
+        tally.aborted
+    )?;
+    Ok(())
+}
+
+fn lend_all(lender: &mut Lender<u64>, clients: &mut Vec<LentClient<u64>>) -> Result<(), Refusal> {
+    for _ in 0..ONE_TOO_MANY {
+        clients.push(lender.client()?)?;
+    }
+    Ok(())
+}
+
+/// Clients are lent up to a refusal, and then all are dropped.
+fn lend_too_many(
+    alloc: Global,
+    text: &mut String,
+    lender: &mut Lender<u64>,
+) -> Result<(), Refusal> {
+    let mut clients = Vec::new(alloc);
+    let refused = lend_all(lender, &mut clients);
+    let (count, out) = (clients.len(), lender.take_back());
+    drop(clients);
+    let then = lender.take_back();
+    if let Err(refusal) = refused {
+        writeln!(
+            text,
+            "{count} clients = {refusal}, {out} out, then {then} out"
+        )?;
+    }
+    Ok(())
+}
+
+fn open(alloc: Global) -> Result<(Store<u64>, Word), Refusal> {
+    let mut layout = Layout::new(alloc);
+    let word = layout.word(0)?;
+    let store = layout.open()?;
+    Ok((store, word))
+}
+
+pub fn test<R: Threads>(rt: &R, alloc: Global, text: &mut String) -> Result<(), Refusal> {
+    let (store, word) = open(alloc)?;
+    let Ok(lender) = store.lend() else {
+        return Err(Refusal::Memory);
+    };
+    let (made, mut lender) = run_both(rt, text, lender, word)?;
+    drop_after_abort(text, &mut lender, word)?;
+    lend_too_many(alloc, text, &mut lender)?;
+    let Ok(mut store) = lender.end() else {
+        return Err(Refusal::NotIdle);
+    };
+    let (number, _) = store.atomically(TRIES, &Count(word))?;
+    let last = store.last_number();
+    let contents = store.close()?;
+    let left = contents.word(word);
+    drop(contents);
+    let Made { in_order, sum } = made;
+    writeln!(
+        text,
+        "all lent clients = {in_order} in order, sum {sum}, word {number}, last number {last}, left {left:?}"
+    )?;
+    Ok(())
+}
