@@ -25,7 +25,7 @@ sections_of() {
         echo "memory refused: a starved commit leaves its number unused"
         ;;
     # VacWorld::run, run_in_order: two clients that interleave, and sessions one after another.
-    session_tests)
+    reservation_tests)
         echo "two clients book two cars: in one stripe"
         echo "two clients book the last unit: the other one first"
         echo "one after another: a wait is served"
@@ -50,7 +50,7 @@ places_of() {
     done
 }
 
-crates="base_tests script_tests session_tests table_tests"
+crates="base_tests script_tests reservation_tests table_tests"
 for crate in $crates; do
     # The words are told apart by their spaces.
     # shellcheck disable=SC2046

@@ -20,18 +20,18 @@ use Rattle.replay_log.specs.Worlds.{World, Seat, Stage, After, Idle, Beginning, 
 use Rattle.replay_log.specs.Worlds.{Reading}
 use Rattle.replay_log.specs.Worlds.{Trying, Copying, Loading, Gating, Ready, Storing, Homing, Returning, happens, may_ask, step_at}
 use Rattle.replay_log.proofs.ContentLemmas.{positive_at}
-use Rattle.atomic_steps.specs.Bases.{IsBaseOf, ShowsBase}
-use Rattle.actor_words.specs.Blocks.{BlocksView, IsLaid}
-use Rattle.actor_words.specs.Dispatch.{IsDue, is_loading, next_of}
-use Rattle.actor_words.specs.Requests.{HasNoReads}
-use Rattle.actor_words.specs.declared.next.Next.TheVariants as next
-use Rattle.actor_copies.specs.declared.copies.Copied.{Copied}
-use Rattle.actor_copies.specs.declared.copies.Found.{Found}
-use Rattle.actor_copies.specs.Copied.{CopiesFor, CopiesGoOn, CopiesReached, IsCopyFor, IsReadOf, IsTaken}
-use Rattle.actor_copies.specs.Copies.{IsFound, holds_of}
-use Rattle.actor_copies.specs.Kept.{copy_of}
-use Rattle.actor_copies.specs.Owns.{IsOwn}
-use Rattle.actor_copies.specs.Sizes.{SizesAs, SizesCopies}
+use Rattle.actor_laws.specs.Bases.{IsBaseOf, ShowsBase}
+use Rattle.actor_parts.specs.Blocks.{BlocksView, IsLaid}
+use Rattle.actor_parts.specs.Dispatch.{IsDue, is_loading, next_of}
+use Rattle.actor_parts.specs.Requests.{HasNoReads}
+use Rattle.actor_parts.specs.declared.next.Next.TheVariants as next
+use Rattle.actor_parts.specs.declared.copies.Copied.{Copied}
+use Rattle.actor_parts.specs.declared.copies.Found.{Found}
+use Rattle.actor_parts.specs.Copied.{CopiesFor, CopiesGoOn, CopiesReached, IsCopyFor, IsReadOf, IsTaken}
+use Rattle.actor_parts.specs.Copies.{IsFound, holds_of}
+use Rattle.actor_parts.specs.Kept.{copy_of}
+use Rattle.actor_parts.specs.Owns.{IsOwn}
+use Rattle.actor_parts.specs.Sizes.{SizesAs, SizesCopies}
 use Rattle.tx_actor.specs.Copying.{CanCopy, CanCopyAt, HasTaken, HasTakenAt, MayCopy, StepsOnAt}
 use Rattle.tx_actor.specs.Dispatch.{HasRoom}
 use Rattle.tx_actor.specs.Having.{HasCopies, HasCopiesAt, OwnsAll}

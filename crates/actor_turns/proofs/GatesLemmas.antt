@@ -24,8 +24,8 @@ use Rattle.replay_log.specs.Worlds.{is_leaving}
 use Rattle.replay_log.specs.Worlds.{happens, judges, loads, moves, no_one, outcome_at, recorded, seated, sized_by, starve_at, step_at}
 use Rattle.replay_log.specs.Worlds.{call_of, reply_of, takes_gates, with_call, with_editions, with_piece, word_notice}
 use Rattle.replay_log.proofs.SeatLemmas.{gates_of}
-use Rattle.actor_words.specs.Dispatch.{AreSteps, after_home, after_put, after_try, after_word, is_loading, next_of}
-use Rattle.actor_words.specs.declared.next.Next.TheVariants as next
+use Rattle.actor_parts.specs.Dispatch.{AreSteps, after_home, after_put, after_try, after_word, is_loading, next_of}
+use Rattle.actor_parts.specs.declared.next.Next.TheVariants as next
 use Rattle.tx_actor.specs.Loads.{after_load}
 use Rattle.tx_actor.specs.Seated.{SeatsActors}
 use Rattle.tx_actor.specs.Running.{Runs, is_recorded, seat_of, stage_in, stage_of}
@@ -36,7 +36,7 @@ use Rattle.actor_turns.proofs.CopyLemmas.{copy_is}
 use Rattle.actor_turns.proofs.LoadLemmas.{load_is}
 use Rattle.actor_turns.proofs.StepLemmas.{first_is}
 use Rattle.word_machine.specs.Cells.{Cell}
-use Rattle.atomic_steps.specs.Spots.{Gate, spot_of}
+use Rattle.actor_laws.specs.Spots.{Gate, spot_of}
 
 -- a location of the words is no gate
 pub no_word : (c : Option Cell) (k : ℕ) → spot_of c ≡ Gate k → ⊥

@@ -25,24 +25,24 @@ use Rattle.replay_log.specs.Worlds.{World, Seat, Stage, After, Homing, Idle, Beg
 use Rattle.replay_log.specs.Worlds.{Leaving, Reading, Trying, Copying, Loading, Gating, Ready, Storing, Returning, acted, happens, opened}
 use Rattle.replay_log.specs.Worlds.{run, step_at}
 use Rattle.replay_log.proofs.ContentLemmas.{positive_at}
-use Rattle.atomic_steps.specs.Bases.{IsBaseOf, ShowsBase, log_changes, log_locations}
-use Rattle.atomic_steps.specs.Gates.{GoesHome}
-use Rattle.atomic_steps.proofs.Others.{others}
+use Rattle.actor_laws.specs.Bases.{IsBaseOf, ShowsBase, log_changes, log_locations}
+use Rattle.actor_laws.specs.Gates.{GoesHome}
+use Rattle.actor_laws.proofs.Others.{others}
 use Rattle.tx_actor.specs.Asks.{Stands}
-use Rattle.actor_words.specs.Dispatch.{AreSteps, IsDue, MayGoOn, after_home, is_loading, next_of}
+use Rattle.actor_parts.specs.Dispatch.{AreSteps, IsDue, MayGoOn, after_home, is_loading, next_of}
 use Rattle.tx_actor.specs.Dispatch.{IsGoneHome}
-use Rattle.actor_words.specs.Guarded.{committed_at}
-use Rattle.actor_copies.specs.Keeps.{IsOwnCopy}
-use Rattle.actor_copies.specs.Logs.{changes_had, locations_had}
-use Rattle.actor_copies.specs.Copies.{changes_in, locations_in}
-use Rattle.actor_copies.specs.Owns.{IsOwn}
+use Rattle.actor_parts.specs.Guarded.{committed_at}
+use Rattle.actor_parts.specs.Keeps.{IsOwnCopy}
+use Rattle.actor_parts.specs.Logs.{changes_had, locations_had}
+use Rattle.actor_parts.specs.Copies.{changes_in, locations_in}
+use Rattle.actor_parts.specs.Owns.{IsOwn}
 use Rattle.tx_actor.specs.Running.{Runs, is_recorded, seat_at, stage_of}
 use Rattle.tx_actor.specs.declared.actor.Stage as own
 use Rattle.tx_actor.specs.declared.actor.Stage.TheVariants as stage
 use Rattle.tx_actor.specs.declared.actor.Told.{Told}
 use Rattle.tx_actor.specs.declared.actor.TxActor.{TxActor}
-use Rattle.actor_copies.specs.declared.copies.Copied.{Copied}
-use Rattle.actor_words.specs.declared.next.Next.TheVariants as next
+use Rattle.actor_parts.specs.declared.copies.Copied.{Copied}
+use Rattle.actor_parts.specs.declared.next.Next.TheVariants as next
 use Rattle.tx_actor.specs.Running.{notice_of}
 use Rattle.actor_turns.specs.Reached.{IsReached}
 use Rattle.actor_turns.proofs.SeatLemmas.{next_as, stage_by}

@@ -14,9 +14,9 @@ use Rattle.step_core.specs.declared.actor.Place.{Place}
 use Rattle.step_core.specs.declared.actor.Place.TheVariants as place
 use Rattle.step_core.specs.declared.answer.WordAnswer.{WordAnswer}
 use Rattle.step_core.specs.declared.answer.WordRefusal.{WordRefusal}
-use Rattle.actor_words.specs.Blocks.{BlocksView}
-use Rattle.actor_words.specs.Dispatch.{AreSteps, is_loading, next_load, next_of, notice_told}
-use Rattle.actor_words.specs.declared.next.Next.TheVariants as next
+use Rattle.actor_parts.specs.Blocks.{BlocksView}
+use Rattle.actor_parts.specs.Dispatch.{AreSteps, is_loading, next_load, next_of, notice_told}
+use Rattle.actor_parts.specs.declared.next.Next.TheVariants as next
 use Rattle.tx_actor.specs.Answers.{IsLoadOf}
 use Rattle.tx_actor.specs.Dispatch.{HasRoom}
 use Rattle.tx_actor.specs.Having.{HasCopies, HasCopiesAt, HasLoaded}

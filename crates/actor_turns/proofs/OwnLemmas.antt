@@ -23,17 +23,17 @@ use Rattle.replay_log.specs.Contents.{Asked, Block, HaveStripes}
 use Rattle.replay_log.specs.WorldProgress.{whose}
 use Rattle.replay_log.specs.Worlds.{World, Seat, Stage, After, Beginning, Copying, Loading, Open, Ready, acted, actor_of, ask_at, happens}
 use Rattle.replay_log.specs.Worlds.{has_begun, moves, no_one, opened, outcome_at, run, starve_at, step_at, word_notice}
-use Rattle.atomic_steps.proofs.Others.{others}
-use Rattle.atomic_steps.specs.Own.{Alike}
-use Rattle.actor_words.specs.Blocks.{BlocksView, IsLaid}
-use Rattle.actor_words.specs.Dispatch.{is_loading, next_of}
-use Rattle.actor_words.specs.declared.next.Next.{Next}
-use Rattle.actor_words.specs.declared.next.Next.TheVariants as next
-use Rattle.actor_copies.specs.declared.copies.CopyOf.{CopyOf}
-use Rattle.actor_copies.specs.declared.copies.Copied.{Copied}
-use Rattle.actor_copies.specs.Copied.{BeginsWithNothing, IsReadOf}
-use Rattle.actor_copies.specs.Owns.{AreOfBlocks, IsOwn, MayCall}
-use Rattle.actor_copies.specs.Staying.{EventStays, EventsStay, StaysAsked, StepStays, Stays, call_in}
+use Rattle.actor_laws.proofs.Others.{others}
+use Rattle.actor_laws.specs.Own.{Alike}
+use Rattle.actor_parts.specs.Blocks.{BlocksView, IsLaid}
+use Rattle.actor_parts.specs.Dispatch.{is_loading, next_of}
+use Rattle.actor_parts.specs.declared.next.Next.{Next}
+use Rattle.actor_parts.specs.declared.next.Next.TheVariants as next
+use Rattle.actor_parts.specs.declared.copies.CopyOf.{CopyOf}
+use Rattle.actor_parts.specs.declared.copies.Copied.{Copied}
+use Rattle.actor_parts.specs.Copied.{BeginsWithNothing, IsReadOf}
+use Rattle.actor_parts.specs.Owns.{AreOfBlocks, IsOwn, MayCall}
+use Rattle.actor_parts.specs.Staying.{EventStays, EventsStay, StaysAsked, StepStays, Stays, call_in}
 use Rattle.tx_actor.specs.Calls.{AsksAt, CanCall, StandsOwn}
 use Rattle.tx_actor.specs.Having.{HasCopies, HasCopiesAt, KeepsCopies, KeepsFrom, OwnsAll, ReadsStill}
 use Rattle.tx_actor.specs.Keeping.{IsRunning}

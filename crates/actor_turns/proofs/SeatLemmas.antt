@@ -11,8 +11,8 @@ use Rattle.replay_log.specs.Contents.{Block, home_of, is_plain}
 use Rattle.replay_log.specs.Worlds.{World, Seat, Idle, Ready, actor_of, all_of, ask_at, at_stage, distinct, is_half_done, no_one, starve_at}
 use Rattle.replay_log.specs.Worlds.{written_homes}
 use Rattle.replay_log.specs.WorldSerial.{SawAt}
-use Rattle.atomic_steps.specs.Own.{Alike}
-use Rattle.actor_words.specs.Dispatch.{is_loading, next_of}
+use Rattle.actor_laws.specs.Own.{Alike}
+use Rattle.actor_parts.specs.Dispatch.{is_loading, next_of}
 use Rattle.tx_actor.specs.Running.{KnowsHomes, Runs, is_recorded, seat_at, seat_of, stage_in, stage_of}
 use Rattle.tx_actor.specs.declared.actor.Stage as own
 use Rattle.tx_actor.specs.declared.actor.Stage.TheVariants as stage

@@ -37,15 +37,15 @@ use Rattle.replay_log.specs.Worlds.{moves, all_of, distinct, step_at, happens, o
 use Rattle.replay_log.proofs.GuardLemmas.{world_allows}
 use Rattle.replay_log.proofs.EventLemmas.{opened_linked, run_linked}
 use Rattle.replay_log.proofs.SeatLemmas.{AtLocking, Copy, Linked, StageOk}
-use Rattle.atomic_steps.specs.Steps.{atomic_action, ready_at}
+use Rattle.actor_laws.specs.Steps.{atomic_action, ready_at}
 use Rattle.step_core.specs.Shown as words
 use Rattle.step_core.specs.Sound.{Fits}
 use Rattle.step_core.specs.declared.actor.Actor as running
-use Rattle.actor_words.specs.Blocks.{BlocksView}
-use Rattle.actor_words.specs.Dispatch.{AreSteps, IsDue, MayGoOn, after_put, after_try, first, is_loading}
-use Rattle.actor_words.specs.Dispatch.{next_home, next_load, next_of, next_put, next_try}
-use Rattle.actor_words.specs.Guarded.{committed_at}
-use Rattle.actor_words.specs.Requests.{HasNoReads}
+use Rattle.actor_parts.specs.Blocks.{BlocksView}
+use Rattle.actor_parts.specs.Dispatch.{AreSteps, IsDue, MayGoOn, after_put, after_try, first, is_loading}
+use Rattle.actor_parts.specs.Dispatch.{next_home, next_load, next_of, next_put, next_try}
+use Rattle.actor_parts.specs.Guarded.{committed_at}
+use Rattle.actor_parts.specs.Requests.{HasNoReads}
 use Rattle.tx_actor.specs.Dispatch.{HasRoom, Records}
 use Rattle.tx_actor.specs.Keeping.{IsRunning}
 use Rattle.tx_actor.specs.Running as ran
@@ -54,8 +54,8 @@ use Rattle.tx_actor.specs.declared.actor.Stage as own
 use Rattle.tx_actor.specs.declared.actor.Stage.TheVariants as stage
 use Rattle.tx_actor.specs.declared.actor.Told.{Told}
 use Rattle.tx_actor.specs.declared.actor.TxActor.{TxActor}
-use Rattle.actor_words.specs.declared.next.Next.{Next}
-use Rattle.actor_words.specs.declared.next.Next.TheVariants as next
+use Rattle.actor_parts.specs.declared.next.Next.{Next}
+use Rattle.actor_parts.specs.declared.next.Next.TheVariants as next
 use Rattle.actor_turns.specs.Reached.{IsReached}
 use Rattle.actor_turns.proofs.SeatLemmas.{next_as, seated_by, stage_by}
 

@@ -5,8 +5,8 @@ use Rattle.seq_model.specs.declared.event.Event.TheVariants.{Ask, Starve, Step}
 use Rattle.seq_model.specs.declared.event.Request.{Request}
 use Rattle.replay_log.specs.Contents.{Asked}
 use Rattle.replay_log.specs.Worlds.{Copying, World, ask_at, happens}
-use Rattle.actor_words.specs.Blocks.{BlocksView, IsLaid}
-use Rattle.actor_words.specs.Dispatch.{is_loading}
+use Rattle.actor_parts.specs.Blocks.{BlocksView, IsLaid}
+use Rattle.actor_parts.specs.Dispatch.{is_loading}
 use Rattle.tx_actor.specs.Calls.{AsksAt}
 use Rattle.tx_actor.specs.Having.{HasCopies, KeepsCopies, ReadsStill}
 use Rattle.tx_actor.specs.Keeping.{IsRunning}

@@ -1,8 +1,8 @@
 //! What is unchanged of an actor from event to event.
 ghost use Rattle.actor_turns.specs.Kept.{AsksKeep, StarvesKeep, StepsKeep};
 
-use actor_copies::copies_stay;
-use actor_copies::laws::{begins_with_nothing, calls_as_worlds};
+use actor_parts::copies_stay;
+use actor_parts::copy_laws::{begins_with_nothing, calls_as_worlds};
 use seq_model::Value;
 use tx_actor::laws::copies_by_stage;
 

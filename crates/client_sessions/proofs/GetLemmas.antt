@@ -5,8 +5,8 @@ use Rattle.std.specs.Prelude.{◌&&◌}
 use Rattle.std.specs.List.{list_all}
 use Rattle.seq_model.specs.declared.call.Reply.{Reply}
 use Rattle.seq_model.specs.declared.call.Reply.TheVariants.{Nothing, Value}
-use Rattle.jobs.specs.Programs.{after, asked, GivesUp}
-use Rattle.jobs.specs.declared.job.Ask.TheVariants.{Call}
+use Rattle.seq_model.specs.Programs.{after, asked, GivesUp}
+use Rattle.seq_model.specs.declared.job.Ask.TheVariants.{Call}
 use Rattle.vac_model.specs.declared.item.Kind.{Kind}
 use Rattle.vac_model.specs.declared.item.Kind.TheVariants.{Car, Flight, Room}
 use Rattle.vac_model.specs.declared.item.Item.{Item}

@@ -7,7 +7,7 @@ use Rattle.std.proofs.lemmas.Bool.{and_cases}
 use Rattle.std.proofs.lemmas.Bool.Decides.{nat_tests}
 use Rattle.seq_model.specs.declared.call.Reply.{Reply}
 use Rattle.seq_model.specs.declared.call.Reply.TheVariants.{Nothing, Value}
-use Rattle.jobs.specs.Programs.{after, GivesUp}
+use Rattle.seq_model.specs.Programs.{after, GivesUp}
 use Rattle.vac_model.specs.declared.item.Booking.{Booking}
 use Rattle.vac_model.specs.Tests.{is_item_sound}
 use Rattle.client_sessions.specs.declared.entry.Entry.{Entry}

@@ -27,7 +27,7 @@ use Rattle.vac_model.specs.Actions.{take_off, give_ticket}
 use Rattle.client_sessions.specs.declared.entry.Entry.{Entry}
 use Rattle.client_sessions.specs.declared.entry.Entry.TheVariants.{Item as Stock, Customer as Client, Ticket as Slip}
 use Rattle.client_sessions.specs.Holding.{ArePutIn, Entries, as_entries, holding, stock_of, state_of}
-use Rattle.jobs.specs.Programs.{run}
+use Rattle.seq_model.specs.Programs.{run}
 use Rattle.client_sessions.specs.Sessions as ask
 
 module _ {X : Type 0} (f : X → Entry) where

@@ -47,10 +47,10 @@ use Rattle.vac_model.proofs.DeleteLemmas.{serve_freed_keeps}
 use Rattle.vac_model.proofs.UpdateLemmas.{IsSoundIfThere, change_keeps}
 use Rattle.client_sessions.specs.declared.entry.Entry.TheVariants.{Item as Stock, Customer as Client}
 use Rattle.client_sessions.specs.Holding.{state_of}
-use Rattle.jobs.specs.Programs.{Asks, run, Answers, GivesUp}
+use Rattle.seq_model.specs.Programs.{Asks, run, Answers, GivesUp}
 use Rattle.client_sessions.specs.Sessions as ask
 use Rattle.client_sessions.specs.Laws.{EndsAsAction, NeverGivesUp, AsksLegalCalls}
-use Rattle.jobs.proofs.ProgramLemmas.{none_some, followed_run}
+use Rattle.seq_model.proofs.ProgramLemmas.{none_some, followed_run}
 use Rattle.client_sessions.proofs.HoldingLemmas.{run_get_item, run_put_item, run_remove_item, run_get_customer, run_put_customer}
 use Rattle.client_sessions.proofs.HoldingLemmas.{run_remove_customer, got_ticket, run_remove_ticket, got_first, run_dequeue, run_give_ticket}
 

@@ -7,7 +7,7 @@ use Rattle.std.specs.List.{list_any}
 use Rattle.std.proofs.lemmas.Bool.Decides.{nat_tests}
 use Rattle.seq_model.specs.declared.call.Reply.{Reply}
 use Rattle.seq_model.specs.declared.call.Call.{Call}
-use Rattle.jobs.specs.Programs.{after, Asks, Answers, GivesUp}
+use Rattle.seq_model.specs.Programs.{after, Asks, Answers, GivesUp}
 use Rattle.vac_model.specs.declared.item.Kind.{Kind}
 use Rattle.vac_model.specs.declared.item.Kind.TheVariants.{Car, Flight, Room}
 use Rattle.vac_model.specs.declared.item.Item.{Item}

@@ -11,7 +11,7 @@ use Rattle.vac_model.specs.Actions.{action_of, IsAllowed}
 use Rattle.vac_model.specs.Balanced.{IsBalanced}
 use Rattle.client_sessions.specs.declared.entry.Entry.{Entry}
 use Rattle.client_sessions.specs.Holding.{state_of}
-use Rattle.jobs.specs.Programs.{Asks, Answers, GivesUp, Follows}
+use Rattle.seq_model.specs.Programs.{Asks, Answers, GivesUp, Follows}
 use Rattle.client_sessions.specs.Sessions.{SessionProgram, session}
 
 -- these calls are those that the session asked, with legal replies, and this is left of the session

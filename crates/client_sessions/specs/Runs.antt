@@ -10,7 +10,7 @@ use Rattle.vac_model.specs.declared.action.ActionReply.{ActionReply}
 use Rattle.vac_model.specs.Actions.{action_of, IsAllowed}
 use Rattle.vac_model.specs.Balanced.{IsBalanced}
 use Rattle.vac_model.specs.Holdings.{Holdings}
-use Rattle.jobs.specs.Programs.{Answers, Follows, GivesUp}
+use Rattle.seq_model.specs.Programs.{Answers, Follows, GivesUp}
 use Rattle.client_sessions.specs.declared.entry.Entry.{Entry}
 use Rattle.client_sessions.specs.Holding.{state_of}
 use Rattle.client_sessions.specs.Sessions.{SessionProgram, session}

@@ -32,7 +32,7 @@ use Rattle.vac_model.specs.Tests.{is_item_sound}
 pub use Rattle.client_sessions.specs.Within.{is_booking_within, is_customer_within}
 use Rattle.client_sessions.specs.declared.entry.Entry.{Entry}
 use Rattle.client_sessions.specs.declared.entry.Entry.TheVariants.{Item as Stock, Customer as Client, Ticket as Slip}
-use Rattle.jobs.specs.Programs.{Program, Asks, Answers, GivesUp}
+use Rattle.seq_model.specs.Programs.{Program, Asks, Answers, GivesUp}
 
 -- a program of calls on the tables that answers as an action does, or what is left of one
 abbrev pub SessionProgram : Type 0

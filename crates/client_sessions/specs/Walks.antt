@@ -1,7 +1,7 @@
 -- Where the code that walks along a program, by the replies so far, arrives.
 use Rattle.std.specs.Prelude.{◌≡◌, ℕ, Result, Ok, Err, ⊤}
-use Rattle.jobs.specs.declared.job.Ask.TheVariants as ask
-use Rattle.jobs.specs.Programs.{asked}
+use Rattle.seq_model.specs.declared.job.Ask.TheVariants as ask
+use Rattle.seq_model.specs.Programs.{asked}
 use Rattle.vac_model.specs.declared.item.Kind.{Kind}
 use Rattle.vac_model.specs.declared.item.Customer.{Customer}
 use Rattle.vac_model.specs.declared.action.Part.{Part}

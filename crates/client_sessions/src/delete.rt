@@ -1,8 +1,8 @@
 //! The program of a deletion, walked.
 ghost use Rattle.std.specs.Prelude.{◌≡◌, ◌≤◌, ◌*◌, ℕ, Option, Some, IfOk, true, false, length, drop};
 ghost use Rattle.std.specs.Option.{option_copied};
-ghost use Rattle.jobs.specs.Programs.{after, asked, Answers};
-ghost use Rattle.jobs.specs.declared.job.Ask.TheVariants.{GiveUp};
+ghost use Rattle.seq_model.specs.Programs.{after, asked, Answers};
+ghost use Rattle.seq_model.specs.declared.job.Ask.TheVariants.{GiveUp};
 ghost use Rattle.vac_model.specs.Balanced.{IsItemSound};
 ghost use Rattle.client_sessions.specs.Sessions as programs;
 ghost use Rattle.client_sessions.specs.Sessions.{SessionProgram};

@@ -2,8 +2,8 @@
 ghost use Rattle.std.specs.Prelude.{◌≡◌, ◌≤◌, ℕ, Option, Some, None, IfOk, IfSome, OnOk, ◌||◌, unwrap_or, is_none, ◌&&◌, if◌then◌else◌};
 ghost use Rattle.std.specs.Prelude.{length, drop, true, false};
 ghost use Rattle.std.specs.Option.{option_copied};
-ghost use Rattle.jobs.specs.Programs.{after, asked, Answers};
-ghost use Rattle.jobs.specs.declared.job.Ask.TheVariants.{Call as NextCall, GiveUp};
+ghost use Rattle.seq_model.specs.Programs.{after, asked, Answers};
+ghost use Rattle.seq_model.specs.declared.job.Ask.TheVariants.{Call as NextCall, GiveUp};
 ghost use Rattle.vac_model.specs.Actions as actions;
 ghost use Rattle.vac_model.specs.declared.item.Item.{Item as AnItem};
 ghost use Rattle.vac_model.specs.declared.item.Customer.{Customer as ACustomer};
@@ -24,9 +24,7 @@ use crate::split::SplitCustomer;
 use crate::walk::{Stop, Walk, asks_get, asks_put, map_of, put_customer, tell_items};
 use seq_model::{Memory, Reply};
 use std::alloc::Global;
-use vac_model::{
-    ActionReply, Ask, Booking, Each, Item, Kind, Part, TICKET_LIMIT, Ticket, Wait, is_item_sound,
-};
+use vac_model::{ActionReply, Ask, Booking, Each, Item, Kind, Part, TICKET_LIMIT, Ticket, Wait, is_item_sound};
 
 /// A customer with what was decided so far, which is not put yet.
 #[derive(Clone, Copy)]

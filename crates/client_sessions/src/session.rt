@@ -1,19 +1,18 @@
 //! The session of one action.
 ghost use Rattle.std.specs.Prelude.{◌≡◌, IfOk, IfErr, IfSome};
-ghost use Rattle.jobs.specs.Programs.{after, asked, replies_of, Answers};
+ghost use Rattle.seq_model.specs.Programs.{after, asked, replies_of, Answers};
 ghost use Rattle.vac_model.specs.Actions.{IsAllowed};
 ghost use Rattle.client_sessions.specs.Sessions as programs;
 ghost use Rattle.client_sessions.specs.Walks.{Comes};
 ghost use Rattle.client_sessions.specs.Left.{replies_in};
 ghost use Rattle.client_sessions.specs.Gets.{get_due};
 ghost use Rattle.client_sessions.specs.Refusals.{IsSessionRefusal};
-ghost use Rattle.jobs.specs.declared.job.Ask.TheVariants as ask;
+ghost use Rattle.seq_model.specs.declared.job.Ask.TheVariants as ask;
 
 use crate::entry::Entry;
 use crate::reserve::due_of;
 use crate::walk::{Left, Stop, Walk, get_of};
-use jobs::{Ask, Job};
-use seq_model::{Items, Memory, Record, Refusal, Reply};
+use seq_model::{Ask, Items, Job, Memory, Record, Refusal, Reply};
 use std::alloc::Global;
 use std::marker::Model;
 use vac_model::{Action, ActionReply, Ask as ItemAsk, Kind};
@@ -158,7 +157,7 @@ impl Session {
 }
 
 impl Job<Entry> for Session {
-    ghost use Rattle.jobs.specs.Programs.{after, asked};
+    ghost use Rattle.seq_model.specs.Programs.{after, asked};
     ghost use Rattle.client_sessions.specs.Sessions as programs;
 
     ghost asks = { λ action replies ask. ask ≡ asked (after (programs.session action) replies) };

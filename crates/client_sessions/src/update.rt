@@ -1,6 +1,6 @@
 //! The program of an update, walked.
 ghost use Rattle.std.specs.Prelude.{◌≡◌, List, All};
-ghost use Rattle.jobs.specs.Programs.{after};
+ghost use Rattle.seq_model.specs.Programs.{after};
 ghost use Rattle.vac_model.specs.Actions as actions;
 ghost use Rattle.vac_model.specs.declared.action.Changed.{Changed as AChanged};
 ghost use Rattle.client_sessions.specs.Sessions as programs;

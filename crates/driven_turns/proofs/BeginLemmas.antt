@@ -13,7 +13,7 @@ use Rattle.step_core.specs.declared.actor.Actor.{Actor}
 use Rattle.step_core.specs.declared.actor.Place.TheVariants.{Begin}
 use Rattle.step_core.specs.declared.answer.WordAnswer.{WordAnswer}
 use Rattle.step_core.specs.declared.answer.WordRefusal.{WordRefusal}
-use Rattle.actor_words.specs.Dispatch.{AreSteps, is_loading, next_of, notice_told}
+use Rattle.actor_parts.specs.Dispatch.{AreSteps, is_loading, next_of, notice_told}
 use Rattle.tx_actor.specs.Dispatch.{HasRoom, IsToldWord}
 use Rattle.tx_actor.specs.Having.{KeepsCopies}
 use Rattle.tx_actor.specs.Keeping.{IsRunning}
@@ -26,8 +26,8 @@ use Rattle.actor_turns.proofs.StepLemmas.{running_moved}
 use Rattle.tx_table.specs.declared.seat.Seat.{Seat}
 use Rattle.tx_table.specs.declared.table.TxTable.{TxTable}
 use Rattle.tx_table.specs.Seated.{Loads, Takes, acts, actor, blocks_in, opening_of, out, view}
-use Rattle.tx_threads.proofs.DueLemmas.{at_place, learns_at}
-use Rattle.tx_threads.specs.declared.due.Due.TheVariants as due
+use Rattle.tx_turns.proofs.DueLemmas.{at_place, learns_at}
+use Rattle.tx_turns.specs.declared.due.Due.TheVariants as due
 use Rattle.tx_turns.proofs.TurnLemmas.{word_is_next}
 use Rattle.tx_turns.specs.Ties.{Ties, laid_in}
 use Rattle.gate_turns.specs.Laws.{WordsKeep}

@@ -19,7 +19,7 @@ use Rattle.replay_log.specs.Contents.{Asked, Block}
 use Rattle.replay_log.specs.Seats.{World, Stage, Closing, Copying, Gating, Homing, Loading, Locking, Reading, Ready, Releasing, Storing}
 use Rattle.replay_log.specs.Seats.{Trying, actor_of}
 use Rattle.replay_log.specs.WorldRefusals.{IsCause, IsCopied, IsLastTry}
-use Rattle.tx_phases.specs.Phases.{Phase, Calls, Commits, Committed, phase, phase_at}
+use Rattle.actor_laws.specs.Phases.{Phase, Calls, Commits, Committed, phase, phase_at}
 use Rattle.driven_turns.specs.Driven.{IsCallCause, IsCommitCause, IsLoading, IsOnCollection}
 
 -- ---- places

@@ -2,7 +2,7 @@
 --
 -- A begin is the word machine's load of the clock: open, or idle again at the limit of the clock, its actor is declared just where it was.
 -- Of what is asked of the word machine a begin alone changes that, and no step of it does; no step of an actor asks for a begin, nor does
--- what an open transaction is asked (`PassLemmas` of `tx_phases`).
+-- what an open transaction is asked (`PassLemmas` of `actor_laws`).
 use Rattle.std.proofs.Common.{◌≡◌, ℕ, Bool, true, false, cond, [], ◌∷◌, Option, refl, sym, ap, ◌∙◌, subst}
 use Rattle.std.specs.Prelude.{nat_lt}
 use Rattle.word_machine.specs.Actor as machine
@@ -18,7 +18,7 @@ use Rattle.seq_model.specs.declared.event.Request.{Request}
 use Rattle.collection_machine.specs.Boosted.{word_step}
 use Rattle.replay_log.specs.declared.base.Base.{Base}
 use Rattle.replay_log.specs.Worlds.{World, Seat, Stage, Beginning, Open, acted, actor_of, ask_at, happens, has_begun, moves, step_at, word_notice}
-use Rattle.tx_phases.proofs.PassLemmas.{IsPlainAsk, ask_open_keeps, starve_keeps, step_keeps}
+use Rattle.actor_laws.proofs.PassLemmas.{IsPlainAsk, ask_open_keeps, starve_keeps, step_keeps}
 use Rattle.tx_table.specs.Turns.{found_at, moved, spot}
 use Rattle.driven_turns.proofs.StampLemmas.{planted_actor, planted_seats}
 

@@ -23,7 +23,7 @@ use Rattle.replay_log.specs.Worlds.{happens, run, why}
 use Rattle.replay_log.specs.WorldAnswers.{IsRefusedAt, RefusedBy}
 use Rattle.replay_log.specs.WorldRefusals.{IsCause, is_ending}
 use Rattle.replay_log.specs.WorldTraces.{committed_by}
-use Rattle.atomic_steps.specs.Own.{Alike}
+use Rattle.actor_laws.specs.Own.{Alike}
 use Rattle.tx_actor.specs.Running.{notice_of}
 use Rattle.tx_actor.specs.declared.actor.Told.{Told}
 use Rattle.tx_actor.specs.declared.actor.Told.TheVariants as told
@@ -36,10 +36,10 @@ use Rattle.tx_table.specs.Seated.{acts, list_of, opening_of, view}
 use Rattle.tx_table.specs.Seated as seated
 use Rattle.tx_table.specs.Turns.{asked_all, ends_of, lone, moved}
 use Rattle.tx_table.specs.declared.view.Turn.{Turn}
-use Rattle.tx_phases.proofs.CourseLemmas.{on_call, on_commit, on_done, steps_come, ends_at}
-use Rattle.tx_phases.proofs.PhaseLemmas.{steps_move}
-use Rattle.tx_phases.specs.Courses.{ComesTo, IsUnderWay, IsUnderWayFrom, latest}
-use Rattle.tx_phases.specs.Phases.{Phase, Rests, Begins, Stands, Calls, Commits, Committed, Ends, IsMistaken, StepMoves, phase, phase_at}
+use Rattle.actor_laws.proofs.CourseLemmas.{on_call, on_commit, on_done, steps_come, ends_at}
+use Rattle.actor_laws.proofs.PhaseLemmas.{steps_move}
+use Rattle.actor_laws.specs.Courses.{ComesTo, IsUnderWay, IsUnderWayFrom, latest}
+use Rattle.actor_laws.specs.Phases.{Phase, Rests, Begins, Stands, Calls, Commits, Committed, Ends, IsMistaken, StepMoves, phase, phase_at}
 use Rattle.driven_turns.proofs.CauseLemmas.{IsOfCommit, call_cause, commit_cause}
 use Rattle.driven_turns.proofs.DeclaredLemmas.{begin_declared, reader_moved}
 use Rattle.driven_turns.proofs.EndedLemmas.{IsGoing, begin_added, done_added, ends_from, going_added, none_added, one_added}
@@ -50,7 +50,7 @@ use Rattle.driven_turns.proofs.StampLemmas.{begun_clock, exhausted_clock, number
 use Rattle.driven_turns.proofs.WritingLemmas.{commits_first, is_commit, is_one, written_on}
 use Rattle.driven_turns.specs.Driven.{AddsAborted, Driven, HasFound, IsNumberOf, IsReason, IsStamped, IsTrue, IsTurnFrom, IsWritten, KnowsNumber}
 use Rattle.driven_turns.specs.Driven.{as_receipts, is_declared, seat_in, standing}
-use Rattle.tx_threads.proofs.OwnLemmas.{own_ok}
+use Rattle.tx_turns.proofs.OwnLemmas.{own_ok}
 use Rattle.tx_turns.proofs.TurnLemmas.{ends_as as commits_as}
 use Rattle.tx_turns.specs.Ties.{Ties, Turned, commits}
 

@@ -16,8 +16,8 @@ use Rattle.replay_log.specs.WorldTraces.{ended_by}
 use Rattle.replay_log.specs.Worlds.{Beginning, Cancelling, Leaving, Returning, acted, gives_up, happens, has_cancelled, moves, no_one, step_at, why}
 use Rattle.replay_log.specs.Worlds.{word_notice}
 use Rattle.replay_log.specs.declared.base.Base.{Base}
-use Rattle.atomic_steps.proofs.Alike.{alike_same}
-use Rattle.tx_phases.specs.Phases.{Begins, Calls, Commits, Committed, Ends, Phase, Rests, Stands, StepMoves, phase}
+use Rattle.actor_laws.proofs.Alike.{alike_same}
+use Rattle.actor_laws.specs.Phases.{Begins, Calls, Commits, Committed, Ends, Phase, Rests, Stands, StepMoves, phase}
 use Rattle.tx_table.specs.Turns.{found_at, moved, spot, stage_of}
 use Rattle.tx_table.proofs.Turned.{aborted_grow, found_alike, planted_notes}
 

@@ -19,20 +19,20 @@ use Rattle.replay_log.specs.Seats.{World, After, Seat, Stage, Cancelling, Leavin
 use Rattle.replay_log.specs.Worlds.{happens, why}
 use Rattle.replay_log.specs.WorldAnswers.{IsStarved}
 use Rattle.replay_log.specs.WorldRefusals.{is_ending}
-use Rattle.actor_words.specs.Dispatch.{next_of}
+use Rattle.actor_parts.specs.Dispatch.{next_of}
 use Rattle.actor_turns.proofs.SeatLemmas.{next_as}
 use Rattle.tx_actor.specs.Running.{notice_of, stage_of}
 use Rattle.tx_actor.specs.declared.actor.Told.{Told}
 use Rattle.tx_actor.specs.declared.actor.Told.TheVariants as told
-use Rattle.atomic_steps.proofs.OneStep.{one_step}
+use Rattle.actor_laws.proofs.OneStep.{one_step}
 use Rattle.tx_table.specs.declared.seat.Seat as table
 use Rattle.tx_actor.specs.declared.actor.TxActor.{TxActor}
 use Rattle.tx_table.specs.declared.table.TxTable.{TxTable}
 use Rattle.tx_table.specs.declared.view.Turn.{Turn}
 use Rattle.tx_table.specs.Seated.{acts, opening_of, view}
 use Rattle.tx_table.specs.Seated as seated
-use Rattle.tx_phases.specs.Courses.{ComesTo, EndsFrom, IsUnderWay, IsUnderWayFrom}
-use Rattle.tx_phases.specs.Phases.{Phase, Rests, Begins, Stands, Calls, Commits, Committed, Ends, phase, phase_at}
+use Rattle.actor_laws.specs.Courses.{ComesTo, EndsFrom, IsUnderWay, IsUnderWayFrom}
+use Rattle.actor_laws.specs.Phases.{Phase, Rests, Begins, Stands, Calls, Commits, Committed, Ends, phase, phase_at}
 use Rattle.tx_turns.specs.Asked.{Starved}
 use Rattle.tx_turns.specs.Ties.{Ties}
 use Rattle.driven_turns.proofs.RequestedLemmas.{taken_requests}

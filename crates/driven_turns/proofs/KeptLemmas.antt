@@ -30,7 +30,7 @@ use Rattle.replay_log.specs.Worlds.{gives_up, with_call, replied, reads, outcome
 use Rattle.replay_log.specs.Worlds.{calls_on, if_allowed, ask_at, ask_op, commits, happens, recorded, has_read, has_tried, with_piece}
 use Rattle.replay_log.specs.Worlds.{has_loaded, takes_gates, written_homes, has_locked, goes_home, has_stored, has_released}
 use Rattle.replay_log.specs.Worlds.{has_cancelled, starve_at, step_at, more_tries}
-use Rattle.tx_phases.specs.Phases.{Begins, Rests, phase, phase_at}
+use Rattle.actor_laws.specs.Phases.{Begins, Rests, phase, phase_at}
 use Rattle.driven_turns.specs.Driven.{MayWant}
 
 module _ {V : Type 0} where

@@ -23,8 +23,8 @@ use Rattle.step_core.specs.declared.actor.Place.TheVariants.{Broken, Lock, Take}
 use Rattle.step_core.specs.declared.answer.WordAnswer.{WordAnswer}
 use Rattle.step_core.specs.declared.answer.WordRefusal.{WordRefusal}
 use Rattle.step_core.specs.declared.answer.WordRefusal.TheVariants as refusal
-use Rattle.actor_words.specs.Dispatch.{AreSteps, is_loading, next_of, notice_told}
-use Rattle.actor_words.specs.declared.next.Next.TheVariants as next
+use Rattle.actor_parts.specs.Dispatch.{AreSteps, is_loading, next_of, notice_told}
+use Rattle.actor_parts.specs.declared.next.Next.TheVariants as next
 use Rattle.tx_actor.specs.Dispatch.{HasRoom, IsToldWord, waits_at}
 use Rattle.tx_actor.specs.Having.{KeepsCopies}
 use Rattle.tx_actor.specs.Keeping.{IsRunning}
@@ -39,9 +39,9 @@ use Rattle.tx_table.specs.declared.seat.Seat.{Seat}
 use Rattle.tx_table.specs.declared.table.TxTable.{TxTable}
 use Rattle.tx_table.specs.Seated.{Adds, Exchanges, Loads, Stepped, Takes, acts, actor, blocks_in, opening_of, out, view}
 use Rattle.tx_table.specs.Shown.{highest_clock}
-use Rattle.tx_threads.proofs.DueLemmas.{learns_lock, learns_lost, learns_stamp, learns_taken, lock_is, stamp_is}
-use Rattle.tx_threads.specs.Touches.{StepsWords}
-use Rattle.tx_threads.specs.declared.due.Due.TheVariants as due
+use Rattle.tx_turns.proofs.DueLemmas.{learns_lock, learns_lost, learns_stamp, learns_taken, lock_is, stamp_is}
+use Rattle.tx_turns.specs.Touches.{StepsWords}
+use Rattle.tx_turns.specs.declared.due.Due.TheVariants as due
 use Rattle.tx_turns.proofs.TurnLemmas.{word_is_next}
 use Rattle.tx_turns.specs.Ties.{Ties, laid_in}
 use Rattle.gate_turns.specs.Laws.{WordsKeep}

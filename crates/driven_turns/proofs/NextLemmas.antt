@@ -13,8 +13,8 @@ use Rattle.replay_log.specs.Contents.{Block}
 use Rattle.replay_log.specs.Guards.{IsAtRest}
 use Rattle.replay_log.specs.Seats as worlds
 use Rattle.replay_log.specs.Seats.{Seat, Stage}
-use Rattle.actor_words.specs.Dispatch.{is_loading, next_of}
-use Rattle.actor_words.specs.declared.next.Next.TheVariants as next
+use Rattle.actor_parts.specs.Dispatch.{is_loading, next_of}
+use Rattle.actor_parts.specs.declared.next.Next.TheVariants as next
 use Rattle.actor_turns.proofs.SeatLemmas.{next_as}
 use Rattle.tx_actor.specs.Running.{stage_of}
 use Rattle.actor_turns.proofs.StepLemmas.{first_is}
@@ -25,9 +25,9 @@ use Rattle.tx_table.specs.declared.seat.Seat as table
 use Rattle.tx_table.specs.declared.table.TxTable.{TxTable}
 use Rattle.tx_table.specs.Seated.{acts, opening_of}
 use Rattle.tx_table.specs.Seated as seated
-use Rattle.tx_phases.specs.Courses.{IsUnderWay, IsUnderWayFrom}
-use Rattle.tx_phases.specs.Phases.{Phase, Rests, Begins, Stands, Calls, Commits, Committed, Ends, phase, phase_at}
-use Rattle.tx_threads.proofs.OwnLemmas.{own_ok}
+use Rattle.actor_laws.specs.Courses.{IsUnderWay, IsUnderWayFrom}
+use Rattle.actor_laws.specs.Phases.{Phase, Rests, Begins, Stands, Calls, Commits, Committed, Ends, phase, phase_at}
+use Rattle.tx_turns.proofs.OwnLemmas.{own_ok}
 use Rattle.tx_turns.specs.Ties.{Ties, commits_at}
 use Rattle.driven_turns.specs.Driven.{MayWant, WantsMemory, seat_in}
 

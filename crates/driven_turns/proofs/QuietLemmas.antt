@@ -6,8 +6,8 @@ use Rattle.seq_model.specs.declared.event.Notice.TheVariants.{Quiet}
 use Rattle.replay_log.specs.Contents as contents
 use Rattle.replay_log.specs.Seats as worlds
 use Rattle.replay_log.specs.Seats.{World, After, Seat}
-use Rattle.actor_words.specs.Blocks.{BlocksView}
-use Rattle.actor_words.specs.Dispatch.{after_word}
+use Rattle.actor_parts.specs.Blocks.{BlocksView}
+use Rattle.actor_parts.specs.Dispatch.{after_word}
 use Rattle.tx_actor.specs.Dispatch.{HasRoom, IsToldWord, waits_at}
 use Rattle.tx_actor.specs.Having.{HasLoaded}
 use Rattle.tx_actor.specs.Keeping.{HasHeard, HeardAt, IsCallAt, IsRunning, NamesAmong}

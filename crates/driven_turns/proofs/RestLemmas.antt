@@ -18,7 +18,7 @@ use Rattle.replay_log.proofs.SeatLemmas.{gates_of}
 use Rattle.replay_log.specs.Seats as worlds
 use Rattle.replay_log.specs.Seats.{World, Seat, Stage}
 use Rattle.replay_log.specs.Worlds.{happens}
-use Rattle.atomic_steps.proofs.OneStep.{one_step}
+use Rattle.actor_laws.proofs.OneStep.{one_step}
 use Rattle.actor_turns.proofs.GatesLemmas.{gates_as, none_has}
 use Rattle.tx_actor.specs.Having.{HasCopiesAt}
 use Rattle.tx_actor.specs.Running.{notice_of}
@@ -32,9 +32,9 @@ use Rattle.tx_table.specs.declared.table.TxTable.{TxTable}
 use Rattle.tx_table.specs.Seated.{acts, opening_of, out}
 use Rattle.tx_table.specs.Seated as seated
 use Rattle.tx_table.specs.Turns as turns
-use Rattle.tx_phases.specs.Courses.{ComesTo, EndsFrom}
-use Rattle.tx_phases.specs.Phases.{Phase, Rests, Begins, Stands, Calls, Commits, Ends, phase, phase_at}
-use Rattle.tx_threads.proofs.OwnLemmas.{own_gates}
+use Rattle.actor_laws.specs.Courses.{ComesTo, EndsFrom}
+use Rattle.actor_laws.specs.Phases.{Phase, Rests, Begins, Stands, Calls, Commits, Ends, phase, phase_at}
+use Rattle.tx_turns.proofs.OwnLemmas.{own_gates}
 use Rattle.tx_turns.proofs.AskedLemmas.{acts_taken}
 use Rattle.tx_turns.specs.Asked.{HasTaken}
 use Rattle.tx_turns.specs.Ties.{Ties}

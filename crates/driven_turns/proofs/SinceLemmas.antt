@@ -6,7 +6,7 @@ use Rattle.seq_model.specs.declared.refusal.Refusal.{Refusal}
 use Rattle.replay_log.specs.Seats.{World}
 use Rattle.replay_log.specs.Worlds.{happens}
 use Rattle.replay_log.specs.WorldRefusals.{IsCause}
-use Rattle.atomic_steps.specs.Own.{Alike}
+use Rattle.actor_laws.specs.Own.{Alike}
 use Rattle.tx_actor.specs.Running.{notice_of}
 use Rattle.tx_actor.specs.declared.actor.Told.{Told}
 use Rattle.tx_table.specs.declared.seat.Seat as table

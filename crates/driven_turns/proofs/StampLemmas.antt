@@ -39,17 +39,17 @@ use Rattle.replay_log.specs.Worlds.{acted, actor_of, asks, at_stage, because, gi
 use Rattle.replay_log.specs.Worlds.{is_leaving}
 use Rattle.replay_log.specs.Worlds.{moves, run, step_at, takes_gates, word_notice}
 use Rattle.replay_log.specs.WorldTraces.{committed_by}
-use Rattle.atomic_steps.proofs.Alone.{same_actors}
-use Rattle.atomic_steps.specs.Spots.{Spot, Nowhere, Word, Gate, deed_of, spot_at, spot_of}
-use Rattle.atomic_steps.specs.Steps.{ready_at}
-use Rattle.atomic_steps.specs.Tells.{tells}
+use Rattle.actor_laws.proofs.Alone.{same_actors}
+use Rattle.actor_laws.specs.Spots.{Spot, Nowhere, Word, Gate, deed_of, spot_at, spot_of}
+use Rattle.actor_laws.specs.Steps.{ready_at}
+use Rattle.actor_laws.specs.Tells.{tells}
 use Rattle.tx_table.specs.declared.view.Opening.{Opening}
 use Rattle.tx_table.specs.Opening.{blocks_at, world_at}
 use Rattle.tx_table.specs.Seated.{turned}
 use Rattle.tx_table.specs.Shown.{IsReached}
 use Rattle.tx_table.specs.Turns.{found_at, moved, spot}
-use Rattle.tx_phases.proofs.PhaseLemmas.{steps_move}
-use Rattle.tx_phases.specs.Phases.{Phase, Commits, Ends, StepMoves, phase, phase_at}
+use Rattle.actor_laws.proofs.PhaseLemmas.{steps_move}
+use Rattle.actor_laws.specs.Phases.{Phase, Commits, Ends, StepMoves, phase, phase_at}
 use Rattle.driven_turns.proofs.WritingLemmas.{is_commit, was_commit}
 use Rattle.driven_turns.specs.Driven.{IsNumberOf, IsStamped, IsStampedAt}
 use Rattle.tx_turns.proofs.FoundLemmas.{found_cell, step_learns_cell, step_tells_cell}

@@ -17,8 +17,8 @@ use Rattle.step_core.specs.Sound.{Fits, IsLoad, KeepsRoom}
 use Rattle.step_core.specs.declared.actor.Actor as running
 use Rattle.step_core.specs.declared.answer.WordAnswer.{WordAnswer}
 use Rattle.step_core.specs.declared.answer.WordRefusal.{WordRefusal}
-use Rattle.actor_words.specs.Dispatch.{AreSteps, is_loading, next_of, notice_told}
-use Rattle.actor_words.specs.declared.next.Next.TheVariants as next
+use Rattle.actor_parts.specs.Dispatch.{AreSteps, is_loading, next_of, notice_told}
+use Rattle.actor_parts.specs.declared.next.Next.TheVariants as next
 use Rattle.tx_actor.proofs.HavingLemmas.{copies_same}
 use Rattle.tx_actor.specs.Dispatch.{waits_at}
 use Rattle.tx_actor.specs.Loading.{MayHear}
@@ -38,7 +38,7 @@ use Rattle.tx_table.specs.declared.table.TxTable.{TxTable}
 use Rattle.tx_table.specs.Opening.{blocks_at}
 use Rattle.tx_table.specs.Seated.{acts, blocks_in, opening_of}
 use Rattle.tx_table.specs.Seated as seated
-use Rattle.tx_threads.specs.Touches.{StepsWords}
+use Rattle.tx_turns.specs.Touches.{StepsWords}
 use Rattle.tx_turns.proofs.TurnLemmas.{word_turned}
 use Rattle.tx_turns.specs.Ties.{Ties, Turned, laid_in}
 use Rattle.gate_turns.proofs.WordLemmas.{load_hears, load_tied}

@@ -20,8 +20,8 @@ use Rattle.step_core.specs.declared.actor.Place.TheVariants.{Store}
 use Rattle.step_core.specs.declared.answer.WordAnswer.{WordAnswer}
 use Rattle.step_core.specs.declared.answer.WordRefusal.{WordRefusal}
 use Rattle.step_core.proofs.Lists.{get_or_same}
-use Rattle.actor_words.specs.Dispatch.{AreSteps, is_loading, next_of, notice_told}
-use Rattle.actor_words.specs.declared.next.Next.TheVariants as next
+use Rattle.actor_parts.specs.Dispatch.{AreSteps, is_loading, next_of, notice_told}
+use Rattle.actor_parts.specs.declared.next.Next.TheVariants as next
 use Rattle.tx_actor.proofs.HavingLemmas.{copies_same}
 use Rattle.tx_actor.specs.Dispatch.{IsToldWord}
 use Rattle.tx_actor.specs.Having.{KeepsCopies}
@@ -36,9 +36,9 @@ use Rattle.actor_turns.proofs.StepLemmas.{running_moved}
 use Rattle.tx_table.specs.declared.seat.Seat.{Seat}
 use Rattle.tx_table.specs.declared.table.TxTable.{TxTable}
 use Rattle.tx_table.specs.Seated.{Stores, StepsBlind, acts, actor, blocks_in, opening_of, view}
-use Rattle.tx_threads.proofs.DueLemmas.{learns_store, next_is, store_is}
-use Rattle.tx_threads.specs.Touches.{StepsWords}
-use Rattle.tx_threads.specs.declared.due.Due.TheVariants as due
+use Rattle.tx_turns.proofs.DueLemmas.{learns_store, next_is, store_is}
+use Rattle.tx_turns.specs.Touches.{StepsWords}
+use Rattle.tx_turns.specs.declared.due.Due.TheVariants as due
 use Rattle.tx_turns.proofs.TurnLemmas.{word_is_next}
 use Rattle.tx_turns.specs.Ties.{Ties, laid_in}
 use Rattle.gate_turns.specs.Laws.{WordsKeep}

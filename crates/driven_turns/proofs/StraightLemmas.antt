@@ -29,10 +29,10 @@ use Rattle.step_core.specs.declared.actor.Place.{Place}
 use Rattle.step_core.specs.declared.actor.Place.TheVariants.{Look, Fetch, Again}
 use Rattle.step_core.specs.declared.answer.WordAnswer.{WordAnswer}
 use Rattle.step_core.specs.declared.answer.WordRefusal.{WordRefusal}
-use Rattle.actor_words.specs.Blocks.{BlocksView}
-use Rattle.actor_words.specs.Dispatch.{AreSteps, after_word, is_loading, next_of, notice_told}
-use Rattle.actor_words.specs.declared.next.Next.TheVariants as next
-use Rattle.atomic_steps.specs.Tells.{tells}
+use Rattle.actor_parts.specs.Blocks.{BlocksView}
+use Rattle.actor_parts.specs.Dispatch.{AreSteps, after_word, is_loading, next_of, notice_told}
+use Rattle.actor_parts.specs.declared.next.Next.TheVariants as next
+use Rattle.actor_laws.specs.Tells.{tells}
 use Rattle.tx_actor.specs.Dispatch.{HasRoom, IsToldWord, waits_at}
 use Rattle.tx_actor.specs.Having.{HasLoaded, KeepsCopies}
 use Rattle.tx_actor.specs.Keeping.{HasHeard, IsRunning}
@@ -54,8 +54,8 @@ use Rattle.tx_table.specs.declared.seat.Seat.{Seat}
 use Rattle.tx_table.specs.declared.table.TxTable.{TxTable}
 use Rattle.tx_table.specs.Seated.{Loads, Stepped, acts, actor, blocks_in, opening_of, view}
 use Rattle.word_machine.specs.Cells.{LockCell, ValueCell}
-use Rattle.tx_threads.specs.Touches.{StepsWords}
-use Rattle.tx_threads.specs.declared.due.Due.TheVariants as due
+use Rattle.tx_turns.specs.Touches.{StepsWords}
+use Rattle.tx_turns.specs.declared.due.Due.TheVariants as due
 use Rattle.tx_turns.proofs.TurnLemmas.{word_is_next, word_turned}
 use Rattle.tx_turns.specs.Ties.{Ties, laid_in}
 use Rattle.gate_turns.proofs.WordLemmas.{load_hears, load_tied}
@@ -63,8 +63,8 @@ use Rattle.gate_turns.specs.Laws.{WordsKeep}
 use Rattle.gate_turns.specs.Own.{HasOwn}
 use Rattle.driven_turns.proofs.StepsLemmas.{HasCome, leads_on, load_onward, starts, word_onward}
 use Rattle.seq_model.specs.declared.record.Record.{Record}
-use Rattle.tx_phases.specs.Courses.{IsUnderWay, IsUnderWayFrom, latest}
-use Rattle.tx_phases.specs.Phases.{Phase, Begins, Calls, Commits, Ends}
+use Rattle.actor_laws.specs.Courses.{IsUnderWay, IsUnderWayFrom, latest}
+use Rattle.actor_laws.specs.Phases.{Phase, Begins, Calls, Commits, Ends}
 use Rattle.driven_turns.proofs.GivenUpLemmas.{under_ends}
 use Rattle.driven_turns.specs.Driven.{Driven, LeadsOn, told_in}
 use Rattle.driven_turns.specs.Straight.{HasLed, at_place}

@@ -19,8 +19,8 @@ use Rattle.replay_log.specs.Worlds.{asks, at_stage, because, gives_up, has_locke
 use Rattle.replay_log.specs.Worlds.{takes_gates}
 use Rattle.replay_log.specs.Worlds.{word_notice, written_homes}
 use Rattle.replay_log.specs.WorldTraces.{committed_by}
-use Rattle.tx_phases.specs.Courses.{latest}
-use Rattle.tx_phases.specs.Phases.{Phase, Rests, Begins, Stands, Calls, Commits, Committed, Ends, StepMoves, phase, phase_at}
+use Rattle.actor_laws.specs.Courses.{latest}
+use Rattle.actor_laws.specs.Phases.{Phase, Rests, Begins, Stands, Calls, Commits, Committed, Ends, StepMoves, phase, phase_at}
 use Rattle.driven_turns.specs.Driven.{IsWritten, is_closing}
 
 takes_open : (V : Type 0) (got ks : List ℕ) → is_closing {V = V} (takes_gates got ks) ≡ false

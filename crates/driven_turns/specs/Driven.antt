@@ -16,10 +16,10 @@ use Rattle.replay_log.specs.Seats.{Ended, World, Stage, Closing, Loading, actor_
 use Rattle.replay_log.specs.Worlds.{happens, run, why}
 use Rattle.replay_log.specs.WorldProgress.{left_of}
 use Rattle.replay_log.specs.WorldRefusals.{IsCause}
-use Rattle.atomic_steps.specs.Own.{Alike}
-use Rattle.actor_words.specs.Dispatch.{next_of}
-use Rattle.actor_words.specs.declared.next.Next.{Next}
-use Rattle.actor_words.specs.declared.next.Next.TheVariants as next
+use Rattle.actor_laws.specs.Own.{Alike}
+use Rattle.actor_parts.specs.Dispatch.{next_of}
+use Rattle.actor_parts.specs.declared.next.Next.{Next}
+use Rattle.actor_parts.specs.declared.next.Next.TheVariants as next
 use Rattle.tx_actor.specs.Running.{notice_of}
 use Rattle.tx_actor.specs.declared.actor.Stage as own
 use Rattle.tx_actor.specs.declared.actor.Stage.TheVariants as stage
@@ -32,8 +32,8 @@ use Rattle.tx_table.specs.declared.view.Turn.{Turn}
 use Rattle.tx_turns.specs.Asked.{Starved}
 use Rattle.tx_turns.specs.Ties.{commits}
 use Rattle.tx_actor.specs.declared.actor.TxActor.{TxActor}
-use Rattle.tx_phases.specs.Courses.{ComesTo, latest}
-use Rattle.tx_phases.specs.Phases.{Phase, Rests, Begins, Stands, Calls, Commits, Ends, IsMistaken, phase}
+use Rattle.actor_laws.specs.Courses.{ComesTo, latest}
+use Rattle.actor_laws.specs.Phases.{Phase, Rests, Begins, Stands, Calls, Commits, Ends, IsMistaken, phase}
 use Rattle.driven_turns.specs.Requested.{requests_of}
 
 -- a commit that has its number checks what it has read, or has done so: the number is no higher than this clock

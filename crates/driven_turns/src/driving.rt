@@ -1,11 +1,11 @@
 //! A request, up to its answer.
 ghost use Rattle.std.specs.Prelude.{◌≡◌, ◌≢◌, [], None, OnErr, OnOk, false, true};
-ghost use Rattle.actor_words.specs.Dispatch.{next_of};
+ghost use Rattle.actor_parts.specs.Dispatch.{next_of};
 ghost use Rattle.replay_log.specs.WorldProgress.{AreSmall};
 ghost use Rattle.tx_table.specs.Seated.{blocks_in, opening_of};
-ghost use Rattle.tx_phases.specs.Courses.{IsUnderWay};
+ghost use Rattle.actor_laws.specs.Courses.{IsUnderWay};
 ghost use Rattle.tx_actor.specs.Running.{stage_of};
-ghost use Rattle.tx_phases.specs.Phases.{Ends};
+ghost use Rattle.actor_laws.specs.Phases.{Ends};
 ghost use Rattle.tx_turns.specs.Ties.{Ties};
 ghost use Rattle.gate_turns.specs.Own.{HasOwn};
 ghost use Rattle.driven_turns.specs.Driven.{Driven, IsOnGate, seat_in, standing, told_in};
@@ -18,8 +18,7 @@ use crate::reads::{steps_on, word_read_on};
 use crate::releases::released_on;
 use crate::stores::stored_on;
 use crate::turns::{says, step, store_next, turn_apart, turn_on_gate};
-use actor_words::Next;
-use boxes::Boxed;
+use actor_parts::{Boxed, Next};
 use replay_log::Base;
 use seq_model::{Memory, Record, Value};
 use std::alloc::Global;

@@ -1,6 +1,6 @@
 //! The loads of a location that a call reads, in straight code.
 ghost use Rattle.std.specs.Prelude.{◌≡◌, ◌≢◌, false, true, IfErr, IfOk, IfSome};
-ghost use Rattle.actor_words.specs.Dispatch.{is_loading};
+ghost use Rattle.actor_parts.specs.Dispatch.{is_loading};
 ghost use Rattle.replay_log.specs.WorldProgress.{AreSmall};
 ghost use Rattle.step_core.specs.declared.actor.Place.TheVariants.{Again, Fetch, Look};
 ghost use Rattle.tx_actor.specs.Running.{stage_of};
@@ -11,14 +11,12 @@ ghost use Rattle.driven_turns.specs.Driven.{LeadsOn, told_in};
 ghost use Rattle.driven_turns.specs.Straight.{HasLed, at_place};
 
 use crate::turns::says;
-use actor_words::laws::steps_as_worlds;
-use boxes::Boxed;
+use actor_parts::Boxed;
+use actor_parts::word_laws::steps_as_worlds;
 use replay_log::Base;
 use seq_model::Value;
 use step_core::Place;
-use tx_actor::laws::{
-    copies_by_stage, loads_as_worlds, loads_keep_running, loads_stay_own, seats_as_actors,
-};
+use tx_actor::laws::{copies_by_stage, loads_as_worlds, loads_keep_running, loads_stay_own, seats_as_actors};
 use tx_actor::{Stage, Told, TxActor};
 use tx_table::{Seat, TxTable};
 use vlock_word::LockWord;

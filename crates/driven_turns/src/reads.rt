@@ -1,6 +1,6 @@
 //! The loads of a word that is read, in straight code.
 ghost use Rattle.std.specs.Prelude.{◌≡◌, ◌≢◌, false, IfErr, IfOk, IfSome};
-ghost use Rattle.actor_words.specs.Dispatch.{next_of};
+ghost use Rattle.actor_parts.specs.Dispatch.{next_of};
 ghost use Rattle.tx_actor.specs.Running.{stage_of};
 ghost use Rattle.replay_log.specs.WorldProgress.{AreSmall};
 ghost use Rattle.step_core.specs.declared.actor.Place.TheVariants.{Again, Fetch, Look};
@@ -13,9 +13,8 @@ ghost use Rattle.driven_turns.specs.Straight.{HasLed, LeadsAll, at_place};
 use crate::loads::{load_on, location_to_load};
 use crate::steps;
 use crate::turns::says;
-use actor_words::Next;
-use actor_words::laws::steps_as_worlds;
-use boxes::Boxed;
+use actor_parts::word_laws::steps_as_worlds;
+use actor_parts::{Boxed, Next};
 use gate_turns::laws::turns_keep_own;
 use replay_log::Base;
 use seq_model::Value;

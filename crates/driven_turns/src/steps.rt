@@ -1,7 +1,7 @@
 //! Steps on the words, one after another.
 ghost use Rattle.std.specs.Prelude.{◌≡◌, ◌≢◌, false, true};
 ghost use Rattle.word_machine.specs.Notices as notice;
-ghost use Rattle.actor_words.specs.Dispatch.{next_of, notice_told};
+ghost use Rattle.actor_parts.specs.Dispatch.{next_of, notice_told};
 ghost use Rattle.replay_log.specs.WorldProgress.{AreSmall};
 ghost use Rattle.tx_actor.specs.Running.{stage_of};
 ghost use Rattle.tx_table.specs.Seated.{blocks_in, opening_of};
@@ -10,19 +10,16 @@ ghost use Rattle.gate_turns.specs.Own.{HasOwn};
 ghost use Rattle.driven_turns.specs.Driven.{LeadsOn, is_still, told_in};
 
 use crate::turns::says;
-use actor_words::Next;
-use actor_words::laws::steps_as_worlds;
-use boxes::Boxed;
+use actor_parts::word_laws::steps_as_worlds;
+use actor_parts::{Boxed, Next};
 use gate_turns::laws::turns_keep_own;
 use replay_log::Base;
 use seq_model::Value;
 use step_core::{WordAnswer, WordRefusal};
-use tx_actor::laws::{
-    copies_by_stage, loads_as_worlds, loads_keep_running, loads_stay_own, seats_as_actors,
-};
+use tx_actor::laws::{copies_by_stage, loads_as_worlds, loads_keep_running, loads_stay_own, seats_as_actors};
 use tx_actor::{Stage, Told, TxActor};
 use tx_table::{Seat, TxTable};
-use tx_threads::step_words;
+use tx_turns::step_words;
 
 /// Whether nothing comes of a step on the words at this stage, since it answered nothing.
 #[inline(always)]

@@ -9,8 +9,8 @@ ghost use Rattle.driven_turns.specs.Driven.{LeadsOn, told_in};
 ghost use Rattle.driven_turns.specs.Straight.{HasLed, LeadsAll, at_place, is_storing};
 
 use crate::turns::says;
-use actor_words::laws::steps_as_worlds;
-use boxes::Boxed;
+use actor_parts::Boxed;
+use actor_parts::word_laws::steps_as_worlds;
 use gate_turns::laws::turns_keep_own;
 use replay_log::Base;
 use seq_model::Value;

@@ -1,17 +1,16 @@
 //! One turn of a request.
 ghost use Rattle.std.specs.Prelude.{◌≡◌, ◌≢◌, [], IfOk, OnErr, OnOk, false};
-ghost use Rattle.actor_words.specs.Dispatch.{next_of};
+ghost use Rattle.actor_parts.specs.Dispatch.{next_of};
 ghost use Rattle.tx_actor.specs.Running.{stage_of};
 ghost use Rattle.tx_actor.specs.declared.actor.Told.{Told as Tells};
 ghost use Rattle.tx_table.specs.Seated.{actor as actor_of_seat, opening_of};
 ghost use Rattle.tx_turns.specs.Ties.{Ties, Turned, commits};
 ghost use Rattle.gate_turns.specs.Own.{HasOwn};
 ghost use Rattle.gate_turns.specs.Refused.{IsGivenUp};
-ghost use Rattle.tx_phases.specs.Courses.{latest};
+ghost use Rattle.actor_laws.specs.Courses.{latest};
 ghost use Rattle.driven_turns.specs.Driven.{IsOnGate, MakesReceipt, WantsMemory, as_receipts, told_in};
 
-use actor_words::Next;
-use boxes::Boxed;
+use actor_parts::{Boxed, Next};
 use gate_turns::laws::turns_keep_own;
 use gate_turns::{commit, copy_base, go_home, load_word, put_gate, try_gate};
 use replay_log::Base;

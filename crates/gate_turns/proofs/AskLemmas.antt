@@ -19,9 +19,9 @@ use Rattle.replay_log.specs.Seats as worlds
 use Rattle.replay_log.specs.Seats.{Seat, World}
 use Rattle.replay_log.specs.WorldAnswers.{IsAdmitted, IsCallAdmitted}
 use Rattle.replay_log.specs.Worlds.{ask_at, happens, run}
-use Rattle.atomic_steps.proofs.OneStep.{one_step}
-use Rattle.atomic_steps.proofs.OwnEvents.{own_event}
-use Rattle.actor_words.specs.Requests.{HasNoReads}
+use Rattle.actor_laws.proofs.OneStep.{one_step}
+use Rattle.actor_laws.proofs.OwnEvents.{own_event}
+use Rattle.actor_parts.specs.Requests.{HasNoReads}
 use Rattle.tx_actor.specs.Asks.{Admits}
 use Rattle.tx_actor.specs.Calls.{AsksAt, CanCall, StandsOwn}
 use Rattle.tx_actor.specs.Having.{ReadsStill}
@@ -40,7 +40,7 @@ use Rattle.tx_table.specs.declared.seat.Seat as table
 use Rattle.tx_table.specs.declared.table.TxTable.{TxTable}
 use Rattle.tx_table.specs.Seated as seated
 use Rattle.tx_table.specs.Seated.{acts, opening_of}
-use Rattle.tx_threads.proofs.OwnLemmas.{own_gates}
+use Rattle.tx_turns.proofs.OwnLemmas.{own_gates}
 use Rattle.tx_turns.specs.Asked.{Answers, HasAsked}
 use Rattle.tx_turns.specs.Ties.{Ties, laid_in}
 use Rattle.tx_turns.proofs.AskedLemmas.{acts_taken, no_reads, stays_tied, taken_tied}

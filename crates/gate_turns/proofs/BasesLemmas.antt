@@ -17,18 +17,18 @@ use Rattle.replay_log.proofs.SeatLemmas.{Copy, Differ, Differ-front, StageOk, ga
 use Rattle.seq_model.specs.declared.event.Event.TheVariants.{Step}
 use Rattle.word_machine.specs.Actor.{Actor, Place}
 use Rattle.collection_machine.specs.Boosted.{is_actor, is_committing}
-use Rattle.atomic_steps.specs.Bases.{ShowsBase}
-use Rattle.atomic_steps.specs.Gates.{Tries, Puts}
-use Rattle.atomic_steps.specs.Own.{Alike}
-use Rattle.atomic_steps.specs.Spots.{Gate, Nowhere, Spot, Word}
-use Rattle.atomic_steps.proofs.Alike.{action_same, alike_same, spot_same}
-use Rattle.atomic_steps.proofs.Spots.{one_spot}
-use Rattle.atomic_steps.proofs.Turned.{put_turned, try_turned}
-use Rattle.actor_copies.specs.declared.copies.CopyOf.{CopyOf}
+use Rattle.actor_laws.specs.Bases.{ShowsBase}
+use Rattle.actor_laws.specs.Gates.{Tries, Puts}
+use Rattle.actor_laws.specs.Own.{Alike}
+use Rattle.actor_laws.specs.Spots.{Gate, Nowhere, Spot, Word}
+use Rattle.actor_laws.proofs.Alike.{action_same, alike_same, spot_same}
+use Rattle.actor_laws.proofs.Spots.{one_spot}
+use Rattle.actor_laws.proofs.Turned.{put_turned, try_turned}
+use Rattle.actor_parts.specs.declared.copies.CopyOf.{CopyOf}
 use Rattle.tx_actor.specs.Having.{KeepsFrom, IsWholeOf}
 use Rattle.tx_actor.specs.Running.{stage_of}
-use Rattle.actor_words.specs.Dispatch.{next_of}
-use Rattle.actor_words.specs.declared.next.Next.TheVariants as next
+use Rattle.actor_parts.specs.Dispatch.{next_of}
+use Rattle.actor_parts.specs.declared.next.Next.TheVariants as next
 use Rattle.actor_turns.proofs.GatesLemmas.{has_first}
 use Rattle.tx_actor.specs.declared.actor.Stage as own
 use Rattle.tx_actor.specs.declared.actor.Stage.TheVariants as stage

@@ -14,14 +14,14 @@ use Rattle.replay_log.proofs.SeatLemmas.{gates_of}
 use Rattle.seq_model.specs.declared.event.Event.{Event}
 use Rattle.seq_model.specs.declared.event.Event.TheVariants.{Starve, Step}
 use Rattle.seq_model.specs.declared.event.Notice.TheVariants.{Quiet}
-use Rattle.atomic_steps.specs.Own.{Alike}
-use Rattle.atomic_steps.proofs.OwnEvents.{own_event}
-use Rattle.actor_words.specs.Dispatch.{AreSteps, is_loading, next_of}
-use Rattle.actor_words.specs.Requests.{HasNoReads}
-use Rattle.actor_words.specs.declared.next.Next.TheVariants as next
-use Rattle.actor_copies.specs.Copied.{CopiesFor, CopiesReached}
-use Rattle.actor_copies.specs.Sizes.{SizesCopies}
-use Rattle.actor_words.specs.Blocks.{BlocksView}
+use Rattle.actor_laws.specs.Own.{Alike}
+use Rattle.actor_laws.proofs.OwnEvents.{own_event}
+use Rattle.actor_parts.specs.Dispatch.{AreSteps, is_loading, next_of}
+use Rattle.actor_parts.specs.Requests.{HasNoReads}
+use Rattle.actor_parts.specs.declared.next.Next.TheVariants as next
+use Rattle.actor_parts.specs.Copied.{CopiesFor, CopiesReached}
+use Rattle.actor_parts.specs.Sizes.{SizesCopies}
+use Rattle.actor_parts.specs.Blocks.{BlocksView}
 use Rattle.tx_actor.specs.Copying.{CanCopy, CanCopyAt, HasTaken, HasTakenAt, StepsOn, StepsOnAt}
 use Rattle.tx_actor.specs.Having.{AsksNothing}
 use Rattle.tx_actor.specs.Keeping.{IsRunning, KeepsIn}

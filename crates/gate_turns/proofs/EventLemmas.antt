@@ -11,13 +11,13 @@ use Rattle.replay_log.specs.declared.base.Base.{Base}
 use Rattle.replay_log.specs.Seats.{World, Seat, Stage, Homing, Storing, Ready, Returning, Leaving, Cancelling, acted, actor_of, asks}
 use Rattle.replay_log.specs.Seats.{at_stage, because, seated as put_in}
 use Rattle.replay_log.specs.Worlds.{gives_up, happens, is_leaving, run, starve_at}
-use Rattle.atomic_steps.specs.Own.{SameAfter}
-use Rattle.atomic_steps.specs.Steps.{OnlyOwn}
-use Rattle.atomic_steps.proofs.Alike.{alike_sym}
-use Rattle.atomic_steps.proofs.OneStep.{one_step}
-use Rattle.atomic_steps.proofs.OwnEvents.{own_event}
-use Rattle.actor_words.specs.Dispatch.{is_loading}
-use Rattle.actor_copies.specs.declared.copies.CopyOf.{CopyOf}
+use Rattle.actor_laws.specs.Own.{SameAfter}
+use Rattle.actor_laws.specs.Steps.{OnlyOwn}
+use Rattle.actor_laws.proofs.Alike.{alike_sym}
+use Rattle.actor_laws.proofs.OneStep.{one_step}
+use Rattle.actor_laws.proofs.OwnEvents.{own_event}
+use Rattle.actor_parts.specs.Dispatch.{is_loading}
+use Rattle.actor_parts.specs.declared.copies.CopyOf.{CopyOf}
 use Rattle.tx_actor.specs.Having.{HasCopies, IsWholeOf, KeepsCopies, KeepsFrom}
 use Rattle.tx_actor.specs.Running.{Runs, seat_of, stage_of}
 use Rattle.tx_actor.specs.declared.actor.Stage as own

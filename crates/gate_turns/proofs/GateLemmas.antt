@@ -17,16 +17,16 @@ use Rattle.replay_log.specs.Contents.{Asked}
 use Rattle.replay_log.specs.Seats.{World, Copying, actor_of}
 use Rattle.replay_log.specs.Worlds.{happens, run}
 use Rattle.replay_log.proofs.SeatLemmas.{Differ}
-use Rattle.atomic_steps.specs.Bases.{ShowsBase}
-use Rattle.atomic_steps.specs.Gates.{Puts, Tries}
-use Rattle.atomic_steps.specs.Own.{Alike}
-use Rattle.atomic_steps.specs.Spots.{Gate, Spot, gate_word, number_at}
-use Rattle.atomic_steps.proofs.Alike.{action_same, alike_same}
-use Rattle.atomic_steps.proofs.Guards.{put_allowed, try_allowed}
-use Rattle.atomic_steps.proofs.Turned.{try_turned}
-use Rattle.actor_words.specs.Dispatch.{AreSteps, after_put, after_try, first, is_loading, next_home, next_of}
-use Rattle.actor_words.specs.declared.next.Next.{Next}
-use Rattle.actor_words.specs.declared.next.Next.TheVariants as next
+use Rattle.actor_laws.specs.Bases.{ShowsBase}
+use Rattle.actor_laws.specs.Gates.{Puts, Tries}
+use Rattle.actor_laws.specs.Own.{Alike}
+use Rattle.actor_laws.specs.Spots.{Gate, Spot, gate_word, number_at}
+use Rattle.actor_laws.proofs.Alike.{action_same, alike_same}
+use Rattle.actor_laws.proofs.Guards.{put_allowed, try_allowed}
+use Rattle.actor_laws.proofs.Turned.{try_turned}
+use Rattle.actor_parts.specs.Dispatch.{AreSteps, after_put, after_try, first, is_loading, next_home, next_of}
+use Rattle.actor_parts.specs.declared.next.Next.{Next}
+use Rattle.actor_parts.specs.declared.next.Next.TheVariants as next
 use Rattle.tx_actor.specs.Having.{HasCopies, IsWholeOf, KeepsCopies}
 use Rattle.tx_actor.specs.Keeping.{IsRunning}
 use Rattle.tx_actor.specs.Running.{Does, Runs, notice_of, seat_of, stage_of}

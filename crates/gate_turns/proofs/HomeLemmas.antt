@@ -23,14 +23,14 @@ use Rattle.replay_log.specs.Parts.{kind_of, part}
 use Rattle.replay_log.specs.Seats.{World, Stage, Homing}
 use Rattle.replay_log.specs.Worlds.{happens, run}
 use Rattle.replay_log.proofs.SeatLemmas.{Differ}
-use Rattle.atomic_steps.specs.Bases.{ShowsBase}
-use Rattle.actor_words.specs.Dispatch.{AreSteps, first, next_home, next_of}
-use Rattle.actor_words.specs.declared.next.Next.TheVariants as next
-use Rattle.actor_copies.specs.declared.copies.CopyOf.{CopyOf}
-use Rattle.actor_copies.specs.Kept.{copy_of}
-use Rattle.actor_copies.specs.Logs.{OthersStand, changes_had, locations_had}
-use Rattle.actor_copies.specs.Owns.{IsOwn}
-use Rattle.actor_copies.specs.Staying.{EventsStay, StepStays, Stays}
+use Rattle.actor_laws.specs.Bases.{ShowsBase}
+use Rattle.actor_parts.specs.Dispatch.{AreSteps, first, next_home, next_of}
+use Rattle.actor_parts.specs.declared.next.Next.TheVariants as next
+use Rattle.actor_parts.specs.declared.copies.CopyOf.{CopyOf}
+use Rattle.actor_parts.specs.Kept.{copy_of}
+use Rattle.actor_parts.specs.Logs.{OthersStand, changes_had, locations_had}
+use Rattle.actor_parts.specs.Owns.{IsOwn}
+use Rattle.actor_parts.specs.Staying.{EventsStay, StepStays, Stays}
 use Rattle.tx_actor.specs.Asks.{Stands}
 use Rattle.tx_actor.specs.Dispatch.{IsGoneHome}
 use Rattle.tx_actor.specs.Having.{HasCopies, HasCopiesAt, KeepsFrom, OwnsHomes}

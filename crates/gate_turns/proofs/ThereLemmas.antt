@@ -14,11 +14,11 @@ use Rattle.replay_log.specs.Contents.{Block}
 use Rattle.replay_log.specs.Seats.{World, After}
 use Rattle.replay_log.specs.Worlds.{happens, run}
 use Rattle.replay_log.proofs.SeatLemmas.{Differ}
-use Rattle.atomic_steps.specs.Bases.{ShowsBase}
-use Rattle.atomic_steps.specs.Own.{Alike}
-use Rattle.atomic_steps.proofs.Alike.{alike_sym}
-use Rattle.actor_words.specs.Blocks.{IsLaid}
-use Rattle.actor_words.specs.Dispatch.{next_of}
+use Rattle.actor_laws.specs.Bases.{ShowsBase}
+use Rattle.actor_laws.specs.Own.{Alike}
+use Rattle.actor_laws.proofs.Alike.{alike_sym}
+use Rattle.actor_parts.specs.Blocks.{IsLaid}
+use Rattle.actor_parts.specs.Dispatch.{next_of}
 use Rattle.tx_actor.specs.Having.{HasCopies}
 use Rattle.tx_actor.specs.Running.{Runs, notice_of, stage_of}
 use Rattle.tx_actor.specs.declared.actor.Told.{Told}

@@ -9,18 +9,18 @@ use Rattle.replay_log.specs.declared.base.Base.{Base}
 use Rattle.replay_log.specs.Contents.{Asked}
 use Rattle.replay_log.specs.Seats.{World, Copying, Ready, Stage}
 use Rattle.replay_log.specs.Worlds.{run}
-use Rattle.atomic_steps.specs.Spots.{Gate, Spot, Word, deed_of, number_at, spot_at}
-use Rattle.atomic_steps.specs.Steps.{ready_at}
-use Rattle.atomic_steps.specs.Tells.{tells}
+use Rattle.actor_laws.specs.Spots.{Gate, Spot, Word, deed_of, number_at, spot_at}
+use Rattle.actor_laws.specs.Steps.{ready_at}
+use Rattle.actor_laws.specs.Tells.{tells}
 use Rattle.step_core.specs.Answers.{result_of}
 use Rattle.step_core.specs.Shown as words
 use Rattle.step_core.specs.Sound.{Fits, IsLoad, KeepsRoom}
 use Rattle.step_core.specs.declared.actor.Actor as running
 use Rattle.step_core.specs.declared.answer.WordAnswer.{WordAnswer}
 use Rattle.step_core.specs.declared.answer.WordRefusal.{WordRefusal}
-use Rattle.actor_words.specs.Dispatch.{AreSteps, is_loading, next_of, notice_told}
-use Rattle.actor_words.specs.declared.next.Next.{Next}
-use Rattle.actor_words.specs.declared.next.Next.TheVariants as next
+use Rattle.actor_parts.specs.Dispatch.{AreSteps, is_loading, next_of, notice_told}
+use Rattle.actor_parts.specs.declared.next.Next.{Next}
+use Rattle.actor_parts.specs.declared.next.Next.TheVariants as next
 use Rattle.tx_actor.specs.Having.{HasLoaded, IsWholeOf, KeepsCopies}
 use Rattle.tx_actor.specs.Keeping.{HasHeard, IsRunning}
 use Rattle.tx_actor.specs.Loading.{MayHear}
@@ -44,9 +44,9 @@ use Rattle.tx_table.specs.declared.table.TxTable.{TxTable}
 use Rattle.tx_table.specs.Seated as seated
 use Rattle.tx_table.specs.Seated.{acts, opening_of, out}
 use Rattle.tx_table.specs.Turns.{moved, spot}
-use Rattle.tx_threads.specs.Touches.{StepsWords}
+use Rattle.tx_turns.specs.Touches.{StepsWords}
 use Rattle.tx_turns.specs.Ties.{IsOnWord, Ties, Turned, laid_in}
-use Rattle.tx_turns.proofs.DueLemmas.{clock_left}
+use Rattle.tx_turns.proofs.TurnDueLemmas.{clock_left}
 use Rattle.tx_turns.proofs.FoundLemmas.{learns_found, step_learns_cell, step_tells_cell, tells_found}
 use Rattle.tx_turns.proofs.TurnLemmas.{spot_is_word, tied, word_is_next}
 use Rattle.gate_turns.specs.Bases.{AreBases, ArePrepared, ArePreparedAt, gates_at, slots_of}

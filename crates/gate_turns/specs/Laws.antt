@@ -1,8 +1,8 @@
 -- What is unchanged of a seat's bases over the turns on words, which know nothing of them.
 use Rattle.std.specs.Prelude.{◌≡◌, List, false}
 use Rattle.replay_log.specs.declared.base.Base.{Base}
-use Rattle.actor_words.specs.Dispatch.{is_loading, next_of}
-use Rattle.actor_words.specs.declared.next.Next.TheVariants as next
+use Rattle.actor_parts.specs.Dispatch.{is_loading, next_of}
+use Rattle.actor_parts.specs.declared.next.Next.TheVariants as next
 use Rattle.tx_actor.specs.Having.{KeepsCopies}
 use Rattle.tx_actor.specs.Running.{stage_of}
 use Rattle.tx_actor.specs.declared.actor.Told.{Told}

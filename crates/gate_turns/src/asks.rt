@@ -8,10 +8,9 @@ ghost use Rattle.tx_turns.specs.Asked.{Answers, HasAsked};
 ghost use Rattle.tx_turns.specs.Ties.{Ties};
 ghost use Rattle.gate_turns.specs.Own.{HasOwn};
 
-use actor_copies::copies_stay;
-use actor_copies::laws::calls_as_worlds;
+use actor_parts::copy_laws::calls_as_worlds;
+use actor_parts::{Boxed, copies_stay};
 use actor_turns::laws::events_keep_copies;
-use boxes::Boxed;
 use replay_log::Base;
 use seq_model::{Event, Memory, Request, Value};
 use std::alloc::Global;

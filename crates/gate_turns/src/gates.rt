@@ -1,7 +1,7 @@
 //! Turns on the gates.
 ghost use Rattle.std.specs.Prelude.{◌≡◌, ◌<◌, ◌∷◌, IfOk, OnErr, OnOk, length, slice_index_or};
 ghost use Rattle.seq_model.specs.declared.event.Event.TheVariants.{Starve};
-ghost use Rattle.actor_words.specs.Dispatch.{next_of};
+ghost use Rattle.actor_parts.specs.Dispatch.{next_of};
 ghost use Rattle.tx_actor.specs.Running.{stage_of};
 ghost use Rattle.tx_actor.specs.declared.actor.Told.TheVariants as told;
 ghost use Rattle.tx_table.specs.Seated.{opening_of};
@@ -10,11 +10,9 @@ ghost use Rattle.tx_turns.specs.Ties.{Ties, Turned};
 ghost use Rattle.gate_turns.specs.Own.{HasOwn};
 ghost use Rattle.gate_turns.specs.Refused.{IsGivenUp};
 
-use actor_copies::{copied_as_worlds, copies_go_on, copies_stay, sizes_copies};
+use actor_parts::word_laws::steps_as_worlds;
+use actor_parts::{Boxed, Next, copied_as_worlds, copies_go_on, copies_stay, sizes_copies};
 use actor_turns::laws::events_keep_copies;
-use actor_words::Next;
-use actor_words::laws::steps_as_worlds;
-use boxes::Boxed;
 use replay_log::Base;
 use seq_model::{Event, Memory, Value};
 use std::alloc::Global;

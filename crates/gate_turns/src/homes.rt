@@ -1,6 +1,6 @@
 //! A commit that has written collections, and how its bases are put back.
 ghost use Rattle.std.specs.Prelude.{◌≡◌, ◌<◌, ◌++◌, ◌∷◌, [], IfOk, OnErr, OnOk, length, true};
-ghost use Rattle.actor_words.specs.Dispatch.{next_of};
+ghost use Rattle.actor_parts.specs.Dispatch.{next_of};
 ghost use Rattle.tx_actor.specs.Running.{stage_of};
 ghost use Rattle.tx_table.specs.Seated.{actor as actor_of_seat, opening_of, view};
 ghost use Rattle.tx_turns.specs.Ties.{Ties, Turned};
@@ -8,12 +8,10 @@ ghost use Rattle.gate_turns.specs.Bases.{AreAlike, ArePrepared, OneIsPrepared, g
 ghost use Rattle.gate_turns.specs.Own.{HasOwn};
 
 use crate::gates::first;
-use actor_copies::copies_stay;
-use actor_copies::laws::logs_as_worlds;
+use actor_parts::copy_laws::logs_as_worlds;
+use actor_parts::word_laws::{goes_on_as_worlds, steps_as_worlds};
+use actor_parts::{Boxed, Next, copies_stay};
 use actor_turns::laws::events_keep_copies;
-use actor_words::Next;
-use actor_words::laws::{goes_on_as_worlds, steps_as_worlds};
-use boxes::Boxed;
 use replay_log::Base;
 use seq_model::{Memory, Record, Value};
 use std::alloc::Global;

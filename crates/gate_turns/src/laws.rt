@@ -1,8 +1,8 @@
 //! What is unchanged of a seat's bases over the turns on words of `tx_turns`.
 ghost use Rattle.gate_turns.specs.Laws.{StarvesKeep, WordsKeep};
 
+use actor_parts::word_laws::steps_as_worlds;
 use actor_turns::laws::events_keep_copies;
-use actor_words::laws::steps_as_worlds;
 use seq_model::Value;
 use tx_actor::laws::copies_by_stage;
 

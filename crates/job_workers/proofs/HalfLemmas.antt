@@ -5,7 +5,7 @@
 use Rattle.std.proofs.Common.{◌≡◌, ◌⊎◌, ℕ, List, [], ◌∷◌, ◌++◌, inl, inr, sym, ap, ◌∙◌, subst}
 use Rattle.std.proofs.lemmas.List.{append_assoc}
 use Rattle.seq_model.specs.declared.call.Reply.{Reply}
-use Rattle.jobs.specs.declared.job.Ask.{Ask}
+use Rattle.seq_model.specs.declared.job.Ask.{Ask}
 use Rattle.tx_table.specs.Seated.{actor, view}
 use Rattle.tx_table.specs.Shown.{both_of, left_of, right_of}
 use Rattle.tx_table.specs.declared.table.TxTable.{TxTable}

@@ -15,13 +15,13 @@ use Rattle.std.proofs.lemmas.List.Sums.{sum_by-append, sum_by_more}
 use Rattle.std.proofs.Math.Seq.{take-length}
 use Rattle.seq_model.specs.declared.call.Reply.{Reply}
 use Rattle.seq_model.specs.declared.record.Record.{Record}
-use Rattle.jobs.specs.declared.job.Ask.{Ask}
+use Rattle.seq_model.specs.declared.job.Ask.{Ask}
 use Rattle.tx_table.specs.Seated.{actor, view}
 use Rattle.tx_table.specs.declared.table.TxTable.{TxTable}
 use Rattle.tx_table.specs.declared.view.Turn.{Turn}
 use Rattle.tx_engine.specs.Requests.{KeepsReceipts}
 use Rattle.tx_engine.specs.declared.seats.TxSeat.{TxSeat}
-use Rattle.jobs.specs.declared.causes.LastAbort.{LastAbort}
+use Rattle.seq_model.specs.declared.causes.LastAbort.{LastAbort}
 use Rattle.job_workers.specs.declared.report.Report.{Report}
 use Rattle.job_workers.specs.declared.tree.Tree.{Tree, Taken, Leaf, Both'}
 use Rattle.job_workers.specs.Reports.{AreTaken, IsReportOf, IsTreeOf, Reports, jobs_in, jobs_of, numbered}

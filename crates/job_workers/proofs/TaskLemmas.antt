@@ -9,9 +9,9 @@ use Rattle.std.proofs.lemmas.List.Elements.{All-append, All-cons, All-nil, All-w
 use Rattle.std.proofs.Math.Seq.{take-length}
 use Rattle.seq_model.specs.declared.call.Reply.{Reply}
 use Rattle.seq_model.specs.declared.record.Record.{Record}
-use Rattle.jobs.specs.declared.job.Ask.{Ask}
-use Rattle.jobs.specs.declared.causes.LastAbort.{LastAbort}
-use Rattle.jobs.specs.declared.causes.LastAbort.TheVariants.{NotStarted}
+use Rattle.seq_model.specs.declared.job.Ask.{Ask}
+use Rattle.seq_model.specs.declared.causes.LastAbort.{LastAbort}
+use Rattle.seq_model.specs.declared.causes.LastAbort.TheVariants.{NotStarted}
 use Rattle.tx_table.specs.declared.table.TxTable.{TxTable}
 use Rattle.tx_table.specs.Seated.{actor, view}
 use Rattle.tx_table.specs.declared.view.Turn.{Turn}

@@ -7,11 +7,11 @@ use Rattle.seq_model.specs.declared.call.Reply.{Reply}
 use Rattle.seq_model.specs.declared.record.Record.{Record}
 use Rattle.seq_model.specs.declared.refusal.Refusal.{Refusal}
 use Rattle.replay_log.specs.Seats.{Ended}
-use Rattle.jobs.specs.declared.job.Ask.{Ask}
+use Rattle.seq_model.specs.declared.job.Ask.{Ask}
 use Rattle.tx_table.specs.declared.seat.Seat.{Seat}
 use Rattle.tx_table.specs.declared.table.TxTable.{TxTable}
 use Rattle.tx_table.specs.Seated.{actor, opening_of, view}
-use Rattle.tx_phases.specs.Phases.{Rests}
+use Rattle.actor_laws.specs.Phases.{Rests}
 use Rattle.tx_engine.specs.Ready.{standing}
 use Rattle.tx_engine.specs.Requests.{KeepsReceipts}
 use Rattle.tx_engine.proofs.RequestLemmas.{then_keeps}
@@ -20,8 +20,8 @@ use Rattle.tx_engine.proofs.GainLemmas.{aborts_then, refused_gains}
 use Rattle.tx_engine.specs.Attempts.{Aborts, AttemptsTo}
 use Rattle.tx_engine.specs.declared.attempts.Attempt.{Attempt}
 use Rattle.tx_engine.specs.declared.attempts.Attempt.TheVariants.{Committed, GivenUp}
-use Rattle.jobs.specs.declared.causes.LastAbort.{LastAbort}
-use Rattle.jobs.specs.declared.causes.LastAbort.TheVariants as last
+use Rattle.seq_model.specs.declared.causes.LastAbort.{LastAbort}
+use Rattle.seq_model.specs.declared.causes.LastAbort.TheVariants as last
 use Rattle.job_workers.specs.Tries.{AreInVain, ComesAfter, HasNoReceipt, HasReceipt, IsTransient}
 
 module _ {V : Type 0} (asks : List (Reply V) → Ask V → Type 0) (t : TxTable V) where

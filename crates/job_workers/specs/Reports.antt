@@ -5,15 +5,15 @@ use Rattle.std.specs.Vec.{vec_capacity}
 use Rattle.std.specs.declared.alloc.Global.{Global}
 use Rattle.seq_model.specs.declared.call.Reply.{Reply}
 use Rattle.seq_model.specs.declared.record.Record.{Record}
-use Rattle.jobs.specs.declared.job.Ask.{Ask}
-use Rattle.tx_phases.specs.Phases.{Rests}
+use Rattle.seq_model.specs.declared.job.Ask.{Ask}
+use Rattle.actor_laws.specs.Phases.{Rests}
 use Rattle.tx_table.specs.Seated.{actor, opening_of, view}
 use Rattle.tx_table.specs.declared.table.TxTable.{TxTable}
 use Rattle.tx_table.specs.declared.view.Turn.{Turn}
 use Rattle.driven_turns.specs.Begins.{begins_of}
 use Rattle.tx_engine.specs.Ready.{standing}
 use Rattle.tx_engine.specs.Requests.{HasAborted, IsOpen, KeepsReceipts}
-use Rattle.jobs.specs.declared.causes.LastAbort.{LastAbort}
+use Rattle.seq_model.specs.declared.causes.LastAbort.{LastAbort}
 use Rattle.job_workers.specs.declared.report.Draft.{Draft}
 use Rattle.job_workers.specs.declared.report.Report.{Report}
 use Rattle.job_workers.specs.declared.tree.Tree.{Tree}

@@ -3,15 +3,15 @@ use Rattle.std.specs.Prelude.{◌≡◌, ◌⊎◌, ℕ, ◌+◌, ◌<◌, ◌�
 use Rattle.std.specs.Vec.{vec_capacity}
 use Rattle.seq_model.specs.declared.call.Reply.{Reply}
 use Rattle.seq_model.specs.declared.record.Record.{Record}
-use Rattle.jobs.specs.declared.job.Ask.{Ask}
+use Rattle.seq_model.specs.declared.job.Ask.{Ask}
 use Rattle.tx_table.specs.declared.table.TxTable.{TxTable}
 use Rattle.tx_table.specs.Seated.{actor, opening_of, view}
 use Rattle.tx_table.specs.declared.view.Turn.{Turn}
 use Rattle.tx_engine.specs.declared.seats.TxSeat.{TxSeat}
-use Rattle.tx_phases.specs.Phases.{Rests}
+use Rattle.actor_laws.specs.Phases.{Rests}
 use Rattle.tx_engine.specs.Ready.{IsReady, standing}
-use Rattle.jobs.specs.declared.causes.LastAbort.{LastAbort}
-use Rattle.jobs.specs.declared.causes.LastAbort.TheVariants.{NotStarted}
+use Rattle.seq_model.specs.declared.causes.LastAbort.{LastAbort}
+use Rattle.seq_model.specs.declared.causes.LastAbort.TheVariants.{NotStarted}
 use Rattle.job_workers.specs.declared.tasks.Task.{Task}
 use Rattle.job_workers.specs.Tries.{HasNoReceipt, HasReceipt}
 

@@ -5,7 +5,7 @@ use Rattle.seq_model.specs.declared.record.Record.{Record}
 use Rattle.seq_model.specs.declared.refusal.Refusal.{Refusal}
 use Rattle.seq_model.specs.declared.refusal.Refusal.TheVariants.{Moved, Busy, Stale, GateBusy, Invalid}
 use Rattle.replay_log.specs.Seats.{Ended}
-use Rattle.jobs.specs.declared.job.Ask.{Ask}
+use Rattle.seq_model.specs.declared.job.Ask.{Ask}
 use Rattle.tx_table.specs.declared.seat.Seat.{Seat}
 use Rattle.tx_table.specs.declared.table.TxTable.{TxTable}
 use Rattle.tx_table.specs.Seated.{actor, opening_of, view}
@@ -14,8 +14,8 @@ use Rattle.tx_engine.specs.Attempts.{Aborts, AttemptsTo}
 use Rattle.tx_engine.specs.Jobs.{IsWholeJob}
 use Rattle.tx_engine.specs.declared.attempts.Attempt.{Attempt}
 use Rattle.tx_engine.specs.declared.attempts.Attempt.TheVariants.{Committed, GivenUp}
-use Rattle.jobs.specs.declared.causes.LastAbort.{LastAbort}
-use Rattle.jobs.specs.declared.causes.LastAbort.TheVariants as last
+use Rattle.seq_model.specs.declared.causes.LastAbort.{LastAbort}
+use Rattle.seq_model.specs.declared.causes.LastAbort.TheVariants as last
 
 -- others stood in the way
 abbrev pub IsTransient : Refusal → Type 0

@@ -8,8 +8,7 @@ ghost use Rattle.job_workers.specs.Trees.{AreOthers, CanRun, ComesBack, IsFresh,
 
 use crate::priority::Priority;
 use crate::tree::Tree;
-use jobs::Job;
-use seq_model::{ACTOR_LIMIT, Value};
+use seq_model::{ACTOR_LIMIT, Job, Value};
 use std::snapshot::Snapshot;
 use std::sync::Wait;
 use std::sync::atomic::{AtomicBool, Ordering};

@@ -13,7 +13,7 @@ mod tasks;
 mod tree;
 mod tries;
 
-pub use jobs::LastAbort;
+pub use seq_model::LastAbort;
 pub use report::Report;
 pub use run::{run_workers, run_workers_owned};
 pub use tries::retry;

@@ -6,8 +6,7 @@ ghost use Rattle.job_workers.specs.Trees.{AreOthers, IsFresh, leaves, works};
 
 use crate::tasks::Task;
 use crate::tree::Tree;
-use jobs::Job;
-use seq_model::{Memory, Value};
+use seq_model::{Job, Memory, Value};
 use std::alloc::Global;
 
 impl<V: Value, J: Job<V> + Drop> Task<V, J> {

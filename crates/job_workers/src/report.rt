@@ -5,8 +5,7 @@ ghost use Rattle.job_workers.specs.Trees.{lists_of, missed_of};
 ghost use Rattle.job_workers.specs.Reports.{HasRoomFor, jobs_in};
 
 use crate::tree::Tree;
-use jobs::{Job, LastAbort};
-use seq_model::{Items, Memory, Record, Value};
+use seq_model::{Items, Job, LastAbort, Memory, Record, Value};
 use std::alloc::Global;
 
 /// What comes of a run of workers.

@@ -2,7 +2,7 @@
 ghost use Rattle.std.specs.Prelude.{◌≡◌, ◌≤◌, IfOk, OnErr, length};
 ghost use Rattle.std.specs.Thread.{IsSend, IsSync};
 ghost use Rattle.tx_table.specs.Seated.{opening_of, view};
-ghost use Rattle.tx_phases.specs.Phases.{Rests};
+ghost use Rattle.actor_laws.specs.Phases.{Rests};
 ghost use Rattle.tx_engine.specs.Ready.{IsReady, standing};
 ghost use Rattle.job_workers.specs.Reports.{HasNotRun, HasRoomFor, HasRun, IsReportOf, IsTreeOf, jobs_of};
 
@@ -12,8 +12,7 @@ use crate::priority::Priority;
 use crate::report::{Draft, Report};
 use crate::tree::Tree;
 use core::mem::replace_with;
-use jobs::Job;
-use seq_model::{ACTOR_LIMIT, Memory, Value};
+use seq_model::{ACTOR_LIMIT, Job, Memory, Value};
 use std::alloc::Global;
 use std::sync::Wait;
 use std::thread::Threads;

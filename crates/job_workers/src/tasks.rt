@@ -6,8 +6,7 @@ ghost use Rattle.job_workers.specs.Tasks.{Gains, GetsJoined, HasRoom, IsDone, Is
 
 use crate::priority::{Priority, Waiting};
 use crate::tries::retry_in;
-use jobs::{Job, LastAbort};
-use seq_model::{Record, Value};
+use seq_model::{Job, LastAbort, Record, Value};
 use tx_engine::{Pause, TxSeat};
 use tx_table::TxTable;
 

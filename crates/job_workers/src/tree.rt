@@ -3,8 +3,7 @@ ghost use Rattle.std.specs.Prelude.{◌≡◌, ◌≤◌, []};
 ghost use Rattle.job_workers.specs.Trees.{AreLeft, AreOthers, IsFresh, gained, leaves, works};
 
 use crate::tasks::Task;
-use jobs::Job;
-use seq_model::{ACTOR_LIMIT, Value};
+use seq_model::{ACTOR_LIMIT, Job, Value};
 
 /// The lists of jobs of some workers, halved and halved again.
 #[derive(Drop)]

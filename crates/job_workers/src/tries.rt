@@ -1,13 +1,12 @@
 //! Attempts of a job, up to a receipt.
 ghost use Rattle.std.specs.Prelude.{◌≡◌, ◌≤◌, ◌↔◌, IfErr, IfOk, IsTrue};
 ghost use Rattle.tx_table.specs.Seated.{opening_of};
-ghost use Rattle.tx_phases.specs.Phases.{Rests};
+ghost use Rattle.actor_laws.specs.Phases.{Rests};
 ghost use Rattle.tx_engine.specs.Ready.{IsReady, standing};
 ghost use Rattle.job_workers.specs.Tries.{HasReceipt, HasNoReceipt, IsTransient};
 
 use crate::priority::{Priority, Waiting};
-use jobs::{Job, LastAbort};
-use seq_model::{Record, Refusal, Value};
+use seq_model::{Job, LastAbort, Record, Refusal, Value};
 use std::hint::spin_loop;
 use std::thread::yield_now;
 use tx_engine::{Attempt, Pause, TxSeat, attempt_with};

@@ -1,10 +1,8 @@
 //! What actions answer and what tables hold, as text.
-use jobs::LastAbort;
-use seq_model::Refusal;
+use seq_model::{LastAbort, Refusal};
 use std::fmt::Write;
 use text_formats::{Line, print_sessions};
-use vac_balance::is_balanced_by_tally;
-use vac_model::{ActionReply, Kind, Tables, Ticket};
+use vac_model::{ActionReply, Kind, Tables, Ticket, is_balanced_by_tally};
 
 /// Prints an answer in the line of its row.
 pub fn say(text: &mut String, answer: &str) -> Result<(), Refusal> {

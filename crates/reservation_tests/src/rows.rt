@@ -10,7 +10,7 @@ use std::fmt::Write;
 use std::mem;
 use vac_model::{ActionRefusal, Tables};
 
-/// The rows, each with its answer. How many have one is said at the end. An empty row and one that begins with `#` have none. What is
+/// The rows, each with its answer. An empty row and one that begins with `#` have none. What is
 /// refused is answered by the refusal.
 ///
 /// - `empty` opens tables that hold nothing, in the place of those before. `next 9` opens tables with one car of one unit, where 9 is
@@ -29,26 +29,7 @@ use vac_model::{ActionRefusal, Tables};
 ///   `printed NUMBERS: TEXT` makes its sessions, which commit with these numbers: what is printed.
 /// - `drawn SEED WORKER OPTIONS`: the sessions of a worker. The options are clients, queries, the share of the ids, relations,
 ///   transactions and the share of the reservations.
-pub fn answer_all(alloc: Global, rows: &str) -> Result<String, Memory> {
-    let mut text = String::new(alloc);
-    answer_each(&mut text, rows)?;
-    let count = count_of(rows);
-    writeln!(text, "rows {count}")?;
-    Ok(text)
-}
-
-// How many of the rows have an answer.
-fn count_of(rows: &str) -> u64 {
-    let mut count = 0u64;
-    for row in rows.lines() {
-        if is_asked(row) {
-            count = count.saturating_add(1);
-        }
-    }
-    count
-}
-
-fn answer_each(text: &mut String, rows: &str) -> Result<(), Memory> {
+pub fn answer_rows(text: &mut String, rows: &str) -> Result<(), Memory> {
     let mut tables = Tables::new(*text.allocator());
     let answered = answer_lines(text, &mut tables, rows);
     drop(tables);

@@ -2,13 +2,13 @@
 use Rattle.std.specs.Prelude.{◌≡◌, ◌<◌, ℕ, List, [], ◌∷◌, ◌++◌, Ok, Err, length, map, ⊤}
 use Rattle.workers.specs.Deals.{AreDealt}
 use Rattle.seq_model.specs.declared.record.Record.{Record}
-use Rattle.jobs.specs.declared.job.Ask.TheVariants as ask
-use Rattle.jobs.specs.Programs.{after, asked, replies_of}
+use Rattle.seq_model.specs.declared.job.Ask.TheVariants as ask
+use Rattle.seq_model.specs.Programs.{after, asked, replies_of}
 use Rattle.vac_model.specs.declared.action.Action.{Action}
 use Rattle.vac_model.specs.Holdings.{Holdings}
 use Rattle.client_sessions.specs.declared.entry.Entry.{Entry}
 use Rattle.client_sessions.specs.Sessions.{session}
-use Rattle.jobs.specs.declared.causes.LastAbort.{LastAbort}
+use Rattle.seq_model.specs.declared.causes.LastAbort.{LastAbort}
 use Rattle.job_workers.specs.Tasks.{Outcome, missed_in, receipts_in}
 use Rattle.text_formats.specs.declared.session_print.Line.{Line}
 use Rattle.session_text.specs.declared.printing.SessionRun.{SessionRun}

@@ -2,7 +2,7 @@
 ghost use Rattle.std.specs.Prelude.{◌≡◌, ◌+◌, ◌++◌, ◌≤◌, ◌↔◌, ℕ, List, IfOk, IsTrue, length};
 ghost use Rattle.workers.specs.Deals.{AreDealtLike, in_lists};
 ghost use Rattle.client_sessions.specs.declared.entry.Entry.{Entry as AnEntry};
-ghost use Rattle.jobs.specs.declared.causes.LastAbort.{LastAbort as ACause};
+ghost use Rattle.seq_model.specs.declared.causes.LastAbort.{LastAbort as ACause};
 ghost use Rattle.job_workers.specs.Tasks.{Outcome, missed_in, receipts_in};
 ghost use Rattle.served_runs.specs.Lines.{AreLinesOf, IsLineOf};
 ghost use Rattle.served_runs.specs.Unread.{AreAllUnread, AreUnread, HasAllUnread, HasNext, HasUnread, IsFirst, IsNext, IsTold};

@@ -11,8 +11,8 @@ use Rattle.seq_model.specs.declared.refusal.Refusal.TheVariants.{Moved, Busy, St
 use Rattle.seq_model.specs.declared.refusal.Refusal.TheVariants.{NoSuch, TooLong, Ahead, NotIdle, NoTransaction, BadText}
 use Rattle.seq_model.specs.Runs.{IsRun, after_run}
 use Rattle.seq_model.specs.Contents.{Contents}
-use Rattle.jobs.specs.Programs.{Answers, Follows, after, replies_of}
-use Rattle.jobs.proofs.ProgramLemmas.{follows_after}
+use Rattle.seq_model.specs.Programs.{Answers, Follows, after, replies_of}
+use Rattle.seq_model.proofs.ProgramLemmas.{follows_after}
 use Rattle.vac_model.specs.declared.action.Action.{Action}
 use Rattle.vac_model.specs.declared.action.ActionReply.{ActionReply}
 use Rattle.vac_model.specs.Balanced.{IsBalanced}

@@ -1,7 +1,7 @@
 -- Receipts of sessions, and the lines that are printed for them.
 use Rattle.std.specs.Prelude.{◌≡◌, List, [], ◌∷◌, ⊤}
 use Rattle.seq_model.specs.declared.record.Record.{Record}
-use Rattle.jobs.specs.Programs.{Answers, after, replies_of}
+use Rattle.seq_model.specs.Programs.{Answers, after, replies_of}
 use Rattle.vac_model.specs.declared.action.Action.{Action}
 use Rattle.vac_model.specs.declared.action.ActionReply.{ActionReply}
 use Rattle.client_sessions.specs.declared.entry.Entry.{Entry}

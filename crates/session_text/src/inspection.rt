@@ -6,8 +6,7 @@ use crate::fault::RunFault;
 use client_sessions::Entry;
 use seq_model::{Record, State, audit};
 use std::alloc::Global;
-use vac_balance::is_balanced_by_tally;
-use vac_model::Tables;
+use vac_model::{Tables, is_balanced_by_tally};
 
 /// Audits receipts, and checks whether the tables that their sessions leave are balanced.
 ///

@@ -1,7 +1,7 @@
 //! A line for each session.
 ghost use Rattle.std.specs.Prelude.{◌≡◌, IfOk};
-ghost use Rattle.jobs.specs.Programs.{after, asked, replies_of};
-ghost use Rattle.jobs.specs.declared.job.Ask.TheVariants as ask;
+ghost use Rattle.seq_model.specs.Programs.{after, asked, replies_of};
+ghost use Rattle.seq_model.specs.declared.job.Ask.TheVariants as ask;
 ghost use Rattle.vac_model.specs.Actions.{IsAllowed};
 ghost use Rattle.client_sessions.specs.Sessions.{session as plan_of};
 ghost use Rattle.session_text.specs.Receipts.{AreLines, AreReceipts, IsLine};

@@ -9,13 +9,13 @@ use Rattle.replay_log.specs.declared.base.Base.{Base}
 use Rattle.replay_log.specs.Contents as contents
 use Rattle.replay_log.specs.Guards.{IsAllowed, step_action}
 use Rattle.replay_log.specs.Worlds.{World, acted, actor_of, happens}
-use Rattle.atomic_steps.proofs.OneStep.{one_step}
-use Rattle.actor_words.specs.Blocks.{BlocksView, IsLaid}
-use Rattle.actor_words.specs.Dispatch.{AreSteps, next_of}
-use Rattle.actor_words.specs.Requests.{HasNoReads}
-use Rattle.actor_words.specs.declared.next.Next.TheVariants as next
-use Rattle.actor_copies.specs.Copied.{CopiesFor, CopiesReached}
-use Rattle.actor_copies.specs.Sizes.{SizesCopies}
+use Rattle.actor_laws.proofs.OneStep.{one_step}
+use Rattle.actor_parts.specs.Blocks.{BlocksView, IsLaid}
+use Rattle.actor_parts.specs.Dispatch.{AreSteps, next_of}
+use Rattle.actor_parts.specs.Requests.{HasNoReads}
+use Rattle.actor_parts.specs.declared.next.Next.TheVariants as next
+use Rattle.actor_parts.specs.Copied.{CopiesFor, CopiesReached}
+use Rattle.actor_parts.specs.Sizes.{SizesCopies}
 use Rattle.tx_actor.specs.Copying.{CanCopyAt, HasTakenAt, StepsOnAt}
 use Rattle.tx_actor.specs.Having.{HasCopies}
 use Rattle.tx_actor.specs.Keeping.{IsRunning}

@@ -16,15 +16,15 @@ use Rattle.replay_log.specs.WorldProgress.{whose}
 use Rattle.replay_log.specs.Worlds.{World, Stage}
 use Rattle.replay_log.specs.Worlds.{Copying, Loading, happens, opened, run}
 use Rattle.replay_log.proofs.SeatLemmas.{gates_of}
-use Rattle.atomic_steps.specs.Gates.{Puts}
-use Rattle.atomic_steps.specs.Spots.{Gate, deed_of, spot_at}
-use Rattle.atomic_steps.specs.Steps.{atomic_action}
-use Rattle.atomic_steps.proofs.Alike.{alike_same}
-use Rattle.atomic_steps.proofs.Guards.{put_allowed}
-use Rattle.atomic_steps.proofs.Spots.{one_spot}
-use Rattle.atomic_steps.proofs.Turned.{put_turned}
-use Rattle.actor_words.specs.Dispatch.{is_loading, next_of}
-use Rattle.actor_words.specs.declared.next.Next.TheVariants as next
+use Rattle.actor_laws.specs.Gates.{Puts}
+use Rattle.actor_laws.specs.Spots.{Gate, deed_of, spot_at}
+use Rattle.actor_laws.specs.Steps.{atomic_action}
+use Rattle.actor_laws.proofs.Alike.{alike_same}
+use Rattle.actor_laws.proofs.Guards.{put_allowed}
+use Rattle.actor_laws.proofs.Spots.{one_spot}
+use Rattle.actor_laws.proofs.Turned.{put_turned}
+use Rattle.actor_parts.specs.Dispatch.{is_loading, next_of}
+use Rattle.actor_parts.specs.declared.next.Next.TheVariants as next
 use Rattle.tx_actor.specs.Running.{Runs, stage_of}
 use Rattle.tx_actor.specs.declared.actor.TxActor.{TxActor}
 use Rattle.world_table.specs.declared.table.Table.{Table}

@@ -16,18 +16,18 @@ use Rattle.replay_log.specs.Contents.{Block, HaveStripes, block_of}
 use Rattle.replay_log.specs.Worlds.{World}
 use Rattle.replay_log.specs.Worlds.{happens, opened}
 use Rattle.replay_log.specs.Worlds.{run}
-use Rattle.atomic_steps.specs.Bases.{IsBaseOf, log_changes, log_locations}
-use Rattle.atomic_steps.specs.Gates.{GoesHome}
+use Rattle.actor_laws.specs.Bases.{IsBaseOf, log_changes, log_locations}
+use Rattle.actor_laws.specs.Gates.{GoesHome}
 use Rattle.tx_actor.specs.Asks.{Stands}
-use Rattle.actor_words.specs.Dispatch.{AreSteps, next_of}
+use Rattle.actor_parts.specs.Dispatch.{AreSteps, next_of}
 use Rattle.tx_actor.specs.Dispatch.{IsGoneHome}
-use Rattle.actor_copies.specs.Logs.{changes_had, locations_had}
-use Rattle.actor_copies.specs.Kept.{copy_of}
+use Rattle.actor_parts.specs.Logs.{changes_had, locations_had}
+use Rattle.actor_parts.specs.Kept.{copy_of}
 use Rattle.tx_actor.specs.Running.{stage_of}
 use Rattle.tx_actor.specs.declared.actor.Stage as own
 use Rattle.tx_actor.specs.declared.actor.Told.{Told}
 use Rattle.tx_actor.specs.declared.actor.TxActor.{TxActor}
-use Rattle.actor_words.specs.declared.next.Next.TheVariants as next
+use Rattle.actor_parts.specs.declared.next.Next.TheVariants as next
 use Rattle.world_table.specs.Tables.{HasTable}
 use Rattle.world_table.specs.declared.table.Table.{Table}
 use Rattle.step_world.specs.Homes.{IsHomeTurn, MayGoHome}

@@ -11,18 +11,18 @@ use Rattle.seq_model.specs.Contents.{Contents}
 use Rattle.seq_model.specs.declared.event.Event.TheVariants.{Step}
 use Rattle.collection_machine.specs.Boosted.{is_actor}
 use Rattle.replay_log.specs.Worlds.{World, Stage, Homing, happens, opened, run}
-use Rattle.atomic_steps.specs.Gates.{GoesHome}
-use Rattle.atomic_steps.proofs.Alike.{alike_same}
-use Rattle.atomic_steps.proofs.Guards.{home_allowed}
-use Rattle.atomic_steps.proofs.Turned.{home_turned}
-use Rattle.actor_words.specs.Blocks.{BlocksView}
-use Rattle.actor_words.specs.Dispatch.{AreSteps, next_of}
-use Rattle.actor_words.specs.declared.next.Next.TheVariants as next
-use Rattle.actor_copies.specs.declared.copies.CopyOf.{CopyOf}
-use Rattle.actor_copies.specs.Kept.{copy_of}
-use Rattle.actor_copies.specs.Logs.{OthersStand}
-use Rattle.actor_copies.specs.Owns.{IsOwn}
-use Rattle.actor_copies.specs.Staying.{EventsStay, Stays, StepStays}
+use Rattle.actor_laws.specs.Gates.{GoesHome}
+use Rattle.actor_laws.proofs.Alike.{alike_same}
+use Rattle.actor_laws.proofs.Guards.{home_allowed}
+use Rattle.actor_laws.proofs.Turned.{home_turned}
+use Rattle.actor_parts.specs.Blocks.{BlocksView}
+use Rattle.actor_parts.specs.Dispatch.{AreSteps, next_of}
+use Rattle.actor_parts.specs.declared.next.Next.TheVariants as next
+use Rattle.actor_parts.specs.declared.copies.CopyOf.{CopyOf}
+use Rattle.actor_parts.specs.Kept.{copy_of}
+use Rattle.actor_parts.specs.Logs.{OthersStand}
+use Rattle.actor_parts.specs.Owns.{IsOwn}
+use Rattle.actor_parts.specs.Staying.{EventsStay, Stays, StepStays}
 use Rattle.tx_actor.specs.Having.{HasCopies, HasCopiesAt, KeepsFrom, OwnsHomes}
 use Rattle.tx_actor.specs.Running.{Runs, stage_of}
 use Rattle.tx_actor.specs.declared.actor.Stage as own

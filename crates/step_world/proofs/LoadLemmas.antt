@@ -3,14 +3,14 @@
 use Rattle.std.proofs.Common.{◌≡◌, ℕ, true, Option, Result, sym, ◌∙◌}
 use Rattle.seq_model.specs.declared.event.Event.TheVariants.{Step}
 use Rattle.replay_log.specs.Worlds.{happens, moves}
-use Rattle.atomic_steps.proofs.OneStep.{one_step}
+use Rattle.actor_laws.proofs.OneStep.{one_step}
 use Rattle.step_core.specs.Sound.{Fits, IsLoad, KeepsRoom}
 use Rattle.step_core.specs.declared.actor.Actor as running
 use Rattle.step_core.specs.declared.answer.WordAnswer.{WordAnswer}
 use Rattle.step_core.specs.declared.answer.WordRefusal.{WordRefusal}
-use Rattle.actor_words.specs.Blocks.{BlocksView}
-use Rattle.actor_words.specs.Dispatch.{AreSteps, is_loading, notice_told}
-use Rattle.actor_words.specs.declared.next.Next.TheVariants as next
+use Rattle.actor_parts.specs.Blocks.{BlocksView}
+use Rattle.actor_parts.specs.Dispatch.{AreSteps, is_loading, notice_told}
+use Rattle.actor_parts.specs.declared.next.Next.TheVariants as next
 use Rattle.tx_actor.specs.Having.{HasLoaded}
 use Rattle.tx_actor.specs.Keeping.{HasHeard, IsRunning}
 use Rattle.tx_actor.specs.Loading.{MayHear}

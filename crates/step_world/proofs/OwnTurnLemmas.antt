@@ -5,14 +5,14 @@ use Rattle.seq_model.specs.declared.event.Event.TheVariants.{Ask, Starve, Step}
 use Rattle.seq_model.specs.declared.event.Request.{Request}
 use Rattle.replay_log.specs.Contents.{Asked}
 use Rattle.replay_log.specs.Worlds.{Copying, ask_at, happens}
-use Rattle.atomic_steps.proofs.Others.{others}
-use Rattle.actor_words.specs.Blocks.{BlocksView}
-use Rattle.actor_words.specs.Dispatch.{is_loading}
-use Rattle.atomic_steps.proofs.OneStep.{one_step}
+use Rattle.actor_laws.proofs.Others.{others}
+use Rattle.actor_parts.specs.Blocks.{BlocksView}
+use Rattle.actor_parts.specs.Dispatch.{is_loading}
+use Rattle.actor_laws.proofs.OneStep.{one_step}
 use Rattle.world_table.specs.declared.table.Table.{Table}
 use Rattle.world_table.proofs.TableLemmas.{still_has}
-use Rattle.actor_copies.specs.Copied.{BeginsWithNothing}
-use Rattle.actor_copies.specs.Staying.{EventsStay}
+use Rattle.actor_parts.specs.Copied.{BeginsWithNothing}
+use Rattle.actor_parts.specs.Staying.{EventsStay}
 use Rattle.tx_actor.specs.Calls.{AsksAt}
 use Rattle.tx_actor.specs.Having.{KeepsCopies, ReadsStill}
 use Rattle.tx_actor.specs.Running.{seat_of, stage_of}

@@ -24,8 +24,8 @@ use Rattle.replay_log.proofs.TraceLemmas.{asked_adds, starved_adds, steps_end}
 use Rattle.step_core.specs.CellSteps.{Grows}
 use Rattle.step_core.specs.Sound.{owed}
 use Rattle.step_core.specs.declared.cells.Cells.{Cells}
-use Rattle.actor_words.specs.Blocks.{BlocksView, IsLaid}
-use Rattle.actor_words.specs.Dispatch.{first, is_loading, next_home, next_of}
+use Rattle.actor_parts.specs.Blocks.{BlocksView, IsLaid}
+use Rattle.actor_parts.specs.Dispatch.{first, is_loading, next_home, next_of}
 use Rattle.tx_actor.specs.Asks.{Stands}
 use Rattle.tx_actor.specs.Calls.{AsksAt}
 use Rattle.tx_actor.specs.Having.{HasCopies}
@@ -36,7 +36,7 @@ use Rattle.tx_actor.specs.declared.actor.Stage as own
 use Rattle.tx_actor.specs.declared.actor.Stage.TheVariants as stage
 use Rattle.tx_actor.specs.declared.actor.Told.{Told}
 use Rattle.tx_actor.specs.declared.actor.TxActor.{TxActor}
-use Rattle.actor_words.specs.declared.next.Next.TheVariants as next
+use Rattle.actor_parts.specs.declared.next.Next.TheVariants as next
 use Rattle.world_table.specs.Openings.{HasShape}
 use Rattle.world_table.specs.declared.table.Table.{Table}
 use Rattle.step_world.specs.declared.parts.Parts.{Parts}

@@ -13,10 +13,10 @@ use Rattle.replay_log.specs.Contents.{Block, first_of}
 use Rattle.replay_log.specs.Parts.{kind_of, part}
 use Rattle.replay_log.specs.Worlds.{World}
 use Rattle.step_core.specs.CellSteps.{AreCells}
-use Rattle.atomic_steps.specs.Bases.{ShowsBase}
-use Rattle.actor_copies.specs.Kept.{copy_of}
-use Rattle.actor_copies.specs.Logs.{changes_had}
-use Rattle.actor_copies.specs.declared.copies.CopyOf.{CopyOf}
+use Rattle.actor_laws.specs.Bases.{ShowsBase}
+use Rattle.actor_parts.specs.Kept.{copy_of}
+use Rattle.actor_parts.specs.Logs.{changes_had}
+use Rattle.actor_parts.specs.declared.copies.CopyOf.{CopyOf}
 use Rattle.tx_actor.specs.declared.actor.Stage as own
 use Rattle.tx_actor.specs.declared.actor.Stage.TheVariants as stage
 use Rattle.world_table.specs.Openings.{HasShape}

@@ -23,8 +23,8 @@ use Rattle.replay_log.specs.WorldRefusals.{HasCause, is_ending}
 use Rattle.replay_log.specs.WorldReplies.{IsKept, IsMade, call_at}
 use Rattle.replay_log.specs.WorldSerial.{AreUpTo}
 use Rattle.replay_log.specs.Worlds.{After, Beginning, Seat, Stage, World, happens, opened, run}
-use Rattle.atomic_steps.specs.Own.{Alike}
-use Rattle.atomic_steps.proofs.Alike.{alike_same}
+use Rattle.actor_laws.specs.Own.{Alike}
+use Rattle.actor_laws.proofs.Alike.{alike_same}
 use Rattle.actor_turns.proofs.HomeLemmas.{reached_blocks}
 use Rattle.world_table.specs.Openings.{AreStripeCounts, blocks_of}
 use Rattle.step_world.specs.declared.parts.Parts.{Parts}

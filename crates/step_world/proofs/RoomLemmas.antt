@@ -26,13 +26,13 @@ use Rattle.replay_log.specs.Worlds.{World, Seat, Stage, Ready, Cancelling, Leavi
 use Rattle.replay_log.specs.Worlds.{has_stored, is_half_done, starve_at, step_at}
 use Rattle.replay_log.proofs.EventLemmas.{run_linked}
 use Rattle.replay_log.proofs.SeatLemmas.{Linked, gates_of}
-use Rattle.atomic_steps.proofs.OneStep.{one_step}
-use Rattle.actor_copies.specs.declared.copies.CopyOf.{CopyOf}
-use Rattle.actor_copies.specs.Kept.{copy_of}
-use Rattle.actor_copies.specs.Logs.{changes_had}
-use Rattle.actor_words.specs.Dispatch.{is_loading, next_of}
-use Rattle.actor_words.specs.declared.next.Next.{Next}
-use Rattle.actor_words.specs.declared.next.Next.TheVariants as next
+use Rattle.actor_laws.proofs.OneStep.{one_step}
+use Rattle.actor_parts.specs.declared.copies.CopyOf.{CopyOf}
+use Rattle.actor_parts.specs.Kept.{copy_of}
+use Rattle.actor_parts.specs.Logs.{changes_had}
+use Rattle.actor_parts.specs.Dispatch.{is_loading, next_of}
+use Rattle.actor_parts.specs.declared.next.Next.{Next}
+use Rattle.actor_parts.specs.declared.next.Next.TheVariants as next
 use Rattle.tx_actor.specs.Having.{KeepsCopies, KeepsFrom}
 use Rattle.tx_actor.specs.Running.{Runs, stage_of}
 use Rattle.tx_actor.specs.declared.actor.Stage as own

@@ -33,10 +33,10 @@ use Rattle.step_world.specs.declared.trace.Trace.{Trace}
 use Rattle.step_world.specs.Parts.{HasWorld, IsWorld, ended_of}
 use Rattle.step_world.specs.Reached.{IsReached}
 use Rattle.step_world.specs.Traces.{IsSerialTrace, IsTraceOf, is_half, seat_at, seat_found, with_number}
-use Rattle.actor_words.proofs.BlocksLemmas.{end_behind}
+use Rattle.actor_parts.proofs.BlocksLemmas.{end_behind}
 use Rattle.actor_turns.proofs.SeatLemmas.{IsLike, like_as}
 use Rattle.actor_turns.proofs.StepLemmas.{reached_linked}
-use Rattle.tx_phases.specs.Limits.{HoldsWithinLimits}
+use Rattle.actor_laws.specs.Limits.{HoldsWithinLimits}
 use Rattle.world_table.specs.States.{held_in}
 use Rattle.world_table.proofs.StateLemmas as tables
 use Rattle.step_world.proofs.WorldLemmas.{shape_laid}

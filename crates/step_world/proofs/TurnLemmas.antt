@@ -20,8 +20,8 @@ use Rattle.replay_log.specs.Worlds.{World, Seat, Stage, After, Closing, Leaving}
 use Rattle.replay_log.specs.Worlds.{Ready, acted, asks, actor_of}
 use Rattle.replay_log.specs.Worlds.{moves, word_notice, step_at, happens, written_homes}
 use Rattle.replay_log.proofs.SeatLemmas.{StageOk}
-use Rattle.atomic_steps.specs.Steps.{Does, atomic_action, ended_at, ready_at}
-use Rattle.atomic_steps.proofs.OneStep.{ask_calm, one_step}
+use Rattle.actor_laws.specs.Steps.{Does, atomic_action, ended_at, ready_at}
+use Rattle.actor_laws.proofs.OneStep.{ask_calm, one_step}
 use Rattle.step_core.specs.Answers.{result_of}
 use Rattle.step_core.specs.CellSteps.{Grows}
 use Rattle.step_core.specs.Shown as words
@@ -31,16 +31,16 @@ use Rattle.step_core.specs.declared.actor.Actor as running
 use Rattle.step_core.specs.declared.answer.WordAnswer.{WordAnswer}
 use Rattle.step_core.specs.declared.answer.WordRefusal.{WordRefusal}
 use Rattle.tx_actor.specs.Asks.{MayStore}
-use Rattle.actor_words.specs.Blocks.{BlocksView}
-use Rattle.actor_words.specs.Dispatch.{AreSteps, MayGoOn, after_put, after_try, after_word, first, is_loading}
-use Rattle.actor_words.specs.Dispatch.{next_of, notice_told}
-use Rattle.actor_words.specs.Guarded.{committed_at}
+use Rattle.actor_parts.specs.Blocks.{BlocksView}
+use Rattle.actor_parts.specs.Dispatch.{AreSteps, MayGoOn, after_put, after_try, after_word, first, is_loading}
+use Rattle.actor_parts.specs.Dispatch.{next_of, notice_told}
+use Rattle.actor_parts.specs.Guarded.{committed_at}
 use Rattle.tx_actor.specs.Dispatch.{IsToldWord, Starves}
 use Rattle.tx_actor.specs.Running as ran
 use Rattle.tx_actor.specs.Running.{Runs, seat_at, seat_of, stage_of}
 use Rattle.tx_actor.specs.declared.actor.Told.{Told}
 use Rattle.tx_actor.specs.declared.actor.TxActor.{TxActor}
-use Rattle.actor_words.specs.declared.next.Next.TheVariants as next
+use Rattle.actor_parts.specs.declared.next.Next.TheVariants as next
 use Rattle.world_table.specs.Tables.{HasTable}
 use Rattle.world_table.specs.declared.table.Table.{Table}
 use Rattle.world_table.proofs.TableLemmas.{still_has}

@@ -14,15 +14,15 @@ use Rattle.seq_model.specs.Contents.{Contents}
 use Rattle.replay_log.specs.Contents.{Block}
 use Rattle.replay_log.specs.WorldProgress.{whose}
 use Rattle.replay_log.specs.Worlds.{World, happens}
-use Rattle.atomic_steps.specs.Own.{Alike}
-use Rattle.atomic_steps.proofs.Others.{others}
+use Rattle.actor_laws.specs.Own.{Alike}
+use Rattle.actor_laws.proofs.Others.{others}
 use Rattle.step_core.specs.CellSteps.{Grows}
 use Rattle.step_core.specs.Shown.{is_actor}
 use Rattle.step_core.specs.Sound.{owed}
 use Rattle.step_core.specs.declared.actor.Place.{Place}
 use Rattle.step_core.specs.declared.actor.Place.TheVariants as place
 use Rattle.step_core.proofs.Lists.{inside, same_at}
-use Rattle.actor_words.specs.Blocks.{BlocksView, IsLaid}
+use Rattle.actor_parts.specs.Blocks.{BlocksView, IsLaid}
 use Rattle.tx_actor.specs.Asks.{Stands}
 use Rattle.tx_actor.specs.Keeping.{IsRunning}
 use Rattle.tx_actor.specs.Running.{Runs}

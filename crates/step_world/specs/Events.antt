@@ -11,7 +11,7 @@ use Rattle.replay_log.specs.WorldProgress.{AreSmall, IsQuiet, Nears, left_of, wh
 use Rattle.replay_log.specs.WorldRefusals.{HasCause, is_ending}
 use Rattle.replay_log.specs.WorldSerial.{AreUpTo}
 use Rattle.replay_log.specs.Worlds.{After, World}
-use Rattle.atomic_steps.specs.Own.{Alike}
+use Rattle.actor_laws.specs.Own.{Alike}
 use Rattle.step_world.specs.declared.parts.Parts.{Parts}
 use Rattle.step_world.specs.Parts.{IsWorld}
 use Rattle.step_world.specs.Reached.{IsReached}

@@ -11,15 +11,15 @@ use Rattle.step_core.specs.Sound.{owed}
 use Rattle.replay_log.specs.Seats as seats
 use Rattle.replay_log.specs.WorldProgress.{whose}
 use Rattle.replay_log.specs.Worlds.{World, happens, no_one}
-use Rattle.actor_words.specs.Blocks.{BlocksView, IsLaid}
-use Rattle.actor_words.specs.Dispatch.{next_of}
+use Rattle.actor_parts.specs.Blocks.{BlocksView, IsLaid}
+use Rattle.actor_parts.specs.Dispatch.{next_of}
 use Rattle.tx_actor.specs.Having.{HasCopies}
 use Rattle.tx_actor.specs.Keeping.{IsRunning}
 use Rattle.tx_actor.specs.Running.{Runs, notice_of, stage_of}
 use Rattle.tx_actor.specs.declared.actor.Stage as own
 use Rattle.tx_actor.specs.declared.actor.Told.{Told}
 use Rattle.tx_actor.specs.declared.actor.TxActor.{TxActor}
-use Rattle.actor_words.specs.declared.next.Next.{Next}
+use Rattle.actor_parts.specs.declared.next.Next.{Next}
 use Rattle.world_table.specs.Openings.{HasShape}
 use Rattle.world_table.specs.Tables.{HasTable}
 use Rattle.step_world.specs.declared.parts.Parts.{Parts}

@@ -4,7 +4,7 @@ use Rattle.seq_model.specs.declared.event.Event.{Event}
 use Rattle.seq_model.specs.Contents.{Contents}
 use Rattle.replay_log.specs.WorldProgress.{whose}
 use Rattle.replay_log.specs.Worlds.{World, happens}
-use Rattle.actor_words.specs.Blocks.{BlocksView, IsLaid}
+use Rattle.actor_parts.specs.Blocks.{BlocksView, IsLaid}
 use Rattle.tx_actor.specs.Having.{HasCopies}
 use Rattle.tx_actor.specs.Keeping.{IsRunning}
 use Rattle.tx_actor.specs.Running.{Runs, notice_of}

@@ -2,7 +2,7 @@
 ghost use Rattle.std.specs.Prelude.{◌≡◌, ◌<◌, ℕ, List, IfOk, OnErr, OnOk, length};
 ghost use Rattle.seq_model.specs.declared.event.Event.TheVariants.{Step};
 ghost use Rattle.replay_log.specs.Contents.{Block};
-ghost use Rattle.actor_words.specs.Dispatch.{next_of};
+ghost use Rattle.actor_parts.specs.Dispatch.{next_of};
 ghost use Rattle.tx_actor.specs.Dispatch.{Starves};
 ghost use Rattle.tx_actor.specs.Having.{KeepsCopies};
 ghost use Rattle.tx_actor.specs.Keeping.{IsRunning, KeepsIn};
@@ -12,9 +12,8 @@ ghost use Rattle.world_table.specs.Openings.{HasShape};
 ghost use Rattle.step_world.specs.Loading.{IsSeated};
 ghost use Rattle.step_world.specs.Turns.{IsTurn, KeepsOwn};
 
-use actor_copies::{copied_as_worlds, copies_go_on, copies_stay, sizes_copies};
-use actor_words::laws::steps_as_worlds;
-use actor_words::{Blocks, Next};
+use actor_parts::word_laws::steps_as_worlds;
+use actor_parts::{Blocks, Next, copied_as_worlds, copies_go_on, copies_stay, sizes_copies};
 use seq_model::{Memory, Value};
 use std::alloc::Global;
 use tx_actor::laws::{copied_stay_own, copies_by_stage, copies_stay_own};

@@ -7,7 +7,7 @@ ghost use Rattle.step_world.specs.Parts.{Happens, HasWorld, IsDue, IsStarved};
 
 use crate::opening::ACTORS;
 use crate::parts::Parts;
-use actor_words::Next;
+use actor_parts::Next;
 use seq_model::{Event, Memory, Notice, Refusal, Request, Value};
 use tx_actor::{Stage, Told};
 

@@ -1,18 +1,18 @@
 //! What a base that is put back makes of the table and of its actor.
 ghost use Rattle.std.specs.Prelude.{◌≡◌, ◌≢◌, ◌<◌, ℕ, List, All, OnOk, length, slice_get};
 ghost use Rattle.replay_log.specs.Contents.{Block};
-ghost use Rattle.actor_words.specs.Blocks.{BlocksView};
-ghost use Rattle.actor_words.specs.Dispatch.{next_of};
+ghost use Rattle.actor_parts.specs.Blocks.{BlocksView};
+ghost use Rattle.actor_parts.specs.Dispatch.{next_of};
 ghost use Rattle.tx_actor.specs.Having.{KeepsFrom};
 ghost use Rattle.tx_actor.specs.Keeping.{KeepsIn, NamesAmong};
-ghost use Rattle.actor_copies.specs.Logs.{OthersStand};
+ghost use Rattle.actor_parts.specs.Logs.{OthersStand};
 ghost use Rattle.tx_actor.specs.Running.{stage_of};
 ghost use Rattle.world_table.specs.Openings.{HasShape};
 ghost use Rattle.step_world.specs.Homes.{AreAlike, HasRoomAt, HasRoomDue, HaveRoom, IsHomeTurn, MayGoHome};
 
-use actor_copies::laws::logs_as_worlds;
-use actor_words::Next;
-use actor_words::laws::{goes_on_as_worlds, steps_as_worlds};
+use actor_parts::Next;
+use actor_parts::copy_laws::logs_as_worlds;
+use actor_parts::word_laws::{goes_on_as_worlds, steps_as_worlds};
 use seq_model::{Memory, Value};
 use std::alloc::Global;
 use std::collections::VecDeque;

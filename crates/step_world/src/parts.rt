@@ -11,12 +11,12 @@ ghost use Rattle.step_world.specs.Traces.{IsSerialTrace, IsTraceOf};
 
 use crate::opening::actors;
 use crate::trace::{Ended, Trace, copy_of_aborted, copy_of_records, half_done};
-use actor_words::Blocks;
+use actor_laws::limit_laws::bases_are_within_limits;
+use actor_parts::Blocks;
 use replay_log::laws::{numbers, serial_worlds, traces};
 use seq_model::{Items, Memory, Record, Refusal, Shape, State, Value};
 use std::alloc::Global;
 use tx_actor::TxActor;
-use tx_phases::limit_laws::bases_are_within_limits;
 use world_table::{Table, lay};
 
 /// The parts of a world.

@@ -1,7 +1,7 @@
 //! What an event makes of the parts of a world, by what its actor's next step does.
 ghost use Rattle.std.specs.Prelude.{◌≡◌, ◌≢◌, ◌+◌, ◌<◌, false, true, length, slice_get, IfOk, OnErr, Some};
 ghost use Rattle.seq_model.specs.declared.event.Event.TheVariants.{Ask, Starve, Step};
-ghost use Rattle.actor_words.specs.Dispatch.{is_loading, next_of};
+ghost use Rattle.actor_parts.specs.Dispatch.{is_loading, next_of};
 ghost use Rattle.tx_actor.specs.Running.{stage_of};
 ghost use Rattle.tx_actor.specs.declared.actor.TxActor as running;
 ghost use Rattle.step_world.specs.Parts.{Happens, HasWorld, IsAt, IsDue, IsStarved, Stays};
@@ -11,10 +11,9 @@ use crate::homes::{go_home, prepare};
 use crate::loading::load_word;
 use crate::parts::Parts;
 use crate::turns::{close, commit, leave, put_gate, step_word, try_gate};
-use actor_copies::copies_stay;
-use actor_copies::laws::{begins_with_nothing, calls_as_worlds};
-use actor_words::Next;
-use actor_words::laws::steps_as_worlds;
+use actor_parts::copy_laws::{begins_with_nothing, calls_as_worlds};
+use actor_parts::word_laws::steps_as_worlds;
+use actor_parts::{Next, copies_stay};
 use replay_log::laws::serial_worlds;
 use seq_model::{Memory, Request, Value, insert_record};
 use tx_actor::laws::{copies_by_stage, copies_stay_own};

@@ -15,7 +15,7 @@ ghost use Rattle.step_world.specs.Traces.{IsSerialTrace, IsTraceOf};
 
 use crate::parts::Parts;
 use crate::trace::Trace;
-use atomic_steps::laws::others_stand;
+use actor_laws::step_laws::others_stand;
 use replay_log::laws::{calls, progress, refusals, serial_worlds, traces};
 use seq_model::{Event, Memory, Notice, Refusal, Shape, State, Value};
 use std::alloc::Global;

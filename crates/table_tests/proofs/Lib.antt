@@ -1,1 +1,2 @@
 pub mod FitLemmas
+pub mod ShownLemmas

@@ -13,6 +13,7 @@ mod pairs;
 mod sections;
 mod sessions;
 mod shared;
+mod shown;
 mod tables;
 mod worker;
 

@@ -18,8 +18,8 @@ use Rattle.vac_model.specs.declared.item.Kind.{Kind}
 use Rattle.vac_model.specs.declared.item.Kind.TheVariants.{Car, Flight, Room}
 use Rattle.vac_model.specs.declared.item.Wait.{Wait}
 use Rattle.vac_model.specs.Holdings.{Holdings, of_kind, queue}
-use Rattle.jobs.specs.declared.causes.LastAbort.{LastAbort}
-use Rattle.jobs.specs.declared.causes.LastAbort.TheVariants as last
+use Rattle.seq_model.specs.declared.causes.LastAbort.{LastAbort}
+use Rattle.seq_model.specs.declared.causes.LastAbort.TheVariants as last
 use Rattle.text_formats.specs.declared.session_print.Line.{Line}
 use Rattle.text_formats.specs.declared.session_print.Line.TheVariants as line
 use Rattle.text_formats.specs.SessionLines.{kind_token}

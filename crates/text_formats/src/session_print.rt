@@ -7,8 +7,7 @@ ghost use Rattle.text_formats.specs.SessionPrints.{line_text, lines_text, outcom
 ghost use Rattle.text_formats.specs.SessionPrints.{customer_line, item_text, items_text, missed_text, number_text, part_text, parts_text, queue_text};
 ghost use Rattle.text_formats.specs.SessionPrints.{reply_text, tables_text, wait_text};
 
-use jobs::LastAbort;
-use seq_model::Memory;
+use seq_model::{LastAbort, Memory};
 use std::alloc::Global;
 use std::fmt::Write;
 use vac_model::{ActionReply, Booking, Changed, Each, Item, Kind, Part, Tables, Wait};

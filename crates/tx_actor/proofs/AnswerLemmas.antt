@@ -14,23 +14,23 @@ use Rattle.replay_log.specs.Contents.{Answered, content}
 use Rattle.replay_log.specs.Guards.{Allows}
 use Rattle.replay_log.specs.Pieces.{Piece}
 use Rattle.replay_log.specs.Worlds.{World, Seat, Stage, Loading, actor_of, at_stage, call_of, outcome_at, reply_of, with_call}
-use Rattle.actor_copies.specs.declared.copies.CopyOf.{CopyOf}
-use Rattle.actor_copies.specs.declared.copies.Copied.{Copied}
-use Rattle.actor_words.specs.declared.judged.Judged.{Judged}
-use Rattle.actor_words.specs.declared.judged.Judged.TheVariants.{All, Next}
+use Rattle.actor_parts.specs.declared.copies.CopyOf.{CopyOf}
+use Rattle.actor_parts.specs.declared.copies.Copied.{Copied}
+use Rattle.actor_parts.specs.declared.judged.Judged.{Judged}
+use Rattle.actor_parts.specs.declared.judged.Judged.TheVariants.{All, Next}
 use Rattle.tx_actor.specs.declared.actor.Told.{Told}
 use Rattle.tx_actor.specs.declared.actor.TxActor.{TxActor}
-use Rattle.actor_words.specs.Shows.{actor_after}
-use Rattle.actor_words.specs.Accepts.{written}
+use Rattle.actor_parts.specs.Shows.{actor_after}
+use Rattle.actor_parts.specs.Accepts.{written}
 use Rattle.tx_actor.specs.Answers.{IsAcceptedAt}
-use Rattle.actor_copies.specs.Copies.{IsAccepted, holds_call}
-use Rattle.actor_words.specs.Judged.{comes_to}
+use Rattle.actor_parts.specs.Copies.{IsAccepted, holds_call}
+use Rattle.actor_parts.specs.Judged.{comes_to}
 use Rattle.tx_actor.specs.Running.{Runs, notice_of}
-use Rattle.actor_copies.specs.Kept.{copy_of, has_piece}
-use Rattle.actor_words.proofs.AcceptsLemmas.{accepts}
-use Rattle.actor_copies.proofs.KeptLemmas.{accepted_pieces, same_pieces}
+use Rattle.actor_parts.specs.Kept.{copy_of, has_piece}
+use Rattle.actor_parts.proofs.AcceptsLemmas.{accepts}
+use Rattle.actor_parts.proofs.KeptLemmas.{accepted_pieces, same_pieces}
 use Rattle.tx_actor.proofs.RunsLemmas.{Seats}
-use Rattle.actor_words.proofs.ShowsLemmas.{reads_next}
+use Rattle.actor_parts.proofs.ShowsLemmas.{reads_next}
 
 module _ {V : Type 0} where
   pub accepted_at : (i : ℕ) (p : Option (Outcome V)) (o : Outcome V) (before : List (CopyOf V)) (c : CopyOf V) (e : Copied V)

@@ -30,11 +30,11 @@ use Rattle.tx_actor.specs.declared.actor.Told.{Told}
 use Rattle.tx_actor.specs.declared.actor.Told.TheVariants as told
 use Rattle.tx_actor.specs.declared.actor.TxActor.{TxActor}
 use Rattle.tx_actor.specs.Asks.{AdmitsCall, Asks, MayStore, when_found}
-use Rattle.actor_words.specs.Requests.{may_read, number_told}
-use Rattle.actor_words.specs.Blocks.{BlocksView, homes_in}
+use Rattle.actor_parts.specs.Requests.{may_read, number_told}
+use Rattle.actor_parts.specs.Blocks.{BlocksView, homes_in}
 use Rattle.tx_actor.specs.Running.{KnowsHomes, Runs, is_recorded, notice_of, seat_at, seat_in, seat_of}
 use Rattle.tx_actor.proofs.RunsLemmas.{seat_as}
-use Rattle.actor_words.proofs.ShowsLemmas.{guarded_asked}
+use Rattle.actor_parts.proofs.ShowsLemmas.{guarded_asked}
 
 -- ---- what a request of the word actor leaves
 lock_of : (x : machine.Actor) (es : Entries) → (requests.lock x es).writes ≡ x.writes

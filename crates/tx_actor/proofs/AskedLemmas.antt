@@ -21,7 +21,7 @@ use Rattle.tx_actor.specs.declared.actor.Told.{Told}
 use Rattle.tx_actor.specs.declared.actor.Told.TheVariants as told
 use Rattle.tx_actor.specs.declared.actor.TxActor.{TxActor}
 use Rattle.tx_actor.specs.Asks.{AdmitsCall, Asks, Stands}
-use Rattle.actor_words.specs.Blocks.{BlocksView}
+use Rattle.actor_parts.specs.Blocks.{BlocksView}
 use Rattle.tx_actor.specs.Calls.{AsksAt, AsksOwn, StandsOwn, ask_call, is_allowed}
 use Rattle.tx_actor.specs.Owns.{OwnsCopies}
 use Rattle.tx_actor.specs.Prepares.{IsAlike}

@@ -28,19 +28,19 @@ use Rattle.replay_log.specs.Worlds.{After, Cancelling, Leaving, Seat, Stage, Wor
 use Rattle.replay_log.specs.Worlds.{has_room, is_leaving, is_stale, outcome_at, outcome_now, sized_by, starve_at, step_at, with_editions}
 use Rattle.replay_log.specs.Worlds.{with_piece}
 use Rattle.step_core.specs.Shown as words
-use Rattle.atomic_steps.specs.Bases.{IsBaseOf}
-use Rattle.actor_words.specs.Blocks.{BlocksView, IsLaid}
-use Rattle.actor_words.specs.Dispatch.{is_loading}
-use Rattle.actor_words.specs.declared.judged.Judged.TheVariants.{All, Next}
-use Rattle.actor_words.specs.Judged.{comes_to, judged, judged_one, left_after}
-use Rattle.actor_words.specs.Shows.{cancelled, ending, put_back}
-use Rattle.actor_words.proofs.ShowsLemmas.{copies_for_call, gives_it_up, reads_next}
-use Rattle.actor_copies.specs.declared.copies.CopyOf.{CopyOf}
-use Rattle.actor_copies.specs.Kept.{copy_of, has_piece}
-use Rattle.actor_copies.specs.Sizes.{base_reads, base_writes}
-use Rattle.actor_copies.specs.Taking.{copy_with}
-use Rattle.actor_copies.proofs.GoingLemmas.{GoesOn, fresh}
-use Rattle.actor_copies.proofs.TakingLemmas.{kept_same, taken_pieces, taken_there}
+use Rattle.actor_laws.specs.Bases.{IsBaseOf}
+use Rattle.actor_parts.specs.Blocks.{BlocksView, IsLaid}
+use Rattle.actor_parts.specs.Dispatch.{is_loading}
+use Rattle.actor_parts.specs.declared.judged.Judged.TheVariants.{All, Next}
+use Rattle.actor_parts.specs.Judged.{comes_to, judged, judged_one, left_after}
+use Rattle.actor_parts.specs.Shows.{cancelled, ending, put_back}
+use Rattle.actor_parts.proofs.ShowsLemmas.{copies_for_call, gives_it_up, reads_next}
+use Rattle.actor_parts.specs.declared.copies.CopyOf.{CopyOf}
+use Rattle.actor_parts.specs.Kept.{copy_of, has_piece}
+use Rattle.actor_parts.specs.Sizes.{base_reads, base_writes}
+use Rattle.actor_parts.specs.Taking.{copy_with}
+use Rattle.actor_parts.proofs.GoingLemmas.{GoesOn, fresh}
+use Rattle.actor_parts.proofs.TakingLemmas.{kept_same, taken_pieces, taken_there}
 use Rattle.tx_actor.specs.declared.actor.Asked.{Asked}
 use Rattle.tx_actor.specs.declared.actor.Stage.TheVariants as stage
 use Rattle.tx_actor.specs.declared.actor.Told.{Told}

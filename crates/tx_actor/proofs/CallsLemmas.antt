@@ -30,35 +30,35 @@ use Rattle.replay_log.specs.Worlds.{more_tries, outcome_at, seated, with_edition
 use Rattle.replay_log.proofs.ContentLemmas.{content_frame, in_shifted, shifted_in}
 use Rattle.step_core.specs.Shown as words
 use Rattle.tx_actor.specs.declared.actor.Answered as running
-use Rattle.actor_copies.specs.declared.copies.CopyOf.{CopyOf}
+use Rattle.actor_parts.specs.declared.copies.CopyOf.{CopyOf}
 use Rattle.tx_actor.specs.declared.actor.Told.{Told}
 use Rattle.tx_actor.specs.declared.actor.Told.TheVariants as told
 use Rattle.tx_actor.specs.declared.actor.TxActor.{TxActor}
-use Rattle.actor_copies.specs.declared.copies.Copied.{Copied}
-use Rattle.actor_words.specs.Accepts.{written}
+use Rattle.actor_parts.specs.declared.copies.Copied.{Copied}
+use Rattle.actor_parts.specs.Accepts.{written}
 use Rattle.tx_actor.specs.Answers.{CopiesAfter, MayAccept, MayAnswer}
-use Rattle.actor_words.specs.Blocks.{BlocksView, IsLaid}
+use Rattle.actor_parts.specs.Blocks.{BlocksView, IsLaid}
 use Rattle.tx_actor.specs.Calls.{AsksOwn, CanCall, ask_call, is_allowed}
-use Rattle.actor_copies.specs.Copies as copies
-use Rattle.actor_copies.specs.Copies.{answer_of, answered_on, holds_call, holds_of}
-use Rattle.actor_copies.specs.Footprints.{IsPlaceOf, base_in, known_edition, places_in, reads_in, with_known, writes_in}
-use Rattle.actor_words.specs.Judged.{comes_to, judged, left_after}
-use Rattle.actor_copies.specs.Keeps.{IsOwnCopy, call_on}
-use Rattle.actor_copies.specs.Owns.{IsHeldAsk, IsOwn, MayCall, read_at}
+use Rattle.actor_parts.specs.Copies as copies
+use Rattle.actor_parts.specs.Copies.{answer_of, answered_on, holds_call, holds_of}
+use Rattle.actor_parts.specs.Footprints.{IsPlaceOf, base_in, known_edition, places_in, reads_in, with_known, writes_in}
+use Rattle.actor_parts.specs.Judged.{comes_to, judged, left_after}
+use Rattle.actor_parts.specs.Keeps.{IsOwnCopy, call_on}
+use Rattle.actor_parts.specs.Owns.{IsHeldAsk, IsOwn, MayCall, read_at}
 use Rattle.tx_actor.specs.Owns.{OwnsCopies}
 use Rattle.tx_actor.specs.Prepares.{ArePrepared, IsAlike, IsHeldAt, IsReadyCall, MayPrepare}
 use Rattle.tx_actor.specs.Running.{Runs, asked_of, answered_of, notice_of, seat_of, with_outcome, is_recorded, seat_at, seat_in}
-use Rattle.actor_copies.specs.Kept.{copy_of, has_piece}
-use Rattle.actor_copies.specs.Writes.{with_next, written_as}
-use Rattle.actor_copies.proofs.KeepsLemmas.{answers_held, head_in, held_editions, held_known, held_outcome, held_read, held_written}
-use Rattle.actor_copies.proofs.KeepsLemmas.{tail_in}
-use Rattle.actor_copies.proofs.CallingLemmas.{not_read}
-use Rattle.actor_copies.proofs.FootprintLemmas.{sized}
-use Rattle.actor_copies.proofs.KeptLemmas.{first_at}
+use Rattle.actor_parts.specs.Kept.{copy_of, has_piece}
+use Rattle.actor_parts.specs.Writes.{with_next, written_as}
+use Rattle.actor_parts.proofs.KeepsLemmas.{answers_held, head_in, held_editions, held_known, held_outcome, held_read, held_written}
+use Rattle.actor_parts.proofs.KeepsLemmas.{tail_in}
+use Rattle.actor_parts.proofs.CallingLemmas.{not_read}
+use Rattle.actor_parts.proofs.FootprintLemmas.{sized}
+use Rattle.actor_parts.proofs.KeptLemmas.{first_at}
 use Rattle.tx_actor.proofs.OwnAsksLemmas.{comes_owns}
 use Rattle.tx_actor.proofs.OwnsLemmas.{owns_by}
-use Rattle.actor_copies.proofs.TakingLemmas.{some_copy}
-use Rattle.actor_copies.proofs.WeighedLemmas.{held_answers}
+use Rattle.actor_parts.proofs.TakingLemmas.{some_copy}
+use Rattle.actor_parts.proofs.WeighedLemmas.{held_answers}
 use Rattle.tx_actor.proofs.PreparesLemmas.{alike_owns, alike_seat}
 
 -- the writes of an accepted call are those that are ready

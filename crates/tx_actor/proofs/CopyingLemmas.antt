@@ -25,30 +25,30 @@ use Rattle.replay_log.specs.Worlds as worlds
 use Rattle.replay_log.specs.Worlds.{World, Seat, After, actor_of, at_stage, because, gives_up, has_room, is_stale, outcome_at, outcome_now}
 use Rattle.replay_log.specs.Worlds.{seated, sized_by, step_at, with_editions, with_piece}
 use Rattle.step_core.specs.Shown as words
-use Rattle.atomic_steps.specs.Bases.{IsBaseOf}
-use Rattle.actor_words.specs.Blocks.{BlocksView, IsLaid}
-use Rattle.actor_words.specs.declared.judged.Judged.{Judged}
-use Rattle.actor_words.specs.declared.judged.Judged.TheVariants.{All, Next}
-use Rattle.actor_words.specs.Judged.{comes_to, judged, left_after}
-use Rattle.actor_words.specs.Shows.{put_back}
-use Rattle.actor_words.proofs.ShowsLemmas.{copies_for_call}
-use Rattle.actor_copies.specs.declared.copies.Copied.{Copied}
-use Rattle.actor_copies.specs.declared.copies.CopyOf.{CopyOf}
-use Rattle.actor_copies.specs.declared.copies.Found.{Found}
-use Rattle.actor_copies.specs.Copied.{IsCopyFor, IsTaken}
-use Rattle.actor_copies.specs.Copies.{IsFound, answer_of, holds_call}
-use Rattle.actor_copies.specs.Footprints.{base_in, places_in, reads_in, with_known, writes_in}
-use Rattle.actor_copies.specs.Kept.{copy_of, has_piece}
-use Rattle.actor_copies.specs.Owns.{AreOfBlocks, IsOfBlock}
-use Rattle.actor_copies.specs.Sizes.{base_reads, base_writes}
-use Rattle.actor_copies.specs.Taking.{IsTakenAt, TakesBack, copy_with, fits_base}
-use Rattle.actor_copies.specs.Loading.{AreRead, IsDoomed}
-use Rattle.actor_copies.specs.Writes.{with_next}
-use Rattle.actor_copies.proofs.CallingLemmas.{not_read}
-use Rattle.actor_copies.proofs.FootprintLemmas.{sized}
-use Rattle.actor_copies.proofs.GoingLemmas.{GoesOn, fresh}
-use Rattle.actor_copies.proofs.TakingLemmas.{kept_same, some_copy, taken_copies, taken_goes_back, taken_in_block, taken_pieces, taken_there}
-use Rattle.actor_copies.proofs.WeighedLemmas.{held_answers}
+use Rattle.actor_laws.specs.Bases.{IsBaseOf}
+use Rattle.actor_parts.specs.Blocks.{BlocksView, IsLaid}
+use Rattle.actor_parts.specs.declared.judged.Judged.{Judged}
+use Rattle.actor_parts.specs.declared.judged.Judged.TheVariants.{All, Next}
+use Rattle.actor_parts.specs.Judged.{comes_to, judged, left_after}
+use Rattle.actor_parts.specs.Shows.{put_back}
+use Rattle.actor_parts.proofs.ShowsLemmas.{copies_for_call}
+use Rattle.actor_parts.specs.declared.copies.Copied.{Copied}
+use Rattle.actor_parts.specs.declared.copies.CopyOf.{CopyOf}
+use Rattle.actor_parts.specs.declared.copies.Found.{Found}
+use Rattle.actor_parts.specs.Copied.{IsCopyFor, IsTaken}
+use Rattle.actor_parts.specs.Copies.{IsFound, answer_of, holds_call}
+use Rattle.actor_parts.specs.Footprints.{base_in, places_in, reads_in, with_known, writes_in}
+use Rattle.actor_parts.specs.Kept.{copy_of, has_piece}
+use Rattle.actor_parts.specs.Owns.{AreOfBlocks, IsOfBlock}
+use Rattle.actor_parts.specs.Sizes.{base_reads, base_writes}
+use Rattle.actor_parts.specs.Taking.{IsTakenAt, TakesBack, copy_with, fits_base}
+use Rattle.actor_parts.specs.Loading.{AreRead, IsDoomed}
+use Rattle.actor_parts.specs.Writes.{with_next}
+use Rattle.actor_parts.proofs.CallingLemmas.{not_read}
+use Rattle.actor_parts.proofs.FootprintLemmas.{sized}
+use Rattle.actor_parts.proofs.GoingLemmas.{GoesOn, fresh}
+use Rattle.actor_parts.proofs.TakingLemmas.{kept_same, some_copy, taken_copies, taken_goes_back, taken_in_block, taken_pieces, taken_there}
+use Rattle.actor_parts.proofs.WeighedLemmas.{held_answers}
 use Rattle.tx_actor.specs.declared.actor.Asked.{Asked}
 use Rattle.tx_actor.specs.declared.actor.Stage.TheVariants as stage
 use Rattle.tx_actor.specs.declared.actor.Told.{Told}
@@ -65,7 +65,7 @@ use Rattle.tx_actor.specs.Running.{Runs, asked_of, answered_of, at, notice_of, s
 use Rattle.tx_actor.proofs.DispatchLemmas.{by_result}
 use Rattle.tx_actor.proofs.HearLemmas.{may_accept, never}
 use Rattle.step_core.specs.declared.actor.Place.TheVariants as place
-use Rattle.actor_words.specs.Requests.{HasNoReads}
+use Rattle.actor_parts.specs.Requests.{HasNoReads}
 use Rattle.tx_actor.proofs.KeepingLemmas.{keeps_asked, keeps_through}
 use Rattle.tx_actor.proofs.RoomLemmas.{alike_keeps, can_go_on, same_keeps}
 use Rattle.tx_actor.proofs.LoadLemmas as load

@@ -9,9 +9,9 @@ use Rattle.replay_log.specs.Worlds as worlds
 use Rattle.seq_model.specs.declared.refusal.Refusal.TheVariants as refusal
 use Rattle.replay_log.specs.Worlds.{World, Seat, After, at_stage, because, has_begun, has_read, has_locked, has_stored, has_released}
 use Rattle.replay_log.specs.Worlds.{has_cancelled, has_tried, takes_gates, gives_up, goes_home, starve_at}
-use Rattle.actor_words.specs.declared.notice.WordNotice.{WordNotice}
-use Rattle.actor_words.specs.declared.notice.WordNotice.TheVariants.{Begun, Number, Locked, Stored, Released, Cancelled, Moved, Busy}
-use Rattle.actor_words.specs.declared.notice.WordNotice.TheVariants.{Invalid, Exhausted}
+use Rattle.actor_parts.specs.declared.notice.WordNotice.{WordNotice}
+use Rattle.actor_parts.specs.declared.notice.WordNotice.TheVariants.{Begun, Number, Locked, Stored, Released, Cancelled, Moved, Busy}
+use Rattle.actor_parts.specs.declared.notice.WordNotice.TheVariants.{Invalid, Exhausted}
 use Rattle.std.specs.declared.alloc.Global.{Global}
 use Rattle.std.specs.declared.collections.VecDeque.{VecDeque}
 use Rattle.step_core.specs.Shown as words
@@ -23,9 +23,9 @@ use Rattle.tx_actor.specs.declared.actor.Told.{Told}
 use Rattle.tx_actor.specs.declared.actor.Told.TheVariants as told
 use Rattle.tx_actor.specs.declared.actor.TxActor.{TxActor}
 use Rattle.tx_actor.specs.Dispatch.{IsGoneHome, IsToldWord, Records, waits_at}
-use Rattle.actor_words.specs.Dispatch.{MayGoOn, MayRelease, after_home, after_put, after_try, after_word, shown_notice}
+use Rattle.actor_parts.specs.Dispatch.{MayGoOn, MayRelease, after_home, after_put, after_try, after_word, shown_notice}
 use Rattle.tx_actor.specs.Running.{Does, IsSeatOf, Runs, at, notice_of, seat_at, seat_of, stage_of}
-use Rattle.actor_words.proofs.HomesLemmas.{not_none}
+use Rattle.actor_parts.proofs.HomesLemmas.{not_none}
 use Rattle.tx_actor.proofs.RunsLemmas.{seat_numbers}
 
 module _ {V : Type 0} where

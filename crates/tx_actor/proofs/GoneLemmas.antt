@@ -5,11 +5,11 @@ use Rattle.std.specs.declared.alloc.Global.{Global}
 use Rattle.std.specs.declared.collections.VecDeque.{VecDeque}
 use Rattle.tx_sets.specs.Entries.{Entries}
 use Rattle.word_machine.specs.Notices as notice
-use Rattle.actor_words.specs.declared.judged.Judged.{Judged}
-use Rattle.actor_words.specs.declared.judged.Judged.TheVariants.{All, Next, Stale}
-use Rattle.actor_words.specs.declared.notice.WordNotice.{WordNotice}
-use Rattle.actor_words.specs.declared.notice.WordNotice.TheVariants.{Number, Moved}
-use Rattle.actor_words.specs.Dispatch.{shown_notice}
+use Rattle.actor_parts.specs.declared.judged.Judged.{Judged}
+use Rattle.actor_parts.specs.declared.judged.Judged.TheVariants.{All, Next, Stale}
+use Rattle.actor_parts.specs.declared.notice.WordNotice.{WordNotice}
+use Rattle.actor_parts.specs.declared.notice.WordNotice.TheVariants.{Number, Moved}
+use Rattle.actor_parts.specs.Dispatch.{shown_notice}
 use Rattle.tx_actor.specs.declared.actor.Answered as running
 use Rattle.tx_actor.specs.declared.actor.Stage.{Stage}
 use Rattle.tx_actor.specs.declared.actor.Stage.TheVariants as stage

@@ -7,14 +7,14 @@ use Rattle.std.specs.Prelude.{◌==◌, slice_get}
 use Rattle.std.proofs.Math.ListN.{set}
 use Rattle.conflict.specs.declared.outcome.Outcome.{Outcome}
 use Rattle.replay_log.specs.Worlds.{World}
-use Rattle.actor_copies.specs.declared.copies.Copied.{Copied}
-use Rattle.actor_copies.specs.declared.copies.CopyOf.{CopyOf}
-use Rattle.actor_copies.specs.Copied.{IsReadOf}
-use Rattle.actor_copies.specs.Kept.{copy_of}
-use Rattle.actor_copies.proofs.KeepsLemmas.{tail_in}
-use Rattle.actor_copies.proofs.ReadLemmas.{reads_accepted}
-use Rattle.actor_words.specs.declared.judged.Judged.{Judged}
-use Rattle.actor_words.specs.declared.judged.Judged.TheVariants.{All, Next, Stale}
+use Rattle.actor_parts.specs.declared.copies.Copied.{Copied}
+use Rattle.actor_parts.specs.declared.copies.CopyOf.{CopyOf}
+use Rattle.actor_parts.specs.Copied.{IsReadOf}
+use Rattle.actor_parts.specs.Kept.{copy_of}
+use Rattle.actor_parts.proofs.KeepsLemmas.{tail_in}
+use Rattle.actor_parts.proofs.ReadLemmas.{reads_accepted}
+use Rattle.actor_parts.specs.declared.judged.Judged.{Judged}
+use Rattle.actor_parts.specs.declared.judged.Judged.TheVariants.{All, Next, Stale}
 use Rattle.std.specs.declared.alloc.Global.{Global}
 use Rattle.std.specs.declared.collections.VecDeque.{VecDeque}
 use Rattle.tx_actor.specs.declared.actor.Answered as running
@@ -23,7 +23,7 @@ use Rattle.tx_actor.specs.declared.actor.Stage.TheVariants as stage
 use Rattle.tx_actor.specs.declared.actor.TxActor.{TxActor}
 use Rattle.tx_actor.specs.Answers.{CopiesAfter, IsAcceptedAt}
 use Rattle.tx_actor.specs.Having.{AsksNothing, IsWholeOf, KeepsCopies, KeepsFrom, ReadsStill}
-use Rattle.actor_words.specs.Dispatch.{is_loading}
+use Rattle.actor_parts.specs.Dispatch.{is_loading}
 use Rattle.tx_actor.specs.Running.{at, stage_of}
 
 pub later_in : (ks : List ℕ) (k : ℕ) → Contains (drop 1 ks) k → Contains ks k

@@ -23,24 +23,24 @@ use Rattle.tx_actor.specs.declared.actor.Answered.{Answered}
 use Rattle.tx_actor.specs.declared.actor.Stage as running
 use Rattle.tx_actor.specs.declared.actor.Stage.TheVariants as stage
 use Rattle.tx_actor.specs.declared.actor.TxActor.{TxActor}
-use Rattle.actor_copies.specs.declared.copies.Copied.{Copied}
-use Rattle.actor_words.specs.declared.judged.Judged.TheVariants.{All}
-use Rattle.actor_words.specs.Accepts.{written}
+use Rattle.actor_parts.specs.declared.copies.Copied.{Copied}
+use Rattle.actor_parts.specs.declared.judged.Judged.TheVariants.{All}
+use Rattle.actor_parts.specs.Accepts.{written}
 use Rattle.tx_actor.specs.Answers.{MayAccept, MayAnswer}
-use Rattle.actor_copies.specs.Copies.{HasEditions, IsCopied, answered_on, holds_call}
-use Rattle.actor_copies.specs.Footprints.{known_edition, reads_in, writes_in}
-use Rattle.actor_words.specs.Judged.{judged, left_after}
-use Rattle.actor_copies.specs.Keeps.{IsOwnCopy, Knows}
-use Rattle.actor_copies.specs.Loading.{AreRead, IsDoomed, LoadsIn}
+use Rattle.actor_parts.specs.Copies.{HasEditions, IsCopied, answered_on, holds_call}
+use Rattle.actor_parts.specs.Footprints.{known_edition, reads_in, writes_in}
+use Rattle.actor_parts.specs.Judged.{judged, left_after}
+use Rattle.actor_parts.specs.Keeps.{IsOwnCopy, Knows}
+use Rattle.actor_parts.specs.Loading.{AreRead, IsDoomed, LoadsIn}
 use Rattle.tx_actor.specs.Loading.{IsCallOn, KeepsAt, KeepsCall, KeepsOne, MayHear, OwnsCall, OwnsCallAt}
 use Rattle.tx_actor.specs.Loads.{MayJudge, MayLoad}
 use Rattle.tx_actor.specs.Running.{answered_of, asked_of, outcome_in, stage_in, with_outcome}
-use Rattle.actor_copies.specs.Writes.{with_next, written_as}
-use Rattle.actor_copies.proofs.FootprintLemmas.{writes_within}
-use Rattle.actor_copies.proofs.KeepsLemmas.{head_in, held_outcome, held_read, held_written, known_at, same_writes, tail_in}
+use Rattle.actor_parts.specs.Writes.{with_next, written_as}
+use Rattle.actor_parts.proofs.FootprintLemmas.{writes_within}
+use Rattle.actor_parts.proofs.KeepsLemmas.{head_in, held_outcome, held_read, held_written, known_at, same_writes, tail_in}
 use Rattle.tx_actor.proofs.RunsLemmas.{seat_stage}
-use Rattle.actor_copies.proofs.OutcomeLemmas.{answered_op}
-use Rattle.actor_copies.proofs.LoadingLemmas.{doomed_more, loads_reached, rests_in, some_is}
+use Rattle.actor_parts.proofs.OutcomeLemmas.{answered_op}
+use Rattle.actor_parts.proofs.LoadingLemmas.{doomed_more, loads_reached, rests_in, some_is}
 
 pub never : (cs ds : List Call) (es : Entries) → ((l e : ℕ) → first_read cs l ≡ Some e → first_read ds l ≡ Some e) → IsDoomed cs es
     → AreRead ds es → ⊥

@@ -6,10 +6,10 @@ use Rattle.std.specs.declared.collections.VecDeque.{VecDeque}
 use Rattle.tx_sets.specs.Entries.{Entries}
 use Rattle.word_machine.specs.Notices as notice
 use Rattle.step_core.specs.Sound.{owed}
-use Rattle.actor_words.specs.Blocks.{BlocksView}
-use Rattle.actor_words.specs.Dispatch.{shown_notice}
-use Rattle.actor_words.specs.declared.notice.WordNotice.{WordNotice}
-use Rattle.actor_words.specs.declared.notice.WordNotice.TheVariants.{Number, Moved}
+use Rattle.actor_parts.specs.Blocks.{BlocksView}
+use Rattle.actor_parts.specs.Dispatch.{shown_notice}
+use Rattle.actor_parts.specs.declared.notice.WordNotice.{WordNotice}
+use Rattle.actor_parts.specs.declared.notice.WordNotice.TheVariants.{Number, Moved}
 use Rattle.tx_actor.specs.declared.actor.Answered as running
 use Rattle.tx_actor.specs.declared.actor.Stage.{Stage}
 use Rattle.tx_actor.specs.declared.actor.Stage.TheVariants as stage

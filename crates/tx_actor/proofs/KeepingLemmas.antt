@@ -7,14 +7,14 @@ use Rattle.std.specs.Vec.{vec_capacity, vec_len}
 use Rattle.step_core.specs.Sound.{Fits, Keeps, owed}
 use Rattle.step_core.specs.declared.actor.Actor.{Actor}
 use Rattle.replay_log.specs.Contents.{end_of}
-use Rattle.actor_words.specs.Blocks.{BlocksView}
-use Rattle.actor_copies.specs.declared.copies.CopyOf.{CopyOf}
-use Rattle.actor_copies.specs.Copies.{holds_of}
-use Rattle.actor_copies.specs.Kept.{copy_of}
+use Rattle.actor_parts.specs.Blocks.{BlocksView}
+use Rattle.actor_parts.specs.declared.copies.CopyOf.{CopyOf}
+use Rattle.actor_parts.specs.Copies.{holds_of}
+use Rattle.actor_parts.specs.Kept.{copy_of}
 use Rattle.tx_actor.specs.Answers.{at_rest}
 use Rattle.tx_actor.specs.Dispatch.{HasRoom}
-use Rattle.actor_words.specs.Dispatch.{is_loading}
-use Rattle.actor_words.specs.Requests.{KeepsAt}
+use Rattle.actor_parts.specs.Dispatch.{is_loading}
+use Rattle.actor_parts.specs.Requests.{KeepsAt}
 use Rattle.tx_actor.specs.Keeping.{IsCallAt, KeepsIn, NamesAmong}
 use Rattle.tx_actor.specs.Running.{at, is_recorded, stage_of}
 use Rattle.tx_actor.specs.declared.actor.Stage.{Stage}

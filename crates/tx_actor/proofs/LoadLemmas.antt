@@ -22,16 +22,16 @@ use Rattle.tx_actor.specs.declared.actor.Stage.TheVariants as stage
 use Rattle.tx_actor.specs.declared.actor.Told.{Told}
 use Rattle.tx_actor.specs.declared.actor.Told.TheVariants as told
 use Rattle.tx_actor.specs.declared.actor.TxActor.{TxActor}
-use Rattle.actor_words.specs.declared.notice.WordNotice.{WordNotice}
-use Rattle.actor_words.specs.declared.notice.WordNotice.TheVariants.{Number, Moved}
-use Rattle.actor_words.specs.declared.judged.Judged.{Judged}
-use Rattle.actor_words.specs.declared.judged.Judged.TheVariants.{All, Next, Stale}
+use Rattle.actor_parts.specs.declared.notice.WordNotice.{WordNotice}
+use Rattle.actor_parts.specs.declared.notice.WordNotice.TheVariants.{Number, Moved}
+use Rattle.actor_parts.specs.declared.judged.Judged.{Judged}
+use Rattle.actor_parts.specs.declared.judged.Judged.TheVariants.{All, Next, Stale}
 use Rattle.tx_actor.specs.Answers.{CanAccept, MayAnswer}
-use Rattle.actor_words.specs.Dispatch.{shown_notice}
-use Rattle.actor_words.specs.Judged.{comes_to, judged, left_after}
+use Rattle.actor_parts.specs.Dispatch.{shown_notice}
+use Rattle.actor_parts.specs.Judged.{comes_to, judged, left_after}
 use Rattle.tx_actor.specs.Loads.{IsLoadable, IsToldLoad, MayJudge, after_load, first_entry}
 use Rattle.tx_actor.specs.Running.{Runs, at, notice_of, outcome_in, seat_of, stage_in, with_outcome}
-use Rattle.actor_words.proofs.JudgedLemmas.{found_fresh}
+use Rattle.actor_parts.proofs.JudgedLemmas.{found_fresh}
 use Rattle.tx_actor.proofs.DispatchLemmas.{by_result, stays_as}
 
 -- the location that is read next, and the others

@@ -12,17 +12,17 @@ use Rattle.replay_log.specs.Contents.{Answered, is_plain}
 use Rattle.replay_log.specs.Worlds.{World, Seat, After, ask_op, cancels, commits, if_allowed, reads}
 use Rattle.tx_actor.specs.declared.actor.Answered as running
 use Rattle.tx_actor.specs.declared.actor.TxActor.{TxActor}
-use Rattle.actor_words.specs.declared.judged.Judged.{Judged}
-use Rattle.actor_words.specs.declared.judged.Judged.TheVariants.{All, Next, Stale}
+use Rattle.actor_parts.specs.declared.judged.Judged.{Judged}
+use Rattle.actor_parts.specs.declared.judged.Judged.TheVariants.{All, Next, Stale}
 use Rattle.tx_actor.specs.Answers.{CanAccept, CopiesAfter, IsAcceptedAt, MayAccept}
-use Rattle.actor_copies.specs.Copies.{answer_of, answered_on}
-use Rattle.actor_words.specs.Judged.{comes_to}
+use Rattle.actor_parts.specs.Copies.{answer_of, answered_on}
+use Rattle.actor_parts.specs.Judged.{comes_to}
 use Rattle.tx_actor.specs.Owns.{OwnsCopies}
 use Rattle.tx_actor.specs.Running.{answered_of, asked_of}
-use Rattle.actor_words.proofs.AcceptsLemmas.{accepts}
-use Rattle.actor_copies.proofs.OutcomeLemmas.{answered_op}
+use Rattle.actor_parts.proofs.AcceptsLemmas.{accepts}
+use Rattle.actor_parts.proofs.OutcomeLemmas.{answered_op}
 use Rattle.tx_actor.proofs.OwnsLemmas.{owns_accepted, owns_by}
-use Rattle.actor_copies.proofs.TakingLemmas.{at_place}
+use Rattle.actor_parts.proofs.TakingLemmas.{at_place}
 use Rattle.tx_actor.proofs.PreparesLemmas.{same_outcome}
 
 module _ {V : Type 0} where

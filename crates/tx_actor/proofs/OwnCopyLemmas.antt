@@ -19,25 +19,25 @@ use Rattle.replay_log.specs.Contents.{Block, block_of, content, first_of}
 use Rattle.replay_log.specs.Worlds as worlds
 use Rattle.replay_log.specs.Worlds.{After, Seat, World, actor_of, happens, opened, outcome_at, run, with_editions}
 use Rattle.step_core.specs.Shown as words
-use Rattle.actor_words.specs.Blocks.{BlocksView, IsLaid}
-use Rattle.actor_words.specs.Judged.{judged, left_after}
-use Rattle.actor_words.specs.Shows.{put_back}
-use Rattle.actor_copies.specs.declared.copies.Copied.{Copied}
-use Rattle.actor_copies.specs.declared.copies.CopyOf.{CopyOf}
-use Rattle.actor_copies.specs.declared.copies.Found.{Found}
-use Rattle.actor_copies.specs.Copied.{IsCopyFor, IsReadOf}
-use Rattle.actor_copies.specs.Copies.{IsFound, IsKept}
-use Rattle.actor_copies.specs.Footprints.{reads_in, with_known, writes_in}
-use Rattle.actor_copies.specs.Keeps.{IsOwnCopy}
-use Rattle.actor_copies.specs.Kept.{copy_of}
-use Rattle.actor_copies.specs.Loading.{AreRead, IsDoomed}
-use Rattle.actor_copies.specs.Owns.{AreOnce, IsOwn}
-use Rattle.actor_copies.specs.PutBack.{KeepsCopies}
-use Rattle.actor_copies.specs.Staying.{EventsStay, StaysOrJoins, StepStays}
-use Rattle.actor_copies.specs.Taking.{IsPutAt, copy_with}
-use Rattle.actor_copies.specs.Writes.{with_next}
-use Rattle.actor_copies.proofs.AlikeLemmas.{kept_answers, kept_copy, kept_holds, kept_once, kept_own, read_kept, read_of_kept, writes_kept}
-use Rattle.actor_copies.proofs.TakingLemmas.{at_place, taken_copies}
+use Rattle.actor_parts.specs.Blocks.{BlocksView, IsLaid}
+use Rattle.actor_parts.specs.Judged.{judged, left_after}
+use Rattle.actor_parts.specs.Shows.{put_back}
+use Rattle.actor_parts.specs.declared.copies.Copied.{Copied}
+use Rattle.actor_parts.specs.declared.copies.CopyOf.{CopyOf}
+use Rattle.actor_parts.specs.declared.copies.Found.{Found}
+use Rattle.actor_parts.specs.Copied.{IsCopyFor, IsReadOf}
+use Rattle.actor_parts.specs.Copies.{IsFound, IsKept}
+use Rattle.actor_parts.specs.Footprints.{reads_in, with_known, writes_in}
+use Rattle.actor_parts.specs.Keeps.{IsOwnCopy}
+use Rattle.actor_parts.specs.Kept.{copy_of}
+use Rattle.actor_parts.specs.Loading.{AreRead, IsDoomed}
+use Rattle.actor_parts.specs.Owns.{AreOnce, IsOwn}
+use Rattle.actor_parts.specs.PutBack.{KeepsCopies}
+use Rattle.actor_parts.specs.Staying.{EventsStay, StaysOrJoins, StepStays}
+use Rattle.actor_parts.specs.Taking.{IsPutAt, copy_with}
+use Rattle.actor_parts.specs.Writes.{with_next}
+use Rattle.actor_parts.proofs.AlikeLemmas.{kept_answers, kept_copy, kept_holds, kept_once, kept_own, read_kept, read_of_kept, writes_kept}
+use Rattle.actor_parts.proofs.TakingLemmas.{at_place, taken_copies}
 use Rattle.tx_actor.specs.declared.actor.Asked.{Asked}
 use Rattle.tx_actor.specs.declared.actor.Stage as own
 use Rattle.tx_actor.specs.declared.actor.Stage.TheVariants as stage
@@ -56,7 +56,7 @@ use Rattle.tx_actor.proofs.OwnsLemmas.{once_set}
 use Rattle.tx_actor.proofs.PreparesLemmas.{there_kept}
 use Rattle.tx_actor.proofs.RunsLemmas.{seat_stage}
 use Rattle.tx_actor.proofs.StageLemmas.{StaysLaw, whole_stays}
-use Rattle.actor_copies.proofs.CopiesLemmas.{apart}
+use Rattle.actor_parts.proofs.CopiesLemmas.{apart}
 
 -- what remains once the gate of a call is put back
 abbrev pub BackLaw : Type 0 → Type 0

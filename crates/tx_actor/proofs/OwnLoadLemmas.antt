@@ -24,21 +24,21 @@ use Rattle.replay_log.specs.Contents as contents
 use Rattle.replay_log.specs.Contents.{Block, HaveStripes}
 use Rattle.replay_log.specs.Worlds.{After, Loading, Seat, Stage, World, acted, actor_of, happens, moves, opened, run, word_notice}
 use Rattle.step_core.specs.Shown as words
-use Rattle.actor_words.specs.Dispatch.{is_loading}
-use Rattle.actor_words.specs.Judged.{judged, left_after}
-use Rattle.actor_words.specs.declared.judged.Judged.{Judged}
-use Rattle.actor_words.specs.declared.judged.Judged.TheVariants.{All, Next, Stale}
-use Rattle.actor_copies.specs.declared.copies.Copied.{Copied}
-use Rattle.actor_copies.specs.declared.copies.CopyOf.{CopyOf}
-use Rattle.actor_copies.specs.Copied.{IsReadBy, IsReadOf}
-use Rattle.actor_copies.specs.Copies.{answer_of, answered_on}
-use Rattle.actor_copies.specs.Keeps.{IsOwnCopy}
-use Rattle.actor_copies.specs.Kept.{copy_of}
-use Rattle.actor_copies.specs.Loading.{AreRead, IsDoomed, LoadsIn}
-use Rattle.actor_copies.specs.Owns.{IsOwn}
-use Rattle.actor_copies.specs.Staying.{EventsStay, IsUnanswered, Joins, LoadStays, StaysOrJoins, StepStays}
-use Rattle.actor_copies.proofs.LoadingLemmas.{doomed_more, loads_reached}
-use Rattle.actor_copies.proofs.OutcomeLemmas.{answered_op}
+use Rattle.actor_parts.specs.Dispatch.{is_loading}
+use Rattle.actor_parts.specs.Judged.{judged, left_after}
+use Rattle.actor_parts.specs.declared.judged.Judged.{Judged}
+use Rattle.actor_parts.specs.declared.judged.Judged.TheVariants.{All, Next, Stale}
+use Rattle.actor_parts.specs.declared.copies.Copied.{Copied}
+use Rattle.actor_parts.specs.declared.copies.CopyOf.{CopyOf}
+use Rattle.actor_parts.specs.Copied.{IsReadBy, IsReadOf}
+use Rattle.actor_parts.specs.Copies.{answer_of, answered_on}
+use Rattle.actor_parts.specs.Keeps.{IsOwnCopy}
+use Rattle.actor_parts.specs.Kept.{copy_of}
+use Rattle.actor_parts.specs.Loading.{AreRead, IsDoomed, LoadsIn}
+use Rattle.actor_parts.specs.Owns.{IsOwn}
+use Rattle.actor_parts.specs.Staying.{EventsStay, IsUnanswered, Joins, LoadStays, StaysOrJoins, StepStays}
+use Rattle.actor_parts.proofs.LoadingLemmas.{doomed_more, loads_reached}
+use Rattle.actor_parts.proofs.OutcomeLemmas.{answered_op}
 use Rattle.tx_actor.specs.declared.actor.Answered as running
 use Rattle.tx_actor.specs.declared.actor.Stage as own
 use Rattle.tx_actor.specs.declared.actor.Stage.TheVariants as stage

@@ -15,24 +15,24 @@ use Rattle.replay_log.specs.Contents.{Answered, Block, HaveStripes, block_of, fi
 use Rattle.replay_log.specs.Pieces.{piece_of}
 use Rattle.replay_log.specs.Worlds.{World}
 use Rattle.replay_log.proofs.ContentLemmas.{positive_at}
-use Rattle.atomic_steps.specs.Bases.{log_changes, log_locations}
-use Rattle.actor_copies.specs.declared.copies.Copied.{Copied}
-use Rattle.actor_copies.specs.declared.copies.Copied.TheVariants.{Keys, Whole}
-use Rattle.actor_copies.specs.declared.copies.CopyOf.{CopyOf}
+use Rattle.actor_laws.specs.Bases.{log_changes, log_locations}
+use Rattle.actor_parts.specs.declared.copies.Copied.{Copied}
+use Rattle.actor_parts.specs.declared.copies.Copied.TheVariants.{Keys, Whole}
+use Rattle.actor_parts.specs.declared.copies.CopyOf.{CopyOf}
 use Rattle.tx_actor.specs.declared.actor.TxActor.{TxActor}
 use Rattle.tx_actor.specs.Answers.{IsAcceptedAt}
-use Rattle.actor_words.specs.Blocks.{BlocksView, IsLaid}
-use Rattle.actor_copies.specs.Copies.{IsAccepted, IsCopied, IsOf, answer_of, answered_on, holds_call}
-use Rattle.actor_copies.specs.Footprints.{base_in, reads_in}
-use Rattle.actor_copies.specs.Keeps.{IsOwnCopy, Knows}
-use Rattle.actor_copies.specs.Owns.{AreOfBlocks, AreOnce, IsOfBlock, IsOwn}
+use Rattle.actor_parts.specs.Blocks.{BlocksView, IsLaid}
+use Rattle.actor_parts.specs.Copies.{IsAccepted, IsCopied, IsOf, answer_of, answered_on, holds_call}
+use Rattle.actor_parts.specs.Footprints.{base_in, reads_in}
+use Rattle.actor_parts.specs.Keeps.{IsOwnCopy, Knows}
+use Rattle.actor_parts.specs.Owns.{AreOfBlocks, AreOnce, IsOfBlock, IsOwn}
 use Rattle.tx_actor.specs.Owns.{OwnsCopies}
-use Rattle.actor_copies.specs.Kept.{copy_of}
-use Rattle.actor_copies.proofs.CopiesLemmas.{apart, editions_stay, follows_accepted}
-use Rattle.actor_copies.proofs.KeptLemmas.{accepted_pieces}
-use Rattle.actor_copies.proofs.OwnLemmas.{own_joined, own_same}
-use Rattle.actor_copies.proofs.ReadLemmas.{same_holds, same_reads}
-use Rattle.actor_copies.proofs.TakingLemmas.{set_there}
+use Rattle.actor_parts.specs.Kept.{copy_of}
+use Rattle.actor_parts.proofs.CopiesLemmas.{apart, editions_stay, follows_accepted}
+use Rattle.actor_parts.proofs.KeptLemmas.{accepted_pieces}
+use Rattle.actor_parts.proofs.OwnLemmas.{own_joined, own_same}
+use Rattle.actor_parts.proofs.ReadLemmas.{same_holds, same_reads}
+use Rattle.actor_parts.proofs.TakingLemmas.{set_there}
 
 differ : (j k : ℕ) → (j == k) ≡ false → j ≢ k
 differ j k e same = true≢false (sym (eq-eqb j k same) ∙ e)

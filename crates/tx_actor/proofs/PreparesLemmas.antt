@@ -16,24 +16,24 @@ use Rattle.replay_log.specs.Worlds as worlds
 use Rattle.replay_log.specs.Worlds.{World, is_change, new_in, reply_of}
 use Rattle.replay_log.proofs.CountLemmas.{locations-cons}
 use Rattle.tx_actor.specs.declared.actor.Answered as running
-use Rattle.actor_copies.specs.declared.copies.CopyOf.{CopyOf}
+use Rattle.actor_parts.specs.declared.copies.CopyOf.{CopyOf}
 use Rattle.tx_actor.specs.declared.actor.TxActor.{TxActor}
-use Rattle.actor_copies.specs.declared.copies.Copied.{Copied}
+use Rattle.actor_parts.specs.declared.copies.Copied.{Copied}
 use Rattle.tx_actor.specs.Answers.{CanAccept, IsPrepared}
-use Rattle.actor_copies.specs.Copies.{IsKept, IsReady, answer_of, holds_call}
-use Rattle.actor_copies.specs.Footprints.{known_edition, reads_in, with_known, writes_in}
+use Rattle.actor_parts.specs.Copies.{IsKept, IsReady, answer_of, holds_call}
+use Rattle.actor_parts.specs.Footprints.{known_edition, reads_in, with_known, writes_in}
 use Rattle.tx_actor.specs.Having.{ReadsStill}
 use Rattle.tx_actor.specs.Owns.{OwnsCopies}
 use Rattle.tx_actor.specs.declared.prepares.Prepared.{Prepared}
 use Rattle.tx_actor.specs.Prepares.{HasRoomFor, IsAlike, IsReadyCall, MayPrepare, fits}
 use Rattle.tx_actor.specs.Running.{answered_of, asked_of, seat_of, stage_of}
-use Rattle.actor_copies.specs.Kept.{copy_of, has_piece}
-use Rattle.actor_copies.specs.Writes.{MayWrite, with_next}
-use Rattle.actor_words.proofs.BlocksLemmas.{up_to}
-use Rattle.actor_copies.proofs.AlikeLemmas.{KeptOf, all_kept, kept_answers, kept_at, kept_copy, kept_has, kept_holds, kept_length}
-use Rattle.actor_copies.proofs.AlikeLemmas.{kept_once, kept_own, kept_reads, read_of_kept}
-use Rattle.actor_copies.proofs.OutcomeLemmas.{answered_op, writes_nothing}
-use Rattle.actor_copies.proofs.TakingLemmas.{at_place, some_copy}
+use Rattle.actor_parts.specs.Kept.{copy_of, has_piece}
+use Rattle.actor_parts.specs.Writes.{MayWrite, with_next}
+use Rattle.actor_parts.proofs.BlocksLemmas.{up_to}
+use Rattle.actor_parts.proofs.AlikeLemmas.{KeptOf, all_kept, kept_answers, kept_at, kept_copy, kept_has, kept_holds, kept_length}
+use Rattle.actor_parts.proofs.AlikeLemmas.{kept_once, kept_own, kept_reads, read_of_kept}
+use Rattle.actor_parts.proofs.OutcomeLemmas.{answered_op, writes_nothing}
+use Rattle.actor_parts.proofs.TakingLemmas.{at_place, some_copy}
 
 next_locations : {V : Type 0} → (c : Copied V) (f : ℕ) (ls : List ℕ) → locations (with_next c f ls) ≡ shifted f ls
 unfolding locations

@@ -26,21 +26,21 @@ use Rattle.step_core.specs.declared.actor.Place.{Place}
 use Rattle.step_core.specs.declared.actor.Place.TheVariants as place
 use Rattle.std.specs.declared.alloc.Global.{Global}
 use Rattle.std.specs.declared.collections.VecDeque.{VecDeque}
-use Rattle.actor_words.specs.declared.judged.Judged.{Judged}
-use Rattle.actor_words.specs.declared.judged.Judged.TheVariants as judged_as
-use Rattle.actor_words.specs.Blocks.{BlocksView}
-use Rattle.actor_words.specs.Dispatch.{is_loading}
-use Rattle.actor_words.specs.Judged.{judged, judged_one, left_after, left_one}
-use Rattle.actor_words.specs.Requests.{HasNoReads, KeepsAt}
-use Rattle.actor_words.proofs.BlocksLemmas.{up_to}
-use Rattle.actor_copies.specs.declared.copies.Copied.{Copied}
-use Rattle.actor_copies.specs.Copies.{answer_of, holds_call}
-use Rattle.actor_copies.specs.Footprints.{base_in, known_edition, places_in, reads_in, with_known, writes_in}
-use Rattle.actor_copies.specs.Kept.{copy_of}
-use Rattle.actor_copies.specs.Owns.{AreOfBlocks}
-use Rattle.actor_copies.specs.Writes.{MayWrite, with_next, written_as}
-use Rattle.actor_copies.proofs.CallingLemmas.{not_read}
-use Rattle.actor_copies.proofs.FootprintLemmas.{reads_below, sized, writes_below}
+use Rattle.actor_parts.specs.declared.judged.Judged.{Judged}
+use Rattle.actor_parts.specs.declared.judged.Judged.TheVariants as judged_as
+use Rattle.actor_parts.specs.Blocks.{BlocksView}
+use Rattle.actor_parts.specs.Dispatch.{is_loading}
+use Rattle.actor_parts.specs.Judged.{judged, judged_one, left_after, left_one}
+use Rattle.actor_parts.specs.Requests.{HasNoReads, KeepsAt}
+use Rattle.actor_parts.proofs.BlocksLemmas.{up_to}
+use Rattle.actor_parts.specs.declared.copies.Copied.{Copied}
+use Rattle.actor_parts.specs.Copies.{answer_of, holds_call}
+use Rattle.actor_parts.specs.Footprints.{base_in, known_edition, places_in, reads_in, with_known, writes_in}
+use Rattle.actor_parts.specs.Kept.{copy_of}
+use Rattle.actor_parts.specs.Owns.{AreOfBlocks}
+use Rattle.actor_parts.specs.Writes.{MayWrite, with_next, written_as}
+use Rattle.actor_parts.proofs.CallingLemmas.{not_read}
+use Rattle.actor_parts.proofs.FootprintLemmas.{reads_below, sized, writes_below}
 use Rattle.tx_actor.specs.declared.actor.Answered as running
 use Rattle.tx_actor.specs.declared.actor.Stage.{Stage}
 use Rattle.tx_actor.specs.declared.actor.Stage.TheVariants as stage
@@ -52,7 +52,7 @@ use Rattle.tx_actor.specs.Keeping.{CanGoOn, KeepsIn, NamesAmong}
 use Rattle.tx_actor.specs.Prepares.{IsAlike, IsHeldAt, IsReadyCall}
 use Rattle.tx_actor.specs.Running.{at, stage_of}
 use Rattle.tx_actor.proofs.KeepingLemmas.{keeps_asked}
-use Rattle.actor_copies.proofs.AlikeLemmas.{kept_answers, kept_holds, writes_kept}
+use Rattle.actor_parts.proofs.AlikeLemmas.{kept_answers, kept_holds, writes_kept}
 use Rattle.tx_actor.proofs.PreparesLemmas.{reads_there, there_kept}
 
 -- ---- writes

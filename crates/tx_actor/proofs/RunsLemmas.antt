@@ -11,15 +11,15 @@ use Rattle.seq_model.specs.declared.event.Notice.TheVariants.{Quiet}
 use Rattle.seq_model.specs.declared.refusal.Refusal.TheVariants as refusal
 use Rattle.replay_log.specs.Worlds.{World, Seat, Stage, Gating, Ready, Homing, Releasing, Returning, takes_gates, more_tries, goes_home}
 use Rattle.replay_log.specs.Worlds.{at_stage, because, cancels, gives_up, has_tried, actor_of}
-use Rattle.actor_words.specs.Shows.{cancelled, ending}
-use Rattle.actor_words.specs.Dispatch.{MayRelease}
+use Rattle.actor_parts.specs.Shows.{cancelled, ending}
+use Rattle.actor_parts.specs.Dispatch.{MayRelease}
 use Rattle.step_core.specs.Shown as words
 use Rattle.tx_actor.specs.Running.{IsSeatOf, is_recorded, seat_at, seat_in, stage_in}
 use Rattle.std.specs.Global.{Vec}
-use Rattle.actor_copies.specs.declared.copies.CopyOf.{CopyOf}
+use Rattle.actor_parts.specs.declared.copies.CopyOf.{CopyOf}
 use Rattle.tx_actor.specs.declared.actor.TxActor.{TxActor}
-use Rattle.actor_words.proofs.HomesLemmas.{not_none}
-use Rattle.actor_words.proofs.ShowsLemmas.{gives_it_up, guarded_asked}
+use Rattle.actor_parts.proofs.HomesLemmas.{not_none}
+use Rattle.actor_parts.proofs.ShowsLemmas.{gives_it_up, guarded_asked}
 
 -- the first of those after the i-th place, and the others
 pub at_next : (i : ℕ) (xs : List ℕ) (k d : ℕ) (ks : List ℕ) → i < length xs → drop i xs ≡ k ∷ ks

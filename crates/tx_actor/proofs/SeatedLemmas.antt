@@ -11,12 +11,12 @@ use Rattle.replay_log.specs.Worlds.{World, Seat, After, actor_of, at_stage, beca
 use Rattle.tx_actor.specs.declared.actor.Stage.{Stage}
 use Rattle.tx_actor.specs.declared.actor.Stage.TheVariants as stage
 use Rattle.tx_actor.specs.declared.actor.TxActor.{TxActor}
-use Rattle.actor_words.specs.Dispatch.{is_loading, next_of}
-use Rattle.actor_words.specs.Judged.{judged, left_after}
+use Rattle.actor_parts.specs.Dispatch.{is_loading, next_of}
+use Rattle.actor_parts.specs.Judged.{judged, left_after}
 use Rattle.tx_actor.specs.Loads.{after_load}
 use Rattle.tx_actor.specs.Running.{at, is_recorded, outcome_in, seat_at, seat_in, seat_of, stage_in, stage_of, with_outcome}
 use Rattle.tx_actor.specs.Seated.{SeatsActors}
-use Rattle.actor_words.proofs.JudgedLemmas.{is_judged}
+use Rattle.actor_parts.proofs.JudgedLemmas.{is_judged}
 use Rattle.tx_actor.proofs.LoadLemmas.{comes_at}
 use Rattle.tx_actor.proofs.RunsLemmas.{seat_stage}
 

@@ -9,16 +9,16 @@ use Rattle.word_machine.specs.Actor.{Call}
 use Rattle.word_machine.specs.Opacity.{first_read}
 use Rattle.replay_log.specs.Contents.{HaveStripes, first_of}
 use Rattle.replay_log.specs.Worlds.{World, actor_of}
-use Rattle.actor_words.specs.Blocks.{BlocksView, IsLaid}
-use Rattle.actor_copies.specs.declared.copies.Copied.{Copied}
-use Rattle.actor_copies.specs.declared.copies.Copied.TheVariants.{Keys, Whole}
-use Rattle.actor_copies.specs.declared.copies.CopyOf.{CopyOf}
-use Rattle.actor_copies.specs.Copied.{IsReadBy, IsReadOf}
-use Rattle.actor_copies.specs.Kept.{copy_of}
-use Rattle.actor_copies.specs.Loading.{AreRead, IsDoomed}
-use Rattle.actor_copies.specs.Owns.{AreOnce, IsOwn}
-use Rattle.actor_copies.proofs.OwnLemmas.{own_same}
-use Rattle.actor_copies.specs.Staying.{Stays}
+use Rattle.actor_parts.specs.Blocks.{BlocksView, IsLaid}
+use Rattle.actor_parts.specs.declared.copies.Copied.{Copied}
+use Rattle.actor_parts.specs.declared.copies.Copied.TheVariants.{Keys, Whole}
+use Rattle.actor_parts.specs.declared.copies.CopyOf.{CopyOf}
+use Rattle.actor_parts.specs.Copied.{IsReadBy, IsReadOf}
+use Rattle.actor_parts.specs.Kept.{copy_of}
+use Rattle.actor_parts.specs.Loading.{AreRead, IsDoomed}
+use Rattle.actor_parts.specs.Owns.{AreOnce, IsOwn}
+use Rattle.actor_parts.proofs.OwnLemmas.{own_same}
+use Rattle.actor_parts.specs.Staying.{Stays}
 use Rattle.tx_actor.specs.declared.actor.Answered as running
 use Rattle.tx_actor.specs.declared.actor.Stage.{Stage}
 use Rattle.tx_actor.specs.declared.actor.Stage.TheVariants as stage

@@ -7,7 +7,7 @@ use Rattle.replay_log.specs.Contents.{content}
 use Rattle.replay_log.specs.Guards.{Allows}
 use Rattle.replay_log.specs.Worlds.{World, actor_of, new_in, outcome_at, reply_of}
 use Rattle.tx_actor.specs.declared.actor.Answered as running
-use Rattle.actor_copies.specs.declared.copies.CopyOf.{CopyOf}
+use Rattle.actor_parts.specs.declared.copies.CopyOf.{CopyOf}
 use Rattle.tx_actor.specs.declared.actor.TxActor.{TxActor}
 use Rattle.tx_sets.specs.Entries.{Entries, locations, lookup}
 use Rattle.tx_sets.specs.declared.access_set.TheConstants.{LOCATION_LIMIT}
@@ -16,15 +16,15 @@ use Rattle.step_core.specs.Shown as words
 use Rattle.step_core.specs.declared.actor.Actor.{Actor}
 use Rattle.step_core.specs.declared.actor.Place.{Place}
 use Rattle.step_core.specs.declared.actor.Place.TheVariants as place
-use Rattle.actor_words.specs.Requests.{HasNoReads}
-use Rattle.actor_words.specs.declared.judged.Judged.{Judged}
-use Rattle.actor_words.specs.declared.judged.Judged.TheVariants.{All, Next}
-use Rattle.actor_words.specs.Judged.{judged}
-use Rattle.actor_words.specs.Accepts.{written}
-use Rattle.actor_copies.specs.Copies.{IsAccepted, IsReady, answer_of, holds_call}
-use Rattle.actor_copies.specs.Footprints.{reads_in}
+use Rattle.actor_parts.specs.Requests.{HasNoReads}
+use Rattle.actor_parts.specs.declared.judged.Judged.{Judged}
+use Rattle.actor_parts.specs.declared.judged.Judged.TheVariants.{All, Next}
+use Rattle.actor_parts.specs.Judged.{judged}
+use Rattle.actor_parts.specs.Accepts.{written}
+use Rattle.actor_parts.specs.Copies.{IsAccepted, IsReady, answer_of, holds_call}
+use Rattle.actor_parts.specs.Footprints.{reads_in}
 use Rattle.tx_actor.specs.Running.{answered_of, asked_of}
-use Rattle.actor_copies.specs.Writes.{MayWrite, written_as}
+use Rattle.actor_parts.specs.Writes.{MayWrite, written_as}
 
 -- The copy at this place has accepted the outcome, if there is one, and the others are as they were.
 abbrev pub IsAcceptedAt : {V : Type 0} → ℕ → Option (Outcome V) → (before now : List (CopyOf V)) → Type 0

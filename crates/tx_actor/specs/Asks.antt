@@ -14,7 +14,7 @@ use Rattle.replay_log.specs.Contents.{content}
 use Rattle.replay_log.specs.WorldAnswers.{has_word_room, is_there}
 use Rattle.replay_log.specs.Worlds as worlds
 use Rattle.replay_log.specs.Worlds.{World, Seat, After, acted, actor_of, asks, at_stage, replied, seated}
-use Rattle.actor_words.specs.Blocks.{IsLaid, BlocksView}
+use Rattle.actor_parts.specs.Blocks.{IsLaid, BlocksView}
 use Rattle.tx_actor.specs.Running.{Runs, notice_of}
 use Rattle.tx_actor.specs.declared.actor.Told.{Told}
 use Rattle.tx_actor.specs.declared.actor.TxActor.{TxActor}

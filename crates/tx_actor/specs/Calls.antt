@@ -10,9 +10,9 @@ use Rattle.tx_actor.specs.declared.actor.Stage.TheVariants as stage
 use Rattle.tx_actor.specs.declared.actor.Told.{Told}
 use Rattle.tx_actor.specs.declared.actor.TxActor.{TxActor}
 use Rattle.tx_actor.specs.Asks.{Stands}
-use Rattle.actor_words.specs.Blocks.{BlocksView, IsLaid}
-use Rattle.actor_copies.specs.Keeps.{call_on}
-use Rattle.actor_copies.specs.Owns.{AreOfBlocks, MayCall}
+use Rattle.actor_parts.specs.Blocks.{BlocksView, IsLaid}
+use Rattle.actor_parts.specs.Keeps.{call_on}
+use Rattle.actor_parts.specs.Owns.{AreOfBlocks, MayCall}
 use Rattle.tx_actor.specs.Owns.{OwnsCopies}
 use Rattle.tx_actor.specs.Running.{Runs, notice_of}
 

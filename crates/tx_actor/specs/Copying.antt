@@ -13,18 +13,18 @@ use Rattle.replay_log.specs.Worlds as worlds
 use Rattle.replay_log.specs.Worlds.{World, actor_of, step_at}
 use Rattle.step_core.specs.Shown as words
 use Rattle.step_core.specs.declared.actor.Place.TheVariants as place
-use Rattle.atomic_steps.specs.Bases.{IsBaseOf}
-use Rattle.actor_words.specs.Blocks.{BlocksView, IsLaid}
-use Rattle.actor_copies.specs.declared.copies.Copied.{Copied}
-use Rattle.actor_copies.specs.declared.copies.CopyOf.{CopyOf}
-use Rattle.actor_copies.specs.declared.copies.Found.{Found}
-use Rattle.actor_copies.specs.Copied.{CopiesGoOn, IsCopyFor, IsTaken}
-use Rattle.actor_copies.specs.Copies.{IsFound, answer_of, holds_call, holds_of}
-use Rattle.actor_copies.specs.Footprints.{base_in, places_in}
-use Rattle.actor_copies.specs.Kept.{HaveSame, copy_of}
-use Rattle.actor_copies.specs.Owns.{AreOfBlocks}
-use Rattle.actor_copies.specs.Sizes.{SizesAs}
-use Rattle.actor_copies.specs.Taking.{IsTakenAt, copy_with, fits_base}
+use Rattle.actor_laws.specs.Bases.{IsBaseOf}
+use Rattle.actor_parts.specs.Blocks.{BlocksView, IsLaid}
+use Rattle.actor_parts.specs.declared.copies.Copied.{Copied}
+use Rattle.actor_parts.specs.declared.copies.CopyOf.{CopyOf}
+use Rattle.actor_parts.specs.declared.copies.Found.{Found}
+use Rattle.actor_parts.specs.Copied.{CopiesGoOn, IsCopyFor, IsTaken}
+use Rattle.actor_parts.specs.Copies.{IsFound, answer_of, holds_call, holds_of}
+use Rattle.actor_parts.specs.Footprints.{base_in, places_in}
+use Rattle.actor_parts.specs.Kept.{HaveSame, copy_of}
+use Rattle.actor_parts.specs.Owns.{AreOfBlocks}
+use Rattle.actor_parts.specs.Sizes.{SizesAs}
+use Rattle.actor_parts.specs.Taking.{IsTakenAt, copy_with, fits_base}
 use Rattle.tx_actor.specs.declared.actor.Answered as running
 use Rattle.tx_actor.specs.declared.actor.Asked.{Asked}
 use Rattle.tx_actor.specs.declared.actor.Stage.{Stage}
@@ -33,7 +33,7 @@ use Rattle.tx_actor.specs.declared.actor.Told.{Told}
 use Rattle.tx_actor.specs.declared.actor.Told.TheVariants as told
 use Rattle.tx_actor.specs.declared.actor.TxActor.{TxActor}
 use Rattle.tx_actor.specs.declared.prepares.Prepared.{Prepared}
-use Rattle.actor_words.specs.Judged.{judged}
+use Rattle.actor_parts.specs.Judged.{judged}
 use Rattle.tx_actor.specs.Having.{HasGone}
 use Rattle.tx_actor.specs.Prepares.{IsAlike, IsReadyCall, prepared_of}
 use Rattle.tx_actor.specs.Running.{Runs, asked_of, at, notice_of, seat_of}

@@ -2,9 +2,9 @@
 use Rattle.std.specs.Prelude.{◌≡◌, ℕ, ◌<◌, Bool, true, false}
 use Rattle.word_machine.specs.Notices as notice
 use Rattle.replay_log.specs.Worlds.{World, After, starve_at}
-use Rattle.actor_words.specs.Dispatch.{MayGoOn, after_home, after_word}
-use Rattle.actor_copies.specs.Copies.{holds_of}
-use Rattle.actor_copies.specs.Kept.{copy_of}
+use Rattle.actor_parts.specs.Dispatch.{MayGoOn, after_home, after_word}
+use Rattle.actor_parts.specs.Copies.{holds_of}
+use Rattle.actor_parts.specs.Kept.{copy_of}
 use Rattle.tx_actor.specs.Answers.{CanLoad}
 use Rattle.tx_actor.specs.Running.{Does, Runs, notice_of, seat_at, seat_of, stage_of}
 use Rattle.std.specs.Vec.{vec_len, vec_capacity}

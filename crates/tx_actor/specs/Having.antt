@@ -11,15 +11,15 @@ use Rattle.conflict.specs.declared.outcome.Outcome.{Outcome}
 use Rattle.step_core.specs.Shown as words
 use Rattle.replay_log.specs.Contents.{HaveStripes}
 use Rattle.replay_log.specs.Worlds.{World, actor_of}
-use Rattle.actor_copies.specs.declared.copies.CopyOf.{CopyOf}
-use Rattle.actor_words.specs.Judged.{judged, left_after}
-use Rattle.actor_words.specs.declared.judged.Judged.{Judged}
-use Rattle.actor_words.specs.declared.judged.Judged.TheVariants.{All, Next, Stale}
-use Rattle.actor_copies.specs.Copied.{IsReadBy, IsReadOf}
-use Rattle.actor_copies.specs.Copies.{answer_of}
-use Rattle.actor_copies.specs.Kept.{copy_of}
-use Rattle.actor_copies.specs.Loading.{AreRead}
-use Rattle.actor_copies.specs.Owns.{AreOnce, IsOwn}
+use Rattle.actor_parts.specs.declared.copies.CopyOf.{CopyOf}
+use Rattle.actor_parts.specs.Judged.{judged, left_after}
+use Rattle.actor_parts.specs.declared.judged.Judged.{Judged}
+use Rattle.actor_parts.specs.declared.judged.Judged.TheVariants.{All, Next, Stale}
+use Rattle.actor_parts.specs.Copied.{IsReadBy, IsReadOf}
+use Rattle.actor_parts.specs.Copies.{answer_of}
+use Rattle.actor_parts.specs.Kept.{copy_of}
+use Rattle.actor_parts.specs.Loading.{AreRead}
+use Rattle.actor_parts.specs.Owns.{AreOnce, IsOwn}
 use Rattle.tx_actor.specs.declared.actor.Answered as running
 use Rattle.tx_actor.specs.declared.actor.Stage.{Stage}
 use Rattle.tx_actor.specs.declared.actor.Stage.TheVariants as stage

@@ -7,10 +7,10 @@ use Rattle.conflict.specs.declared.outcome.Outcome.{Outcome}
 use Rattle.replay_log.specs.Contents.{end_of, first_of}
 use Rattle.tx_sets.specs.Entries.{Entries}
 use Rattle.word_machine.specs.Notices as notice
-use Rattle.actor_words.specs.Blocks.{BlocksView}
-use Rattle.actor_copies.specs.declared.copies.Copied.{Copied}
-use Rattle.actor_copies.specs.declared.copies.CopyOf.{CopyOf}
-use Rattle.actor_copies.specs.Kept.{copy_of}
+use Rattle.actor_parts.specs.Blocks.{BlocksView}
+use Rattle.actor_parts.specs.declared.copies.Copied.{Copied}
+use Rattle.actor_parts.specs.declared.copies.CopyOf.{CopyOf}
+use Rattle.actor_parts.specs.Kept.{copy_of}
 use Rattle.tx_actor.specs.Answers.{HasRoomToLoad}
 use Rattle.tx_actor.specs.Loading.{IsCallOn}
 use Rattle.tx_actor.specs.declared.actor.Answered as running

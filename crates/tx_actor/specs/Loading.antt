@@ -12,15 +12,15 @@ use Rattle.tx_actor.specs.declared.actor.Answered as running
 use Rattle.tx_actor.specs.declared.actor.Stage.{Stage}
 use Rattle.tx_actor.specs.declared.actor.Stage.TheVariants as stage
 use Rattle.tx_actor.specs.declared.actor.TxActor.{TxActor}
-use Rattle.actor_copies.specs.declared.copies.Copied.{Copied}
-use Rattle.actor_copies.specs.Copies.{answer_of, holds_call}
-use Rattle.actor_copies.specs.Footprints.{writes_in}
-use Rattle.actor_words.specs.Judged.{left_after}
-use Rattle.actor_copies.specs.Loading.{IsDoomed}
-use Rattle.actor_copies.specs.Keeps.{IsOwnCopy}
+use Rattle.actor_parts.specs.declared.copies.Copied.{Copied}
+use Rattle.actor_parts.specs.Copies.{answer_of, holds_call}
+use Rattle.actor_parts.specs.Footprints.{writes_in}
+use Rattle.actor_parts.specs.Judged.{left_after}
+use Rattle.actor_parts.specs.Loading.{IsDoomed}
+use Rattle.actor_parts.specs.Keeps.{IsOwnCopy}
 use Rattle.tx_actor.specs.Loads.{MayLoad}
 use Rattle.tx_actor.specs.Running.{Runs}
-use Rattle.actor_copies.specs.Writes.{with_next}
+use Rattle.actor_parts.specs.Writes.{with_next}
 
 -- The call is one that this copy of its collection, whose first location is f, holds: it has the outcome that the copy answers, and writes
 -- what that writes.

@@ -11,17 +11,17 @@ use Rattle.replay_log.specs.Contents.{shifted}
 use Rattle.replay_log.specs.Worlds as worlds
 use Rattle.step_core.specs.Shown as words
 use Rattle.step_core.specs.declared.actor.Place.TheVariants as place
-use Rattle.actor_copies.specs.declared.copies.CopyOf.{CopyOf}
+use Rattle.actor_parts.specs.declared.copies.CopyOf.{CopyOf}
 use Rattle.tx_actor.specs.declared.actor.TxActor.{TxActor}
-use Rattle.actor_copies.specs.declared.copies.Copied.{Copied}
+use Rattle.actor_parts.specs.declared.copies.Copied.{Copied}
 use Rattle.tx_actor.specs.declared.actor.Answered as running
 use Rattle.tx_actor.specs.declared.actor.Asked.{Asked}
 use Rattle.tx_actor.specs.declared.prepares.Prepared.{Prepared}
 use Rattle.tx_actor.specs.Answers.{IsPrepared}
-use Rattle.actor_copies.specs.Copies.{IsReady, answer_of, holds_call, holds_of}
-use Rattle.actor_copies.specs.Footprints.{base_in, places_in, reads_in, with_known, writes_in}
-use Rattle.actor_copies.specs.Kept.{AreKept, copy_of}
-use Rattle.actor_copies.specs.Writes.{with_next}
+use Rattle.actor_parts.specs.Copies.{IsReady, answer_of, holds_call, holds_of}
+use Rattle.actor_parts.specs.Footprints.{base_in, places_in, reads_in, with_known, writes_in}
+use Rattle.actor_parts.specs.Kept.{AreKept, copy_of}
+use Rattle.actor_parts.specs.Writes.{with_next}
 
 -- The actor u is r, but for its room and what is ready in its copies.
 pub record IsAlike {V : Type 0} (r u : TxActor V) : Type 0 where

@@ -4,8 +4,8 @@ use Rattle.step_core.specs.Shown as words
 use Rattle.step_core.specs.Sound.{Fits, IsLoad, KeepsRoom}
 use Rattle.step_core.specs.declared.actor.Actor.{Actor}
 use Rattle.replay_log.specs.Worlds.{World, acted, actor_of, moves, word_notice}
-use Rattle.actor_words.specs.Blocks.{BlocksView}
-use Rattle.actor_words.specs.Dispatch.{is_loading}
+use Rattle.actor_parts.specs.Blocks.{BlocksView}
+use Rattle.actor_parts.specs.Dispatch.{is_loading}
 use Rattle.tx_actor.specs.Keeping.{HasHeard, IsRunning}
 use Rattle.tx_actor.specs.Loads.{IsLoadable}
 use Rattle.tx_actor.specs.Running.{stage_of}

@@ -7,7 +7,7 @@ use Rattle.step_core.specs.Shown as words
 use Rattle.replay_log.specs.Contents as contents
 use Rattle.replay_log.specs.Worlds as worlds
 use Rattle.replay_log.specs.Worlds.{World, Seat, After}
-use Rattle.actor_copies.specs.Kept.{copy_of, has_piece}
+use Rattle.actor_parts.specs.Kept.{copy_of, has_piece}
 use Rattle.tx_actor.specs.declared.actor.Asked.{Asked}
 use Rattle.tx_actor.specs.declared.actor.Answered as running
 use Rattle.tx_actor.specs.declared.actor.Stage.{Stage}

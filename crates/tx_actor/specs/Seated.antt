@@ -6,7 +6,7 @@ use Rattle.word_machine.specs.Notices as notice
 use Rattle.replay_log.specs.Contents.{Answered}
 use Rattle.replay_log.specs.Worlds.{World, Seat, Loading, acted, moves, starve_at, step_at, word_notice}
 use Rattle.tx_actor.specs.declared.actor.TxActor.{TxActor}
-use Rattle.actor_words.specs.Dispatch.{is_loading, next_of}
+use Rattle.actor_parts.specs.Dispatch.{is_loading, next_of}
 use Rattle.tx_actor.specs.Loads.{after_load}
 use Rattle.tx_actor.specs.Running.{Runs, is_recorded, seat_of, stage_in, stage_of}
 

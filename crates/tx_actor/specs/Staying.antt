@@ -6,9 +6,9 @@ use Rattle.seq_model.specs.declared.held.Held.{Held}
 use Rattle.replay_log.specs.declared.base.Base.{Base}
 use Rattle.replay_log.specs.Contents.{Block, HaveStripes}
 use Rattle.replay_log.specs.Worlds.{acted, happens, moves, opened, run, word_notice}
-use Rattle.atomic_steps.specs.Bases.{ShowsBase}
-use Rattle.actor_words.specs.Blocks.{BlocksView, IsLaid}
-use Rattle.actor_words.specs.Dispatch.{is_loading}
+use Rattle.actor_laws.specs.Bases.{ShowsBase}
+use Rattle.actor_parts.specs.Blocks.{BlocksView, IsLaid}
+use Rattle.actor_parts.specs.Dispatch.{is_loading}
 use Rattle.tx_actor.specs.Copying.{CanCopy, HasTaken, MayCopy}
 use Rattle.tx_actor.specs.Having.{HasCopies, HasLoaded, OwnsAll}
 use Rattle.tx_actor.specs.Running.{Runs, at, notice_of, stage_of}

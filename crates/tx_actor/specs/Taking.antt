@@ -14,12 +14,12 @@ use Rattle.replay_log.specs.Parts.{Kind, MapKind, BagKind, kind_of}
 use Rattle.replay_log.specs.Contents.{Block, block_of, first_of}
 use Rattle.replay_log.specs.Worlds as worlds
 use Rattle.replay_log.specs.Worlds.{World, starve_at, step_at}
-use Rattle.actor_words.specs.Blocks.{BlocksView, IsLaid}
-use Rattle.actor_words.specs.Dispatch.{is_loading}
-use Rattle.actor_copies.specs.declared.copies.CopyOf.{CopyOf}
-use Rattle.actor_copies.specs.declared.copies.Found.{Found}
-use Rattle.actor_copies.specs.Copies.{IsFound}
-use Rattle.actor_copies.specs.Taking.{IsTakenAt, fits_base}
+use Rattle.actor_parts.specs.Blocks.{BlocksView, IsLaid}
+use Rattle.actor_parts.specs.Dispatch.{is_loading}
+use Rattle.actor_parts.specs.declared.copies.CopyOf.{CopyOf}
+use Rattle.actor_parts.specs.declared.copies.Found.{Found}
+use Rattle.actor_parts.specs.Copies.{IsFound}
+use Rattle.actor_parts.specs.Taking.{IsTakenAt, fits_base}
 use Rattle.tx_actor.specs.declared.actor.Asked.{Asked}
 use Rattle.tx_actor.specs.declared.actor.Stage.{Stage}
 use Rattle.tx_actor.specs.declared.actor.Stage.TheVariants as stage

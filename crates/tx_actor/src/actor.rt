@@ -1,7 +1,6 @@
 //! What an actor keeps: its word actor, where its request stands, its numbers, its cause, its calls, and what it has of collections.
 use crate::hand::{Asking, Kept};
-use actor_copies::{CopyOf, Writes};
-use boxes::Boxed;
+use actor_parts::{Boxed, CopyOf, Writes};
 use conflict::Outcome;
 use seq_model::{Answer, Call, Op, Refusal, Reply};
 use std::collections::VecDeque;

@@ -6,18 +6,15 @@ ghost use Rattle.seq_model.specs.declared.call.Op.TheVariants as op;
 ghost use Rattle.replay_log.specs.Worlds as worlds;
 ghost use Rattle.replay_log.specs.Worlds.{ask_op, commits};
 ghost use Rattle.tx_actor.specs.Asks.{AdmitsCall, Asks, MayStore, Stands};
-ghost use Rattle.actor_words.specs.Blocks.{BlocksView};
-ghost use Rattle.actor_words.specs.Requests.{HasNoReads};
+ghost use Rattle.actor_parts.specs.Blocks.{BlocksView};
+ghost use Rattle.actor_parts.specs.Requests.{HasNoReads};
 ghost use Rattle.tx_actor.specs.Keeping.{KeepsIn};
-ghost use Rattle.actor_words.specs.Dispatch.{is_loading};
+ghost use Rattle.actor_parts.specs.Dispatch.{is_loading};
 ghost use Rattle.tx_actor.specs.Running.{Does, seat_of, stage_of};
 
 use crate::actor::{Stage, Told, TxActor};
 use crate::room::{move_calls, reserve_call, reserve_made};
-use actor_words::{
-    Blocks, close_words, fits_one, lock_words, read_word, seek_word, store_words, write_word,
-    written_homes,
-};
+use actor_parts::{Blocks, close_words, fits_one, lock_words, read_word, seek_word, store_words, write_word, written_homes};
 use seq_model::{Answer, CALL_LIMIT, Call, Memory, Op, Refusal, Reply};
 use std::alloc::Global;
 

@@ -3,14 +3,14 @@ ghost use Rattle.std.specs.Prelude.{◌≡◌, ◌≢◌, ◌⊎◌, IfOk, OnErr
 ghost use Rattle.replay_log.specs.Worlds.{ask_at, ask_idle, ask_op, ask_open};
 ghost use Rattle.tx_actor.specs.Asks.{Admits, AdmitsCall};
 ghost use Rattle.tx_actor.specs.Calls.{AsksAt, AsksOwn, CanCall, StandsOwn};
-ghost use Rattle.actor_words.specs.Blocks.{BlocksView};
-ghost use Rattle.actor_words.specs.Requests.{HasNoReads};
+ghost use Rattle.actor_parts.specs.Blocks.{BlocksView};
+ghost use Rattle.actor_parts.specs.Requests.{HasNoReads};
 ghost use Rattle.tx_actor.specs.Having.{ReadsStill};
 ghost use Rattle.tx_actor.specs.Keeping.{KeepsIn};
 ghost use Rattle.tx_actor.specs.Running.{Does, seat_of, stage_of};
 
 use crate::actor::{Stage, Told, TxActor};
-use actor_words::Blocks;
+use actor_parts::Blocks;
 use seq_model::{Call, Memory, Op, Refusal, Request, Value};
 use std::alloc::Global;
 

@@ -3,10 +3,10 @@
 ghost use Rattle.std.specs.Prelude.{◌≡◌, ◌<◌, ◌+◌, ◌≤◌, ◌^◌, IfOk, OnErr, Some, length};
 ghost use Rattle.replay_log.specs.Base.{locations_of, shown_of, stripes_of};
 ghost use Rattle.replay_log.specs.Contents.{block_of, first_of};
-ghost use Rattle.actor_copies.specs.Copies.{IsFound};
+ghost use Rattle.actor_parts.specs.Copies.{IsFound};
 ghost use Rattle.tx_actor.specs.Copying.{AreReadyIn, CanCopy, CanCopyAt, HasTaken, HasTakenAt, IsReadyIn, IsUnmoved, MayTake, StepsOn};
 ghost use Rattle.tx_actor.specs.Copying.{StepsOnAt};
-ghost use Rattle.actor_words.specs.Requests.{HasNoReads};
+ghost use Rattle.actor_parts.specs.Requests.{HasNoReads};
 ghost use Rattle.tx_actor.specs.Dispatch.{Starves};
 ghost use Rattle.tx_actor.specs.Having.{KeepsCopies};
 ghost use Rattle.tx_actor.specs.Keeping.{KeepsIn};
@@ -15,8 +15,7 @@ ghost use Rattle.tx_actor.specs.declared.actor.Told.TheVariants as told;
 
 use crate::actor::{Answered, Stage, Told, TxActor};
 use crate::hand::Asking;
-use actor_copies::{Found, fits_base, take_back};
-use actor_words::Blocks;
+use actor_parts::{Blocks, Found, fits_base, take_back};
 use replay_log::Base;
 use seq_model::{Memory, Refusal, Value};
 use std::alloc::Global;

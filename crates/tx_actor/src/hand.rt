@@ -1,12 +1,11 @@
 //! The call in hand of an actor, which moves as a pointer from its first try to its reply, and the memory that the next one has from it.
 ghost use Rattle.std.specs.Prelude.{◌≡◌, IfOk, OnErr, []};
-ghost use Rattle.actor_copies.specs.Copies.{IsFound, changes_in, locations_in};
-ghost use Rattle.actor_copies.specs.Kept.{HaveSame};
-ghost use Rattle.actor_copies.specs.Taking.{IsTakenAt};
+ghost use Rattle.actor_parts.specs.Copies.{IsFound, changes_in, locations_in};
+ghost use Rattle.actor_parts.specs.Kept.{HaveSame};
+ghost use Rattle.actor_parts.specs.Taking.{IsTakenAt};
 
 use crate::actor::{Answered, Asked};
-use actor_copies::{Copied, CopyOf, Found, Spares, find, take};
-use boxes::Boxed;
+use actor_parts::{Boxed, Copied, CopyOf, Found, Spares, find, take};
 use replay_log::{Base, Log};
 use seq_model::{Memory, Op, Refusal, Reply, Value};
 use smallvec::SmallVec;
@@ -155,7 +154,7 @@ impl<V: Drop> Kept<V> {
 }
 
 impl<V: Value> Kept<V> {
-    /// Like `find` of `actor_copies`.
+    /// Like `find` of `actor_parts`.
     #[inline(always)]
     pub(crate) fn find(
         &mut self,
@@ -168,7 +167,7 @@ impl<V: Value> Kept<V> {
         find(&mut self.copies, alloc, base, op)
     }
 
-    /// Like `take` of `actor_copies`.
+    /// Like `take` of `actor_parts`.
     pub(crate) fn take(
         &mut self,
         copies: &mut Vec<CopyOf<V>>,

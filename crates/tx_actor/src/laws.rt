@@ -3,19 +3,19 @@ ghost use Rattle.std.specs.Prelude.{◌≡◌, ◌≢◌, ◌<◌, ℕ, [], None
 ghost use Rattle.conflict.specs.declared.outcome.Outcome.{Outcome};
 ghost use Rattle.collection_machine.specs.Boosted.{longer};
 ghost use Rattle.replay_log.specs.Contents.{HaveStripes};
-ghost use Rattle.actor_copies.specs.Copies.{answer_of, answered_on};
+ghost use Rattle.actor_parts.specs.Copies.{answer_of, answered_on};
 ghost use Rattle.replay_log.specs.Worlds.{World, actor_of};
 ghost use Rattle.tx_actor.specs.Loading.{KeepsCall, MayHear};
-ghost use Rattle.actor_copies.specs.Loading.{LoadsReached};
+ghost use Rattle.actor_parts.specs.Loading.{LoadsReached};
 ghost use Rattle.tx_actor.specs.Seated.{SeatsActors};
-ghost use Rattle.actor_copies.specs.declared.copies.CopyOf.{CopyOf};
+ghost use Rattle.actor_parts.specs.declared.copies.CopyOf.{CopyOf};
 ghost use Rattle.tx_actor.specs.declared.actor.TxActor.{TxActor};
 ghost use Rattle.tx_actor.specs.Answers.{IsAcceptedAt};
-ghost use Rattle.actor_words.specs.Blocks.{BlocksView, IsLaid};
-ghost use Rattle.actor_copies.specs.Owns.{AreOfBlocks, IsOwn};
-ghost use Rattle.actor_copies.specs.declared.copies.Copied.{Copied};
-ghost use Rattle.actor_copies.specs.Copied.{IsReadOf};
-ghost use Rattle.actor_copies.specs.Staying.{Stays};
+ghost use Rattle.actor_parts.specs.Blocks.{BlocksView, IsLaid};
+ghost use Rattle.actor_parts.specs.Owns.{AreOfBlocks, IsOwn};
+ghost use Rattle.actor_parts.specs.declared.copies.Copied.{Copied};
+ghost use Rattle.actor_parts.specs.Copied.{IsReadOf};
+ghost use Rattle.actor_parts.specs.Staying.{Stays};
 ghost use Rattle.tx_actor.specs.Having.{HasCopies, KeepsCopies, OwnsAll, ReadsStill};
 ghost use Rattle.tx_actor.specs.Keeping.{IsRunning};
 ghost use Rattle.tx_actor.specs.Reading.{LoadsKeep};
@@ -23,7 +23,7 @@ ghost use Rattle.tx_actor.specs.Owns.{OwnsCopies};
 ghost use Rattle.tx_actor.specs.Staying.{CopiesStayOwn, LoadsStayOwn};
 
 use crate::actor::Stage;
-use actor_copies::{copies_put_back, copies_stay};
+use actor_parts::{copies_put_back, copies_stay};
 use seq_model::Value;
 
 /// Wherever events have led: where the load of a call's last location answered the copied edition, the acceptance is allowed, and the

@@ -3,17 +3,16 @@
 ghost use Rattle.std.specs.Prelude.{◌≡◌, ◌⊎◌, Some};
 ghost use Rattle.word_machine.specs.Notices as notice;
 ghost use Rattle.tx_actor.specs.Answers.{CanAccept};
-ghost use Rattle.actor_words.specs.Dispatch.{notice_told, shown_notice};
+ghost use Rattle.actor_parts.specs.Dispatch.{notice_told, shown_notice};
 ghost use Rattle.tx_actor.specs.Loads.{IsLoadable, IsToldLoad, first_entry};
-ghost use Rattle.actor_words.specs.Blocks.{BlocksView};
+ghost use Rattle.actor_parts.specs.Blocks.{BlocksView};
 ghost use Rattle.tx_actor.specs.Having.{AsksNothing, HasFound, HasLoaded, IsAsBefore};
 ghost use Rattle.tx_actor.specs.Keeping.{KeepsHeard};
 ghost use Rattle.tx_actor.specs.Running.{at};
 
 use crate::actor::{Answered, Stage, Told, TxActor};
 use crate::dispatch::is_quiet;
-use actor_words::{WordNotice, of_told};
-use boxes::Boxed;
+use actor_parts::{Boxed, WordNotice, of_told};
 use seq_model::{Refusal, Value};
 use std::collections::VecDeque;
 use std::mem;

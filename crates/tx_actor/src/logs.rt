@@ -1,15 +1,15 @@
 //! What a commit prepares of the bases that it writes, and the logs that it hands over to them.
 ghost use Rattle.std.specs.Prelude.{◌≡◌, OnOk, true};
 ghost use Rattle.replay_log.specs.Base.{IsPreparedFor, StaysPrepared, editions_of, shown_of, stripes_of};
-ghost use Rattle.actor_words.specs.Blocks.{BlocksView};
+ghost use Rattle.actor_parts.specs.Blocks.{BlocksView};
 ghost use Rattle.tx_actor.specs.Keeping.{KeepsIn};
-ghost use Rattle.actor_copies.specs.Logs.{OthersStand, changes_had, locations_had};
+ghost use Rattle.actor_parts.specs.Logs.{OthersStand, changes_had, locations_had};
 ghost use Rattle.tx_actor.specs.Asks.{Stands};
-ghost use Rattle.actor_copies.specs.Kept.{copy_of};
+ghost use Rattle.actor_parts.specs.Kept.{copy_of};
 ghost use Rattle.tx_actor.specs.Running.{is_recorded};
 
 use crate::actor::TxActor;
-use actor_copies::place_of;
+use actor_parts::place_of;
 use replay_log::{Base, Log};
 use seq_model::{Memory, Value};
 use std::alloc::Global;

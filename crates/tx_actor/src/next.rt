@@ -1,10 +1,10 @@
 //! What an actor's next step does.
 ghost use Rattle.std.specs.Prelude.{◌≡◌};
-ghost use Rattle.actor_words.specs.Dispatch.{next_of};
+ghost use Rattle.actor_parts.specs.Dispatch.{next_of};
 ghost use Rattle.tx_actor.specs.Running.{stage_of};
 
 use crate::actor::{Stage, TxActor};
-use actor_words::{Next, at_place, next_home, next_load, next_put, next_try};
+use actor_parts::{Next, at_place, next_home, next_load, next_put, next_try};
 
 impl<V> TxActor<V> {
     /// What the next step does. It is the atomic action that the definitions have at this stage.

@@ -1,13 +1,12 @@
 //! What a call on a copied collection takes is made ready before its first location is read: no allocation for it can fail then.
 ghost use Rattle.std.specs.Prelude.{◌≡◌, ◌<◌, IfOk, OnOk, Some, length, slice_get};
 ghost use Rattle.conflict.specs.declared.outcome.Outcome.{Outcome};
-ghost use Rattle.actor_copies.specs.declared.copies.CopyOf.{CopyOf};
+ghost use Rattle.actor_parts.specs.declared.copies.CopyOf.{CopyOf};
 ghost use Rattle.tx_actor.specs.Prepares.{ArePrepared, AreReadied, HasRoomFor, IsAlike, MayPrepare, prepared_of};
 
 use crate::actor::{Answered, TxActor};
 use crate::room::reserve_call;
-use actor_copies::{reserve_words, weigh};
-use boxes::Boxed;
+use actor_parts::{Boxed, reserve_words, weigh};
 use conflict::Outcome;
 use seq_model::{Memory, Op, Reply, Value};
 use std::alloc::Global;

@@ -4,7 +4,7 @@ ghost use Rattle.std.specs.Prelude.{◌≡◌, ◌<◌, ℕ, IfOk, OnErr, Some, 
 ghost use Rattle.replay_log.specs.Base.{shown_of, stripes_of};
 ghost use Rattle.replay_log.specs.Parts.{kind_of};
 ghost use Rattle.tx_sets.specs.Entries.{lookup};
-ghost use Rattle.actor_words.specs.Requests.{HasNoReads};
+ghost use Rattle.actor_parts.specs.Requests.{HasNoReads};
 ghost use Rattle.tx_actor.specs.Copying.{CanCopy, CanCopyAt, HasTaken, IsUnmoved, StepsOn};
 ghost use Rattle.tx_actor.specs.Dispatch.{Starves};
 ghost use Rattle.tx_actor.specs.Having.{KeepsCopies};
@@ -16,8 +16,7 @@ ghost use Rattle.tx_actor.specs.declared.actor.Told.TheVariants as told;
 
 use crate::actor::{Asked, Stage, Told, TxActor};
 use crate::hand::Asking;
-use actor_copies::fits_base;
-use actor_words::Blocks;
+use actor_parts::{Blocks, fits_base};
 use replay_log::Base;
 use seq_model::{Memory, Op, Refusal, Value};
 use std::alloc::Global;

@@ -16,7 +16,7 @@ use Rattle.replay_log.specs.Seats as worlds
 use Rattle.replay_log.specs.Seats.{Ended, Seat, World}
 use Rattle.replay_log.specs.WorldSerial.{AllSaw, SawAt}
 use Rattle.replay_log.specs.Worlds.{run}
-use Rattle.tx_phases.specs.Phases.{Stands, phase_at}
+use Rattle.actor_laws.specs.Phases.{Stands, phase_at}
 use Rattle.tx_table.specs.Opening.{Holds}
 use Rattle.tx_table.specs.Seated.{acts, contents_in, kept, list_of, opening_of, view}
 use Rattle.tx_table.specs.Seated as seated

@@ -9,7 +9,7 @@ use Rattle.seq_model.specs.declared.refusal.Refusal.{Refusal}
 use Rattle.seq_model.specs.declared.refusal.Refusal.TheVariants.{Memory as OutOfMemory}
 use Rattle.replay_log.specs.Seats.{World}
 use Rattle.tx_table.specs.declared.seat.Seat.{Seat}
-use Rattle.tx_phases.specs.Phases.{Rests}
+use Rattle.actor_laws.specs.Phases.{Rests}
 use Rattle.driven_turns.specs.Driven.{standing}
 use Rattle.driven_turns.specs.Requested.{requests_of}
 use Rattle.tx_engine.specs.Requests.{HasAskedFor, HasAskedToBegin, IsOpen, begin_request}

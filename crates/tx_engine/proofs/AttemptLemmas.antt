@@ -24,13 +24,13 @@ use Rattle.replay_log.specs.Seats as worlds
 use Rattle.replay_log.specs.Seats.{Ended, World}
 use Rattle.replay_log.specs.WorldAnswers.{is_there}
 use Rattle.replay_log.specs.Worlds.{happens}
-use Rattle.jobs.specs.declared.job.Ask.{Ask}
-use Rattle.jobs.specs.declared.job.Ask.TheVariants as ask
-use Rattle.jobs.specs.Programs.{replies_of}
+use Rattle.seq_model.specs.declared.job.Ask.{Ask}
+use Rattle.seq_model.specs.declared.job.Ask.TheVariants as ask
+use Rattle.seq_model.specs.Programs.{replies_of}
 use Rattle.tx_actor.specs.declared.actor.Told.TheVariants as told
 use Rattle.tx_table.specs.declared.seat.Seat.{Seat}
 use Rattle.tx_table.specs.Seated.{actor, acts, view}
-use Rattle.tx_phases.specs.Phases.{Rests, Stands, phase_at}
+use Rattle.actor_laws.specs.Phases.{Rests, Stands, phase_at}
 use Rattle.tx_engine.proofs.CallLemmas.{stands_at}
 pub use Rattle.tx_engine.proofs.RequestLemmas.{keeps_self}
 use Rattle.tx_engine.proofs.RequestLemmas.{then_keeps, told_later, told_on}

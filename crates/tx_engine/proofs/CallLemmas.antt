@@ -23,7 +23,7 @@ use Rattle.replay_log.specs.Seats.{World, Seat, Stage}
 use Rattle.replay_log.specs.Worlds.{happens, run}
 use Rattle.replay_log.specs.WorldAnswers.{IsAdmitted}
 use Rattle.replay_log.specs.WorldRefusals.{is_ending}
-use Rattle.atomic_steps.proofs.OwnEvents.{own_event}
+use Rattle.actor_laws.proofs.OwnEvents.{own_event}
 use Rattle.tx_actor.specs.Running.{notice_of}
 use Rattle.tx_actor.specs.declared.actor.Told.{Told}
 use Rattle.tx_actor.specs.declared.actor.Told.TheVariants as told
@@ -33,10 +33,10 @@ use Rattle.tx_table.specs.declared.seat.Seat as table
 use Rattle.tx_table.specs.declared.table.TxTable.{TxTable}
 use Rattle.tx_table.specs.Seated.{acts, opening_of, out}
 use Rattle.tx_table.specs.Seated as seated
-use Rattle.tx_phases.proofs.CourseLemmas.{ends_at}
-use Rattle.tx_phases.proofs.PhaseLemmas.{asks_move}
-use Rattle.tx_phases.specs.Courses.{ComesTo, EndsFrom, IsUnderWay, IsUnderWayFrom}
-use Rattle.tx_phases.specs.Phases.{AskMoves, CallMoves, Phase, Rests, Begins, Stands, Calls, Ends, IsMistaken, phase, phase_at}
+use Rattle.actor_laws.proofs.CourseLemmas.{ends_at}
+use Rattle.actor_laws.proofs.PhaseLemmas.{asks_move}
+use Rattle.actor_laws.specs.Courses.{ComesTo, EndsFrom, IsUnderWay, IsUnderWayFrom}
+use Rattle.actor_laws.specs.Phases.{AskMoves, CallMoves, Phase, Rests, Begins, Stands, Calls, Ends, IsMistaken, phase, phase_at}
 use Rattle.driven_turns.proofs.EndedLemmas.{IsGoing}
 use Rattle.driven_turns.proofs.KeptLemmas.{Keeps, asks_keep}
 use Rattle.tx_engine.proofs.KindLemmas.{call_given_up, call_mistaken, call_without_memory}

@@ -35,8 +35,8 @@ use Rattle.tx_table.specs.declared.seat.Seat as table
 use Rattle.tx_table.specs.declared.table.TxTable.{TxTable}
 use Rattle.tx_table.specs.Seated.{acts, opening_of, out, view}
 use Rattle.tx_table.specs.Seated as seated
-use Rattle.tx_phases.specs.Courses.{ComesTo, EndsFrom, IsUnderWay, IsUnderWayFrom}
-use Rattle.tx_phases.specs.Phases.{Phase, Rests, Stands, Commits, phase, phase_at}
+use Rattle.actor_laws.specs.Courses.{ComesTo, EndsFrom, IsUnderWay, IsUnderWayFrom}
+use Rattle.actor_laws.specs.Phases.{Phase, Rests, Stands, Commits, phase, phase_at}
 use Rattle.tx_engine.proofs.CallLemmas.{stands_at}
 use Rattle.driven_turns.proofs.EndedLemmas.{IsGoing}
 use Rattle.driven_turns.proofs.KeptLemmas.{Keeps, asks_keep}
@@ -47,7 +47,7 @@ use Rattle.driven_turns.specs.Driven.{Driven, HasTold, IsNumberOf, IsStamped, Is
 use Rattle.driven_turns.specs.Driven.{is_closing, is_declared, seat_in, standing}
 use Rattle.tx_engine.specs.Requests.{CommitsTo, HasAborted, HasCommitted, HasSameAborted, IsCommitRefusal, IsCommitTold, IsEnded}
 use Rattle.tx_engine.specs.Requests.{IsLastAborted, KeepsReceipts, has_some, has_written}
-use Rattle.tx_threads.proofs.OwnLemmas.{own_ok}
+use Rattle.tx_turns.proofs.OwnLemmas.{own_ok}
 use Rattle.tx_turns.proofs.AskedLemmas.{acts_taken}
 use Rattle.tx_turns.specs.Asked.{HasAsked}
 use Rattle.tx_turns.specs.Ties.{Ties}

@@ -9,8 +9,8 @@ use Rattle.seq_model.specs.declared.call.Reply.{Reply}
 use Rattle.seq_model.specs.declared.refusal.Refusal.{Refusal}
 use Rattle.replay_log.specs.Seats as worlds
 use Rattle.replay_log.specs.Seats.{Ended, World}
-use Rattle.jobs.specs.declared.job.Ask.{Ask}
-use Rattle.tx_phases.specs.Phases.{IsMistaken, Rests, Stands, phase_at}
+use Rattle.seq_model.specs.declared.job.Ask.{Ask}
+use Rattle.actor_laws.specs.Phases.{IsMistaken, Rests, Stands, phase_at}
 use Rattle.tx_table.specs.Seated.{actor, acts}
 use Rattle.tx_table.specs.declared.seat.Seat.{Seat}
 use Rattle.driven_turns.specs.Driven.{IsExhausted, aborted_for, seat_in}

@@ -10,7 +10,7 @@ use Rattle.replay_log.specs.Collections.{kind_of_held}
 use Rattle.replay_log.specs.Contents.{HaveStripes}
 use Rattle.replay_log.specs.Seats.{World}
 use Rattle.replay_log.specs.WorldProgress.{AreSmall, most_by}
-use Rattle.atomic_steps.proofs.Alike.{alike_same}
+use Rattle.actor_laws.proofs.Alike.{alike_same}
 use Rattle.world_table.specs.Openings.{AreStripeCounts, IsWithin, blocks_of, world_of}
 use Rattle.world_table.proofs.OpeningLemmas.{suits}
 use Rattle.tx_table.specs.declared.table.TxTable.{TxTable}

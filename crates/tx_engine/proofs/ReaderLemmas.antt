@@ -43,7 +43,7 @@ use Rattle.replay_log.specs.Worlds.{run}
 use Rattle.replay_log.proofs.EventLemmas.{opened_linked, run_linked}
 use Rattle.replay_log.proofs.MixedLemmas.{Told, is_on_word, on_held, pair_of, word_calls}
 use Rattle.replay_log.proofs.SeatLemmas.{Linked, StageOk}
-use Rattle.tx_phases.specs.Phases.{Stands, phase_at}
+use Rattle.actor_laws.specs.Phases.{Stands, phase_at}
 use Rattle.tx_table.specs.declared.seat.Seat.{Seat}
 use Rattle.tx_table.specs.Seated.{actor, acts}
 use Rattle.tx_table.specs.Shown.{IsReached}

@@ -26,7 +26,7 @@ use Rattle.tx_table.specs.Seated.{IsSameSeat, Owns, acts, list_of, opening_of, o
 use Rattle.tx_table.specs.Seated as seated
 use Rattle.tx_table.specs.Shown.{IsReached, looking}
 use Rattle.tx_table.specs.Turns.{asked_all, lone}
-use Rattle.tx_phases.specs.Phases.{Rests, phase}
+use Rattle.actor_laws.specs.Phases.{Rests, phase}
 use Rattle.tx_engine.proofs.AskLemmas.{asked_still}
 use Rattle.tx_engine.proofs.KindLemmas.{call_without_transaction, commit_without_transaction}
 use Rattle.tx_engine.proofs.RequestLemmas.{is_idle, is_open, keeps_self}

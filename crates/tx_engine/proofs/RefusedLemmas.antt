@@ -33,13 +33,13 @@ use Rattle.replay_log.proofs.EndingLemmas.{locks_held, steps_untouched}
 use Rattle.replay_log.proofs.EventLemmas.{run_linked}
 use Rattle.replay_log.proofs.RecordLemmas.{IsCommitting}
 use Rattle.replay_log.proofs.SeatLemmas.{Linked}
-use Rattle.atomic_steps.proofs.Alike.{alike_same}
+use Rattle.actor_laws.proofs.Alike.{alike_same}
 use Rattle.tx_actor.specs.Running.{notice_of}
 use Rattle.tx_actor.specs.declared.actor.Told.{Told}
 use Rattle.tx_actor.specs.declared.actor.Told.TheVariants as said
-use Rattle.tx_phases.proofs.CourseLemmas.{ends_at}
-use Rattle.tx_phases.proofs.PhaseLemmas.{steps_move}
-use Rattle.tx_phases.specs.Phases.{Ends, Phase, StepMoves, phase}
+use Rattle.actor_laws.proofs.CourseLemmas.{ends_at}
+use Rattle.actor_laws.proofs.PhaseLemmas.{steps_move}
+use Rattle.actor_laws.specs.Phases.{Ends, Phase, StepMoves, phase}
 use Rattle.tx_table.specs.Seated as seats
 use Rattle.tx_table.specs.Seated.{view}
 use Rattle.tx_table.specs.Turns.{asked_all, found_at, lone, own, spot, stage_of, took}

@@ -24,8 +24,8 @@ use Rattle.replay_log.proofs.SeatLemmas.{StageOk}
 use Rattle.replay_log.specs.Seats as worlds
 use Rattle.replay_log.specs.Seats.{World, Seat, Stage, Cancelling, Leaving, actor_of, acted, asks, at_stage}
 use Rattle.replay_log.specs.Worlds.{ask_at, happens, is_leaving, why}
-use Rattle.atomic_steps.proofs.OneStep.{one_step}
-use Rattle.actor_words.specs.Dispatch.{is_loading}
+use Rattle.actor_laws.proofs.OneStep.{one_step}
+use Rattle.actor_parts.specs.Dispatch.{is_loading}
 use Rattle.actor_turns.proofs.SeatLemmas.{loading_as}
 use Rattle.tx_actor.specs.Running.{notice_of, stage_of}
 use Rattle.tx_actor.specs.declared.actor.Stage as own
@@ -38,9 +38,9 @@ use Rattle.tx_table.specs.declared.table.TxTable.{TxTable}
 use Rattle.tx_table.specs.Seated.{acts, opening_of, out, view}
 use Rattle.tx_table.specs.Seated as seated
 use Rattle.tx_table.specs.declared.view.Turn.{Turn}
-use Rattle.tx_phases.proofs.PhaseLemmas.{asks_move}
-use Rattle.tx_phases.specs.Courses.{EndsFrom, IsUnderWay, IsUnderWayFrom}
-use Rattle.tx_phases.specs.Phases.{AskMoves, Phase, Rests, Begins, Stands, Calls, Ends, phase, phase_at}
+use Rattle.actor_laws.proofs.PhaseLemmas.{asks_move}
+use Rattle.actor_laws.specs.Courses.{EndsFrom, IsUnderWay, IsUnderWayFrom}
+use Rattle.actor_laws.specs.Phases.{AskMoves, Phase, Rests, Begins, Stands, Calls, Ends, phase, phase_at}
 use Rattle.gate_turns.specs.Bases.{gates_at}
 use Rattle.gate_turns.specs.Own.{HasOwn}
 use Rattle.driven_turns.proofs.DeclaredLemmas.{reader_asks}
@@ -55,7 +55,7 @@ use Rattle.driven_turns.specs.Driven.{Driven, HasFound, HasTold, IsReason, IsTru
 use Rattle.driven_turns.specs.Requested.{requests_of}
 use Rattle.tx_engine.specs.Requests.{BeginsTo, HasAborted, IsBeginTold, IsBegun, IsEnded, IsFoundAndTold, IsNotBegun, KeepsReceipts}
 use Rattle.tx_engine.specs.Requests.{IsLastAborted, begin_of}
-use Rattle.tx_threads.proofs.OwnLemmas.{own_ok}
+use Rattle.tx_turns.proofs.OwnLemmas.{own_ok}
 use Rattle.tx_turns.proofs.AskedLemmas.{acts_taken}
 use Rattle.tx_turns.proofs.TurnLemmas.{own_stage}
 use Rattle.tx_turns.specs.Asked.{HasAsked}

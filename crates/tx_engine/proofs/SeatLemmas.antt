@@ -26,7 +26,7 @@ use Rattle.replay_log.specs.Worlds.{Copying, Loading, Gating, Ready, Returning, 
 use Rattle.replay_log.specs.Worlds.{gives_up, happens, is_leaving, run, starve_at}
 use Rattle.replay_log.proofs.EventLemmas.{opened_linked, run_linked}
 use Rattle.replay_log.proofs.SeatLemmas.{Copy, Linked, StageOk, gates_of}
-use Rattle.tx_phases.specs.Phases.{Rests, phase_at}
+use Rattle.actor_laws.specs.Phases.{Rests, phase_at}
 use Rattle.tx_table.specs.Seated as seated
 use Rattle.tx_table.specs.Seated.{acts, kept, list_of}
 use Rattle.tx_table.specs.Shown.{IsReached, Opens}

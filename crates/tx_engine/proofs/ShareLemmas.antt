@@ -15,14 +15,14 @@ use Rattle.replay_log.specs.Seats as worlds
 use Rattle.replay_log.specs.Seats.{World, Seat, Stage, Storing, Homing, Releasing}
 use Rattle.replay_log.specs.Worlds.{ask_at, happens, starve_at}
 use Rattle.replay_log.specs.WorldTraces.{is_half_done}
-use Rattle.atomic_steps.proofs.OneStep.{one_step}
+use Rattle.actor_laws.proofs.OneStep.{one_step}
 use Rattle.tx_table.specs.declared.seat.Seat as table
 use Rattle.tx_table.specs.declared.table.TxTable.{TxTable}
 use Rattle.tx_table.specs.Seated.{Owns, acts, kept, list_of, opening_of, out, view}
 use Rattle.tx_table.specs.Seated as seated
 use Rattle.tx_table.specs.Turns.{asked_all}
-use Rattle.tx_phases.specs.Phases.{Rests, phase_at}
-use Rattle.tx_threads.proofs.OwnLemmas.{own_gates}
+use Rattle.actor_laws.specs.Phases.{Rests, phase_at}
+use Rattle.tx_turns.proofs.OwnLemmas.{own_gates}
 use Rattle.tx_turns.specs.Ties.{Ties}
 use Rattle.tx_engine.proofs.CallLemmas.{stands_at}
 use Rattle.gate_turns.specs.Own.{HasOwn}

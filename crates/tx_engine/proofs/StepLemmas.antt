@@ -20,7 +20,7 @@ use Rattle.replay_log.specs.WorldSerial.{IsSerial}
 use Rattle.replay_log.specs.WorldTraces.{is_half_done}
 use Rattle.replay_log.specs.Worlds.{run}
 use Rattle.replay_log.proofs.ContentLemmas.{end_above}
-use Rattle.atomic_steps.specs.Bases.{ShowsBase}
+use Rattle.actor_laws.specs.Bases.{ShowsBase}
 use Rattle.tx_table.specs.Opening.{Holds, world_at}
 use Rattle.tx_table.specs.Shown.{HomeOk, IsBaseAt, Opens, Shows, Slot}
 use Rattle.tx_table.specs.Turns.{stage_of}

@@ -21,7 +21,7 @@ use Rattle.replay_log.specs.WorldTries.{AllVain, InVain, IsVain, steps_of, tried
 use Rattle.replay_log.specs.Worlds.{World, Seat, Stage, Trying, Gating, Returning, Cancelling, Leaving, acted, ask_at, asks, at_stage}
 use Rattle.replay_log.specs.Worlds.{actor_of, because, gate_tries, gives_up, happens, is_leaving, run, seated, starve_at}
 use Rattle.replay_log.proofs.EventLemmas.{run-append}
-use Rattle.tx_phases.specs.Phases.{phase_at}
+use Rattle.actor_laws.specs.Phases.{phase_at}
 use Rattle.tx_table.specs.Seated as table_seat
 use Rattle.tx_table.specs.Seated.{acts, list_of, view}
 use Rattle.tx_table.specs.Shown.{IsReached, Opens}

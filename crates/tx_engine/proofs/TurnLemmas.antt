@@ -19,11 +19,11 @@ use Rattle.replay_log.specs.WorldTries.{tried_at}
 use Rattle.replay_log.specs.Worlds.{World, Seat, Stage, Trying, Gating, Storing, Homing, Releasing, happens, is_half_done, more_tries}
 use Rattle.replay_log.specs.Worlds.{step_at}
 use Rattle.replay_log.proofs.RecordLemmas.{IsAhead, IsTriedAgain, Kept, asked_kept, starved_kept, stepped_turns}
-use Rattle.atomic_steps.specs.Gates.{Tries}
-use Rattle.atomic_steps.specs.Own.{Alike}
-use Rattle.atomic_steps.specs.Spots.{Gate, found_gate}
-use Rattle.atomic_steps.specs.Steps.{atomic_action}
-use Rattle.atomic_steps.proofs.Alike.{alike_same}
+use Rattle.actor_laws.specs.Gates.{Tries}
+use Rattle.actor_laws.specs.Own.{Alike}
+use Rattle.actor_laws.specs.Spots.{Gate, found_gate}
+use Rattle.actor_laws.specs.Steps.{atomic_action}
+use Rattle.actor_laws.proofs.Alike.{alike_same}
 use Rattle.tx_table.specs.Turns.{asked_all, found_at, lone, own, spot, stage_of, took}
 use Rattle.tx_table.specs.declared.view.Turn.{Turn}
 use Rattle.tx_table.proofs.Gates.{tries_spot}

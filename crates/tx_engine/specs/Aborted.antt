@@ -11,8 +11,8 @@ use Rattle.seq_model.specs.declared.refusal.Refusal.{Refusal}
 use Rattle.seq_model.specs.declared.refusal.Refusal.TheVariants.{Memory as OutOfMemory}
 use Rattle.replay_log.specs.Seats.{Ended, World}
 use Rattle.replay_log.specs.Worlds.{run}
-use Rattle.atomic_steps.specs.Own.{Alike}
-use Rattle.tx_phases.specs.Phases.{Stands}
+use Rattle.actor_laws.specs.Own.{Alike}
+use Rattle.actor_laws.specs.Phases.{Stands}
 use Rattle.tx_table.specs.Opening.{Holds}
 use Rattle.tx_table.specs.Seated.{actor, acts, list_of, opening_of, view}
 use Rattle.tx_table.specs.Shown.{Slot}

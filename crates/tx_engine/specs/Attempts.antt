@@ -8,12 +8,12 @@ use Rattle.seq_model.specs.declared.refusal.Refusal.{Refusal}
 use Rattle.seq_model.specs.declared.refusal.Refusal.TheVariants.{Memory as OutOfMemory}
 use Rattle.seq_model.specs.Runs.{is_writer}
 use Rattle.replay_log.specs.Seats.{Ended, World}
-use Rattle.jobs.specs.declared.job.Ask.{Ask}
-use Rattle.jobs.specs.declared.job.Ask.TheVariants as ask
-use Rattle.jobs.specs.Programs.{replies_of}
+use Rattle.seq_model.specs.declared.job.Ask.{Ask}
+use Rattle.seq_model.specs.declared.job.Ask.TheVariants as ask
+use Rattle.seq_model.specs.Programs.{replies_of}
 use Rattle.tx_table.specs.declared.seat.Seat.{Seat}
 use Rattle.tx_table.specs.Seated.{actor, acts, view}
-use Rattle.tx_phases.specs.Phases.{IsMistaken, Rests, Stands}
+use Rattle.actor_laws.specs.Phases.{IsMistaken, Rests, Stands}
 use Rattle.driven_turns.specs.Begins.{begins_of}
 use Rattle.driven_turns.specs.Driven.{aborted_for}
 use Rattle.tx_engine.specs.Ready.{standing}

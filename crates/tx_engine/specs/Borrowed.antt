@@ -5,7 +5,7 @@ use Rattle.seq_model.specs.declared.refusal.Refusal.{Refusal}
 use Rattle.replay_log.specs.Seats.{World}
 use Rattle.tx_table.specs.declared.table.TxTable.{TxTable}
 use Rattle.tx_table.specs.Seated.{opening_of}
-use Rattle.tx_phases.specs.Phases.{Rests}
+use Rattle.actor_laws.specs.Phases.{Rests}
 use Rattle.driven_turns.specs.Begins.{begins_of}
 use Rattle.driven_turns.specs.Driven.{standing}
 use Rattle.driven_turns.specs.Requested.{requests_of}

@@ -3,9 +3,9 @@
 use Rattle.std.specs.Prelude.{ℕ, ◌<◌, List, length, take, get_or}
 use Rattle.seq_model.specs.declared.call.Call.{Call}
 use Rattle.seq_model.specs.declared.call.Reply.{Reply}
-pub use Rattle.jobs.specs.declared.job.Ask.{Ask}
-pub use Rattle.jobs.specs.declared.job.Ask.TheVariants as ask
-use Rattle.jobs.specs.Programs.{replies_of}
+pub use Rattle.seq_model.specs.declared.job.Ask.{Ask}
+pub use Rattle.seq_model.specs.declared.job.Ask.TheVariants as ask
+use Rattle.seq_model.specs.Programs.{replies_of}
 
 module _ {V : Type 0} where
   -- each of these calls is the one that the job asks after the replies to those before it

@@ -11,4 +11,4 @@ pub mod Refused
 pub mod Steps
 pub mod Records
 pub mod Aborted
-pub use Rattle.jobs.specs.Programs
+pub use Rattle.seq_model.specs.Programs

@@ -10,7 +10,7 @@ use Rattle.collection_machine.specs.Content.{has}
 use Rattle.replay_log.specs.Seats.{World}
 use Rattle.replay_log.specs.WorldSerial.{AllSaw, IsSerial, SawAt}
 use Rattle.replay_log.specs.Worlds.{run}
-use Rattle.atomic_steps.specs.Own.{Alike}
+use Rattle.actor_laws.specs.Own.{Alike}
 use Rattle.tx_table.specs.Opening.{world_at}
 use Rattle.tx_table.specs.Shown.{Slot, aborted_by, total}
 use Rattle.tx_table.specs.Turns.{asked_all, lone, stage_of}

@@ -11,7 +11,7 @@ use Rattle.seq_model.specs.declared.refusal.Refusal.TheVariants.{Moved, Busy, St
 use Rattle.replay_log.specs.Seats.{World, Idle, actor_of}
 use Rattle.replay_log.specs.Worlds.{happens, run}
 use Rattle.replay_log.specs.WorldAnswers.{Untouched}
-use Rattle.atomic_steps.specs.Own.{Alike}
+use Rattle.actor_laws.specs.Own.{Alike}
 use Rattle.tx_actor.specs.Running.{notice_of}
 use Rattle.tx_actor.specs.declared.actor.Told.{Told}
 use Rattle.tx_actor.specs.declared.actor.Told.TheVariants.{Answered, Refused}

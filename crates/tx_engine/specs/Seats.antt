@@ -1,7 +1,7 @@
 -- What a seat of the shared table holds between its requests.
 use Rattle.std.specs.Prelude.{◌≡◌, ◌≢◌, ℕ, List, [], Some}
 use Rattle.seq_model.specs.declared.event.Event.{Event}
-use Rattle.atomic_steps.specs.Own.{Alike}
+use Rattle.actor_laws.specs.Own.{Alike}
 use Rattle.replay_log.specs.Seats.{World, actor_of}
 use Rattle.replay_log.specs.Worlds.{run}
 use Rattle.tx_table.specs.Seated.{actor, acts, kept}

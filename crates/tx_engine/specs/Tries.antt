@@ -1,7 +1,7 @@
 -- The tries of a request on a gate, turn by turn.
 use Rattle.std.specs.Prelude.{◌≡◌, ◌≢◌, ℕ, ◌+◌, List, [], ◌∷◌, ◌++◌, Some, length}
 use Rattle.seq_model.specs.declared.event.Event.TheVariants.{Step}
-use Rattle.atomic_steps.specs.Gates.{Tries}
+use Rattle.actor_laws.specs.Gates.{Tries}
 use Rattle.replay_log.specs.Seats.{World}
 use Rattle.replay_log.specs.WorldCalls.{gate_tries}
 use Rattle.replay_log.specs.WorldTries.{InVain}

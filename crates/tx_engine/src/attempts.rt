@@ -2,7 +2,7 @@
 ghost use Rattle.std.specs.Prelude.{◌≡◌, ◌+◌, ◌<◌, IfErr, IfNone, IfOk, IfSome, [], false, length};
 ghost use Rattle.seq_model.specs.declared.limits.TheConstants.{CALL_LIMIT as AsCallLimit};
 ghost use Rattle.tx_table.specs.Seated.{acts, opening_of};
-ghost use Rattle.tx_phases.specs.Phases.{Rests, Stands};
+ghost use Rattle.actor_laws.specs.Phases.{Rests, Stands};
 ghost use Rattle.driven_turns.specs.Begins.{begins_of};
 ghost use Rattle.tx_engine.specs.Ready.{HasBegunSince, IsReady, standing};
 ghost use Rattle.tx_engine.specs.Requests.{HasAborted, HasSameAborted, IsBegun, IsNotBegun, IsOpen, KeepsReceipts};
@@ -10,8 +10,7 @@ ghost use Rattle.tx_engine.specs.Attempts.{Aborts, AttemptsTo, IsSoFar, IsUnmade
 
 use crate::pause::Pause;
 use crate::seats::TxSeat;
-use jobs::{Ask, Job};
-use seq_model::{Record, Refusal, Reply, Value};
+use seq_model::{Ask, Job, Record, Refusal, Reply, Value};
 use tx_table::TxTable;
 
 /// What became of an attempt.

@@ -2,7 +2,7 @@
 ghost use Rattle.std.specs.Prelude.{◌≡◌, [], ◌∷◌, ◌++◌, IfErr, IfOk, None, OnErr, OnOk, true};
 ghost use Rattle.replay_log.specs.WorldAnswers.{IsAdmitted};
 ghost use Rattle.tx_table.specs.Seated.{actor as actor_of, acts, opening_of};
-ghost use Rattle.tx_phases.specs.Phases.{Rests};
+ghost use Rattle.actor_laws.specs.Phases.{Rests};
 ghost use Rattle.tx_turns.specs.Asked.{Answers, HasAsked};
 ghost use Rattle.driven_turns.specs.Begins.{begins_of};
 ghost use Rattle.driven_turns.specs.Driven.{is_declared, standing};
@@ -12,7 +12,7 @@ ghost use Rattle.tx_engine.specs.Requests.{CallsTo, HasAborted, HasAskedFor, IsC
 ghost use Rattle.tx_engine.specs.Requests.{IsLastAborted, told_of};
 
 use crate::requests::abort;
-use boxes::Boxed;
+use actor_parts::Boxed;
 use driven_turns::drive_call;
 use gate_turns::ask;
 use replay_log::Base;

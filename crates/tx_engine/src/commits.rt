@@ -6,7 +6,7 @@ ghost use Rattle.tx_engine.specs.Ready.{CanDrive};
 ghost use Rattle.tx_engine.specs.Requests.{CommitsTo, HasAskedFor, IsCommitTold, IsOpen};
 
 use crate::calls::ask_open;
-use boxes::Boxed;
+use actor_parts::Boxed;
 use driven_turns::drive_commit;
 use replay_log::Base;
 use seq_model::{Record, Refusal, Request, Value};

@@ -12,7 +12,7 @@ ghost use Rattle.replay_log.specs.WorldSerial.{IsSerial};
 ghost use Rattle.replay_log.specs.Worlds.{run};
 ghost use Rattle.tx_actor.specs.declared.actor.Told.{Told};
 ghost use Rattle.tx_table.specs.Opening.{Holds};
-ghost use Rattle.tx_phases.specs.Phases.{Rests, Stands};
+ghost use Rattle.actor_laws.specs.Phases.{Rests, Stands};
 ghost use Rattle.tx_table.specs.Seated.{actor, contents_in, opening_of};
 ghost use Rattle.tx_table.specs.Shown.{Opens, Slot};
 ghost use Rattle.tx_table.specs.declared.table.TxTable.{TxTable};

@@ -26,7 +26,7 @@ mod tx;
 mod unheld;
 
 pub use attempts::{Attempt, attempt_with};
-pub use jobs::{Ask, Job};
+pub use seq_model::{Ask, Job};
 pub use pause::{NoPause, Pause};
 pub use seats::TxSeat;
 pub use tx::{Receipt, Tx, begin, begin_read, learn};

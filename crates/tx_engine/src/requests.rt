@@ -1,7 +1,7 @@
 //! Requests of a transaction: one that begins, and one that ends without a commit.
 ghost use Rattle.std.specs.Prelude.{◌≡◌, ◌+◌, [], ◌∷◌, ◌++◌, IfErr, IfOk, None, false, true};
 ghost use Rattle.tx_table.specs.Seated.{opening_of};
-ghost use Rattle.tx_phases.specs.Phases.{Rests};
+ghost use Rattle.actor_laws.specs.Phases.{Rests};
 ghost use Rattle.driven_turns.specs.Begins.{begins_of};
 ghost use Rattle.driven_turns.specs.Driven.{is_declared, standing};
 ghost use Rattle.driven_turns.specs.Requested.{requests_of};
@@ -9,7 +9,7 @@ ghost use Rattle.tx_engine.specs.Ready.{CanDrive};
 ghost use Rattle.tx_engine.specs.Requests.{HasAborted, IsBeginTold, IsBegun, IsLastAborted, IsNotBegun, IsOpen, KeepsReceipts};
 ghost use Rattle.tx_engine.specs.Requests.{HasSameAborted, begin_of};
 
-use boxes::Boxed;
+use actor_parts::Boxed;
 use driven_turns::{drive, drive_begin};
 use replay_log::Base;
 use seq_model::{Answer, Refusal, Request, Value};

@@ -3,7 +3,7 @@ ghost use Rattle.std.specs.Prelude.{◌≡◌, ◌≢◌, ◌+◌, ◌<◌, ◌�
 ghost use Rattle.seq_model.specs.declared.call.Op.TheVariants as op;
 ghost use Rattle.seq_model.specs.declared.refusal.Refusal.TheVariants.{Ahead};
 ghost use Rattle.tx_table.specs.Seated.{opening_of, view};
-ghost use Rattle.tx_phases.specs.Phases.{Rests};
+ghost use Rattle.actor_laws.specs.Phases.{Rests};
 ghost use Rattle.driven_turns.specs.Begins.{begins_of};
 ghost use Rattle.driven_turns.specs.Driven.{is_declared, standing};
 ghost use Rattle.driven_turns.specs.Requested.{requests_of};
@@ -12,7 +12,7 @@ ghost use Rattle.tx_engine.specs.Requests.{HasAborted, HasAskedToBegin, HasSameA
 ghost use Rattle.tx_engine.specs.Requests.{KeepsReceipts, OnlyKnows};
 
 use crate::reply_room::ReplyRoom;
-use boxes::Boxed;
+use actor_parts::Boxed;
 use replay_log::Base;
 use seq_model::{Call, Op, Record, Refusal, Reply, Request, Value};
 use std::alloc::Global;

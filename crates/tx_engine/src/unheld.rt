@@ -1,15 +1,14 @@
 //! Attempts without a pause.
 ghost use Rattle.std.specs.Prelude.{◌≡◌};
 ghost use Rattle.tx_table.specs.Seated.{opening_of};
-ghost use Rattle.tx_phases.specs.Phases.{Rests};
+ghost use Rattle.actor_laws.specs.Phases.{Rests};
 ghost use Rattle.tx_engine.specs.Ready.{IsReady, standing};
 ghost use Rattle.tx_engine.specs.Attempts.{AttemptsTo};
 
 use crate::attempts::{Attempt, attempt_with};
 use crate::pause::NoPause;
 use crate::seats::TxSeat;
-use jobs::Job;
-use seq_model::{Refusal, Value};
+use seq_model::{Job, Refusal, Value};
 use tx_table::TxTable;
 
 /// One attempt of a job, by a transaction that may write, as `attempt_with` makes it, and by a worker that is held nowhere.

@@ -29,8 +29,8 @@ use Rattle.replay_log.specs.Seats.{World, Seat, actor_of}
 use Rattle.replay_log.specs.Worlds.{run, opened}
 use Rattle.replay_log.specs.WorldSerial.{AreUpTo, IsSerial}
 use Rattle.replay_log.specs.WorldTraces.{is_half_done}
-use Rattle.atomic_steps.specs.Own.{Alike}
-use Rattle.atomic_steps.proofs.Alike.{alike_same}
+use Rattle.actor_laws.specs.Own.{Alike}
+use Rattle.actor_laws.proofs.Alike.{alike_same}
 use Rattle.tx_table.specs.Turns.{Turn, stage_of, lone}
 use Rattle.tx_table.specs.Shown.{View, Slot, total, owed, Table, IsJoined, IsOwn, IsSpent, Rule, Shows, left_of, right_of}
 use Rattle.tx_table.specs.Shown.{HasReceipts, aborted_by, both_of, only_by, spent_of}

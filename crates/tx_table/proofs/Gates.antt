@@ -26,19 +26,19 @@ use Rattle.replay_log.specs.Contents.{Block, Asked, HaveStripes, content, first_
 use Rattle.replay_log.proofs.ContentLemmas.{content_frame}
 use Rattle.replay_log.specs.Seats.{World, Stage, Copying, Ready, actor_of, moves}
 use Rattle.replay_log.specs.Worlds.{happens, run}
-use Rattle.atomic_steps.specs.Bases.{ShowsBase}
-use Rattle.atomic_steps.specs.Clock.{stamps_left, Grows}
-use Rattle.atomic_steps.specs.Gates.{Tries, Puts, GoesHome, Gated}
-use Rattle.atomic_steps.specs.Machine.{FindsBelow}
-use Rattle.atomic_steps.specs.Own.{Alike, FindsBy, FindsAt, SameAfter, SameCopy}
-use Rattle.atomic_steps.specs.Spots.{Spot, Gate, spot_by, gate_word, found_gate, number_at}
-use Rattle.atomic_steps.specs.Steps.{atomic_action, ready_at}
-use Rattle.atomic_steps.proofs.Alike.{alike_trans, action_same, spot_same}
-use Rattle.atomic_steps.proofs.Alone.{found_free, read_editions, read_home}
-use Rattle.atomic_steps.proofs.Others.{others, calm_alike}
-use Rattle.atomic_steps.proofs.OwnEvents.{own_event}
-use Rattle.atomic_steps.proofs.Spots.{Keeps, one_spot, after_calm}
-use Rattle.atomic_steps.proofs.Turned.{try_turned, put_turned, home_turned, home_same}
+use Rattle.actor_laws.specs.Bases.{ShowsBase}
+use Rattle.actor_laws.specs.Clock.{stamps_left, Grows}
+use Rattle.actor_laws.specs.Gates.{Tries, Puts, GoesHome, Gated}
+use Rattle.actor_laws.specs.Machine.{FindsBelow}
+use Rattle.actor_laws.specs.Own.{Alike, FindsBy, FindsAt, SameAfter, SameCopy}
+use Rattle.actor_laws.specs.Spots.{Spot, Gate, spot_by, gate_word, found_gate, number_at}
+use Rattle.actor_laws.specs.Steps.{atomic_action, ready_at}
+use Rattle.actor_laws.proofs.Alike.{alike_trans, action_same, spot_same}
+use Rattle.actor_laws.proofs.Alone.{found_free, read_editions, read_home}
+use Rattle.actor_laws.proofs.Others.{others, calm_alike}
+use Rattle.actor_laws.proofs.OwnEvents.{own_event}
+use Rattle.actor_laws.proofs.Spots.{Keeps, one_spot, after_calm}
+use Rattle.actor_laws.proofs.Turned.{try_turned, put_turned, home_turned, home_same}
 use Rattle.tx_table.specs.Layout.{address, gate_address, width}
 use Rattle.tx_table.specs.Turns.{Turn, asked_all, stage_of, spot, parts_found, editions_found, found_at, moved, ends, took, lone}
 use Rattle.tx_table.specs.Turns.{turn_events}

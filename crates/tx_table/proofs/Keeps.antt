@@ -22,15 +22,15 @@ use Rattle.replay_log.specs.declared.base.Base.{Base}
 use Rattle.replay_log.specs.Contents.{Block, end_of, home_of, is_plain}
 use Rattle.replay_log.specs.Seats.{World, Seat, actor_of}
 use Rattle.replay_log.specs.Worlds.{happens, run}
-use Rattle.atomic_steps.specs.Clock.{stamps_left, Grows}
-use Rattle.atomic_steps.specs.Own.{Alike, SameAfter}
-use Rattle.atomic_steps.specs.Spots.{Spot, Word, Gate, deed_of, gate_word, number_at}
-use Rattle.atomic_steps.specs.Steps.{OnlyOwn, ready_at}
-use Rattle.atomic_steps.proofs.Alike.{alike_sym, alike_trans, spot_same, deed_same}
-use Rattle.atomic_steps.proofs.Clock.{one_left}
-use Rattle.atomic_steps.proofs.Others.{others, calm_alike}
-use Rattle.atomic_steps.proofs.Spots.{Keeps, one_spot, after_calm}
-use Rattle.atomic_steps.proofs.Turned.{word_turned}
+use Rattle.actor_laws.specs.Clock.{stamps_left, Grows}
+use Rattle.actor_laws.specs.Own.{Alike, SameAfter}
+use Rattle.actor_laws.specs.Spots.{Spot, Word, Gate, deed_of, gate_word, number_at}
+use Rattle.actor_laws.specs.Steps.{OnlyOwn, ready_at}
+use Rattle.actor_laws.proofs.Alike.{alike_sym, alike_trans, spot_same, deed_same}
+use Rattle.actor_laws.proofs.Clock.{one_left}
+use Rattle.actor_laws.proofs.Others.{others, calm_alike}
+use Rattle.actor_laws.proofs.Spots.{Keeps, one_spot, after_calm}
+use Rattle.actor_laws.proofs.Turned.{word_turned}
 use Rattle.tx_table.specs.Layout.{address, gate_address, IsInside, width}
 use Rattle.tx_table.specs.Turns.{Turn, own, asked_all, stage_of, spot, found_at, moved, ends, ends_of, took, lone, turn_events}
 use Rattle.tx_table.specs.Shown.{highest_clock, View, Slot, total, owed, owed_of, acting, HasHappened, OneBase, SameBases, Table, IsOwn}

@@ -1,5 +1,5 @@
 -- A table that was laid out meets its rule: the words are at their addresses, the gates are free, and each base is in its slot.
-use Rattle.actor_words.specs.declared.blocks.TheConstants.{TABLE_LIMIT, COLLECTION_LIMIT}
+use Rattle.actor_parts.specs.declared.blocks.TheConstants.{TABLE_LIMIT, COLLECTION_LIMIT}
 use Rattle.std.proofs.Common.{◌≡◌, ℕ, zero, suc, ◌+◌, ◌-◌, ◌*◌, ◌<◌, ◌≤◌, List, [], ◌∷◌, ◌++◌, Some, length, get_or, sym, refl, ap, ◌∙◌}
 use Rattle.std.proofs.Common.{subst, arith, length-append}
 use Rattle.std.specs.Prelude.{map, replicate, slice_get}

@@ -1,7 +1,7 @@
 -- Steps on gates of a table that was opened: the guards hold, and a base with its log folded in may be put back.
 --
 -- Wherever the rule holds, the seat's lone world is alike to its actor in a world that events have reached; so what is proved of such
--- worlds holds of it (`Guards` and `Bases` of `atomic_steps`), and a seat needs to know only which step is next for it.
+-- worlds holds of it (`Guards` and `Bases` of `actor_laws`), and a seat needs to know only which step is next for it.
 use Rattle.std.proofs.Common.{◌≡◌, ℕ, ◌<◌, eqb, List, ◌∷◌, ◌++◌, length, Some, None, sym, ap, ◌∙◌, subst}
 use prog.Atomic.{either}
 use mathlib.Core.Option.{some}
@@ -15,13 +15,13 @@ use Rattle.replay_log.specs.Contents.{Block, HaveStripes, block_of, end_of, home
 use Rattle.replay_log.proofs.ContentLemmas.{same_block}
 use Rattle.replay_log.specs.Seats.{World}
 use Rattle.replay_log.specs.Worlds.{happens, opened, run}
-use Rattle.atomic_steps.specs.Bases.{IsBaseOf, ShowsBase, IsFolded, log_changes, log_locations}
-use Rattle.atomic_steps.specs.Gates.{Tries, Puts, GoesHome}
-use Rattle.atomic_steps.specs.Own.{Alike}
-use Rattle.atomic_steps.specs.Spots.{Gate}
-use Rattle.atomic_steps.proofs.Alike.{action_same}
-use Rattle.atomic_steps.proofs.Bases.{goes_home}
-use Rattle.atomic_steps.proofs.Guards as guards
+use Rattle.actor_laws.specs.Bases.{IsBaseOf, ShowsBase, IsFolded, log_changes, log_locations}
+use Rattle.actor_laws.specs.Gates.{Tries, Puts, GoesHome}
+use Rattle.actor_laws.specs.Own.{Alike}
+use Rattle.actor_laws.specs.Spots.{Gate}
+use Rattle.actor_laws.proofs.Alike.{action_same}
+use Rattle.actor_laws.proofs.Bases.{goes_home}
+use Rattle.actor_laws.proofs.Guards as guards
 use Rattle.tx_table.specs.Layout.{gate_address}
 use Rattle.tx_table.specs.Turns.{asked_all, found_at, lone}
 use Rattle.tx_table.specs.Shown.{View, Slot, IsBaseAt, Rule, Steps, Told, Took}

@@ -13,8 +13,8 @@ use Rattle.seq_model.specs.declared.record.Record.{Record}
 use Rattle.replay_log.specs.declared.base.Base.{Base}
 use Rattle.replay_log.specs.Contents.{HaveStripes, end_of}
 use Rattle.replay_log.specs.Seats.{World}
-use Rattle.atomic_steps.specs.Gates.{Tries}
-use Rattle.atomic_steps.specs.Spots.{Word}
+use Rattle.actor_laws.specs.Gates.{Tries}
+use Rattle.actor_laws.specs.Spots.{Word}
 use Rattle.tx_table.specs.declared.seat.Seat.{Seat}
 use Rattle.tx_table.specs.Layout.{address, gate_address, IsInside}
 use Rattle.tx_table.specs.declared.view.Opening.{Opening}

@@ -20,13 +20,13 @@ use Rattle.replay_log.specs.Contents.{Asked}
 use Rattle.replay_log.specs.Seats.{World, Ended, Seat, Stage, Closing, Copying, Leaving, Ready, acted, asks}
 use Rattle.replay_log.specs.WorldTraces.{ended_by}
 use Rattle.replay_log.specs.Worlds.{happens}
-use Rattle.atomic_steps.specs.Machine.{SameWord}
-use Rattle.atomic_steps.specs.Own.{Alike, SameAfter, FindsBy, FindsAt}
-use Rattle.atomic_steps.specs.Spots.{Spot, Nowhere, Word, Gate, spot_of, deed_of, word_spot, spot_by, spot_at}
-use Rattle.atomic_steps.specs.Steps.{OnlyOwn, Does, atomic_action, ready_at, ended_at}
-use Rattle.atomic_steps.proofs.Alone.{planted_word, planted_alike}
-use Rattle.atomic_steps.proofs.OneStep.{one_step, nothing, through, ask_calm}
-use Rattle.atomic_steps.proofs.OwnEvents.{own_event}
+use Rattle.actor_laws.specs.Machine.{SameWord}
+use Rattle.actor_laws.specs.Own.{Alike, SameAfter, FindsBy, FindsAt}
+use Rattle.actor_laws.specs.Spots.{Spot, Nowhere, Word, Gate, spot_of, deed_of, word_spot, spot_by, spot_at}
+use Rattle.actor_laws.specs.Steps.{OnlyOwn, Does, atomic_action, ready_at, ended_at}
+use Rattle.actor_laws.proofs.Alone.{planted_word, planted_alike}
+use Rattle.actor_laws.proofs.OneStep.{one_step, nothing, through, ask_calm}
+use Rattle.actor_laws.proofs.OwnEvents.{own_event}
 use Rattle.tx_table.specs.Turns.{Turn, own, asked_all, stage_of, spot, first_at, parts_found, editions_found, found_at, took, lone, ends_of}
 use Rattle.tx_table.specs.Turns.{ends}
 use Rattle.tx_table.specs.Shown.{aborted_by, only_by, total}

@@ -7,15 +7,15 @@ use Rattle.seq_model.specs.declared.event.Event.TheVariants.{Step}
 use Rattle.collection_machine.specs.Boosted.{is_actor}
 use Rattle.replay_log.specs.declared.base.Base.{Base}
 use Rattle.replay_log.specs.Contents.{Block, block_of, first_of}
-use Rattle.actor_words.specs.Blocks.{kind_of}
+use Rattle.actor_parts.specs.Blocks.{kind_of}
 use Rattle.tx_table.specs.declared.blocks.Block as placed
 use Rattle.replay_log.specs.Seats.{World}
 use Rattle.replay_log.specs.Worlds.{happens}
 use Rattle.replay_log.specs.WorldTraces.{is_half_done}
-use Rattle.atomic_steps.specs.Bases.{IsBaseOf, ShowsBase, IsFolded, log_changes, log_locations}
-use Rattle.atomic_steps.specs.Gates.{Puts, GoesHome}
-use Rattle.atomic_steps.specs.Spots.{Word, Gate, deed_of}
-use Rattle.atomic_steps.specs.Steps.{ready_at}
+use Rattle.actor_laws.specs.Bases.{IsBaseOf, ShowsBase, IsFolded, log_changes, log_locations}
+use Rattle.actor_laws.specs.Gates.{Puts, GoesHome}
+use Rattle.actor_laws.specs.Spots.{Word, Gate, deed_of}
+use Rattle.actor_laws.specs.Steps.{ready_at}
 use Rattle.tx_table.specs.declared.seat.Asked.{Asked, Nothing, More'}
 use Rattle.tx_table.specs.declared.seat.Seat.{Seat}
 use Rattle.tx_table.specs.declared.table.TxTable.{TxTable}

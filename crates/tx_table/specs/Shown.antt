@@ -26,11 +26,11 @@ use Rattle.replay_log.specs.Seats.{Ended, World, actor_of}
 use Rattle.replay_log.specs.Worlds.{happens, opened, run}
 use Rattle.replay_log.specs.WorldSerial.{AreUpTo}
 use Rattle.replay_log.specs.WorldTraces.{is_half_done}
-use Rattle.atomic_steps.specs.Bases.{IsBaseOf, ShowsBase}
-use Rattle.atomic_steps.specs.Clock.{stamps_left}
-use Rattle.atomic_steps.specs.Machine.{SameBase}
-use Rattle.atomic_steps.specs.Own.{Alike, SameAfter}
-use Rattle.atomic_steps.specs.Spots.{gate_word, number_at}
+use Rattle.actor_laws.specs.Bases.{IsBaseOf, ShowsBase}
+use Rattle.actor_laws.specs.Clock.{stamps_left}
+use Rattle.actor_laws.specs.Machine.{SameBase}
+use Rattle.actor_laws.specs.Own.{Alike, SameAfter}
+use Rattle.actor_laws.specs.Spots.{gate_word, number_at}
 use Rattle.tx_table.specs.Layout.{address, gate_address, IsInside, width}
 use Rattle.tx_table.specs.Turns.{Turn, asked_all, lone, moved, ends, spot, stage_of, turn_events}
 use Rattle.tx_table.specs.declared.view.TheConstants.{SHARES}

@@ -5,7 +5,7 @@ ghost use Rattle.replay_log.specs.Contents as contents;
 ghost use Rattle.tx_table.specs.Seated.{IsBlockAt, blocks_in, words_in};
 
 use crate::table::TxTable;
-use actor_words::Blocks;
+use actor_parts::Blocks;
 use seq_model::{Kind, Value};
 
 /// The place of a collection among the locations.

@@ -1,7 +1,7 @@
 //! The steps of a seat, each by its name. Each is one atomic step on the table, the one that is next for the seat's actor.
 ghost use Rattle.std.specs.Prelude.{◌≡◌, ◌≢◌, ◌+◌, ◌^◌, ◌<◌, ◌≤◌, ◌∷◌, ◌++◌, [], MatchOption, None, Some, length};
 ghost use Rattle.atomic_table.specs.Table.{rest};
-ghost use Rattle.atomic_steps.specs.Gates.{Tries};
+ghost use Rattle.actor_laws.specs.Gates.{Tries};
 ghost use Rattle.word_machine.specs.Cells.{ClockCell, LockCell, ValueCell};
 ghost use Rattle.tx_table.specs.Shown.{highest_clock, IsBaseAt, looking};
 ghost use Rattle.tx_table.specs.Seated.{
@@ -28,7 +28,7 @@ ghost use Rattle.tx_table.specs.Seated.{
 use crate::seat::Seat;
 use crate::steps::{add_one, free_gate, load_first, load_word, store_word, swap_word, try_gate};
 use crate::table::TxTable;
-use boxes::Boxed;
+use actor_parts::Boxed;
 use replay_log::Base;
 use seq_model::Value;
 use std::marker::Brand;

@@ -1,5 +1,5 @@
 //! What a closed table holds.
-ghost use Rattle.actor_words.specs.declared.blocks.TheConstants.{TABLE_LIMIT};
+ghost use Rattle.actor_parts.specs.declared.blocks.TheConstants.{TABLE_LIMIT};
 ghost use Rattle.std.specs.Prelude.{◌≡◌, ◌≤◌, ℕ, None, length};
 ghost use Rattle.std.specs.Slots.{IsFull, slots_items, slots_len};
 ghost use mathlib.Core.Option.{some};
@@ -7,7 +7,7 @@ ghost use lib.ListN.{get_elem?};
 ghost use Rattle.tx_table.specs.Layout.{width};
 
 use crate::home::Home;
-use boxes::Boxed;
+use actor_parts::Boxed;
 use replay_log::Base;
 use std::alloc::Global;
 

@@ -4,7 +4,7 @@
 //! collections are lifted and put back at once without a line of the cache that both write.
 ghost use Rattle.std.specs.Prelude.{◌≡◌, None, Some};
 
-use boxes::Boxed;
+use actor_parts::Boxed;
 use std::marker::Model;
 
 /// The place of a base, with room on either side, as memory comes aligned to 16 bytes alone. Contracts see the base, or none while a

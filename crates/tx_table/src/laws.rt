@@ -19,11 +19,11 @@ ghost use Rattle.replay_log.specs.Collections.{Suit};
 ghost use Rattle.replay_log.specs.Seats.{World};
 ghost use Rattle.replay_log.specs.Worlds.{happens, opened};
 ghost use Rattle.replay_log.specs.WorldTraces.{is_half_done};
-ghost use Rattle.atomic_steps.specs.Bases.{IsBaseOf, ShowsBase, IsFolded, log_changes, log_locations};
-ghost use Rattle.atomic_steps.specs.Gates.{Tries, Puts, GoesHome};
-ghost use Rattle.atomic_steps.specs.Own.{Alike, SameAfter};
-ghost use Rattle.atomic_steps.specs.Spots.{Word, Gate, deed_of};
-ghost use Rattle.atomic_steps.specs.Steps.{ready_at};
+ghost use Rattle.actor_laws.specs.Bases.{IsBaseOf, ShowsBase, IsFolded, log_changes, log_locations};
+ghost use Rattle.actor_laws.specs.Gates.{Tries, Puts, GoesHome};
+ghost use Rattle.actor_laws.specs.Own.{Alike, SameAfter};
+ghost use Rattle.actor_laws.specs.Spots.{Word, Gate, deed_of};
+ghost use Rattle.actor_laws.specs.Steps.{ready_at};
 ghost use Rattle.tx_table.specs.Layout.{address, gate_address, IsInside};
 ghost use Rattle.tx_table.specs.Turns.{spot, found_at, ends, asked_all, lone, stage_of};
 ghost use Rattle.tx_table.specs.Shown.{

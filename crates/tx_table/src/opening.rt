@@ -1,5 +1,5 @@
 //! Opening a table.
-ghost use Rattle.actor_words.specs.declared.blocks.TheConstants.{COLLECTION_LIMIT};
+ghost use Rattle.actor_parts.specs.declared.blocks.TheConstants.{COLLECTION_LIMIT};
 ghost use Rattle.std.specs.Prelude.{◌≡◌, ◌≤◌, ◌≢◌, ◌+◌, ◌*◌, ◌++◌, ◌∷◌, [], IfErr, IfOk, IfSome, IsOk, Some, length, map, replicate};
 ghost use Rattle.replay_log.specs.Contents.{HaveStripes};
 ghost use Rattle.seq_model.specs.Refusals.{IsNoSuchOrTooLong};
@@ -12,8 +12,7 @@ use crate::rule::Whole;
 use crate::seat::{Asked, Seat};
 use crate::table::TxTable;
 use crate::view::{Opening, SHARES};
-use actor_words::Blocks;
-use boxes::Boxed;
+use actor_parts::{Blocks, Boxed};
 use replay_log::Base;
 use seq_model::{Memory, Refusal, Shape, State, Value};
 use std::alloc::Global;

@@ -1,8 +1,8 @@
 //! The rule of a running table.
 use crate::home::Home;
 use crate::view::{Opening, View};
+use actor_parts::Boxed;
 use atomic_table::{Join, Play, Seat, Shared, Split, Table, TableRule};
-use boxes::Boxed;
 use replay_log::Base;
 use std::alloc::Global;
 use std::marker::Brand;

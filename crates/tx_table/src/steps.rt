@@ -3,7 +3,7 @@ ghost use Rattle.std.specs.Prelude.{◌≡◌, ◌+◌, ◌<◌, ◌≤◌, ◌�
 ghost use Rattle.atomic_table.specs.Table.{rest};
 ghost use Rattle.word_machine.specs.Cells.{Cell, ClockCell};
 ghost use Rattle.seq_model.specs.declared.event.Event.{Event};
-ghost use Rattle.atomic_steps.specs.Gates.{Tries};
+ghost use Rattle.actor_laws.specs.Gates.{Tries};
 ghost use Rattle.tx_table.specs.Layout.{address, gate_address, IsInside};
 ghost use Rattle.tx_table.specs.Opening.{blocks_at, locations_at, world_at};
 ghost use Rattle.tx_table.specs.Shown.{highest_clock, IsBaseAt};
@@ -12,7 +12,7 @@ ghost use Rattle.tx_table.specs.Seated.{Adds, Exchanges, IsHome, Loads, Stepped,
 use crate::home::{lift, put};
 use crate::rule::Board;
 use crate::seat::{Asked, Seat};
-use boxes::Boxed;
+use actor_parts::Boxed;
 use replay_log::Base;
 use seq_model::Value;
 use std::marker::Brand;

@@ -1,11 +1,11 @@
 //! The table.
-ghost use Rattle.actor_words.specs.declared.blocks.TheConstants.{TABLE_LIMIT, COLLECTION_LIMIT};
+ghost use Rattle.actor_parts.specs.declared.blocks.TheConstants.{TABLE_LIMIT, COLLECTION_LIMIT};
 ghost use Rattle.std.specs.Prelude.{◌≡◌, ◌≤◌, length};
 ghost use Rattle.tx_table.specs.Layout.{width};
 ghost use Rattle.tx_table.specs.Opening.{blocks_at, locations_at, words_at};
 
 use crate::rule::Whole;
-use actor_words::Blocks;
+use actor_parts::Blocks;
 use std::alloc::Global;
 
 /// A table of words and collections that threads share.

@@ -12,13 +12,13 @@ use Rattle.replay_log.proofs.SeatLemmas.{StageOk}
 use Rattle.replay_log.specs.Seats.{World, Seat, After, actor_of}
 use Rattle.replay_log.specs.Worlds.{ask_at, happens, run, starve_at}
 use Rattle.step_core.specs.Shown as words
-use Rattle.actor_words.specs.Blocks.{BlocksView}
-use Rattle.actor_words.specs.Dispatch.{is_loading}
-use Rattle.actor_words.specs.Requests.{HasNoReads}
-use Rattle.atomic_steps.proofs.OneStep.{one_step}
-use Rattle.atomic_steps.proofs.OwnEvents.{own_event}
-use Rattle.atomic_steps.specs.Own.{Alike}
-use Rattle.atomic_steps.specs.Steps.{OnlyOwn}
+use Rattle.actor_parts.specs.Blocks.{BlocksView}
+use Rattle.actor_parts.specs.Dispatch.{is_loading}
+use Rattle.actor_parts.specs.Requests.{HasNoReads}
+use Rattle.actor_laws.proofs.OneStep.{one_step}
+use Rattle.actor_laws.proofs.OwnEvents.{own_event}
+use Rattle.actor_laws.specs.Own.{Alike}
+use Rattle.actor_laws.specs.Steps.{OnlyOwn}
 use Rattle.tx_actor.specs.Asks.{Asks}
 use Rattle.tx_actor.specs.Dispatch.{Starves}
 use Rattle.tx_actor.specs.Keeping.{IsRunning}

@@ -25,15 +25,15 @@ use Rattle.step_core.specs.Shown as words
 use Rattle.step_core.specs.declared.actor.Actor.{Actor}
 use Rattle.step_core.specs.declared.answer.WordAnswer.{WordAnswer}
 use Rattle.step_core.specs.declared.answer.WordRefusal.{WordRefusal}
-use Rattle.actor_words.specs.Blocks.{BlocksView}
-use Rattle.actor_words.specs.Dispatch.{AreSteps, after_word, is_loading, next_of, notice_told}
-use Rattle.actor_words.specs.Dispatch as dispatch
-use Rattle.actor_words.specs.declared.next.Next.TheVariants as next
-use Rattle.atomic_steps.proofs.Alone.{same_actors}
-use Rattle.atomic_steps.proofs.OneStep.{ask_calm}
-use Rattle.atomic_steps.specs.Spots.{Spot, Word, deed_of, spot_at, spot_of}
-use Rattle.atomic_steps.specs.Steps.{ready_at}
-use Rattle.atomic_steps.specs.Tells.{tells}
+use Rattle.actor_parts.specs.Blocks.{BlocksView}
+use Rattle.actor_parts.specs.Dispatch.{AreSteps, after_word, is_loading, next_of, notice_told}
+use Rattle.actor_parts.specs.Dispatch as dispatch
+use Rattle.actor_parts.specs.declared.next.Next.TheVariants as next
+use Rattle.actor_laws.proofs.Alone.{same_actors}
+use Rattle.actor_laws.proofs.OneStep.{ask_calm}
+use Rattle.actor_laws.specs.Spots.{Spot, Word, deed_of, spot_at, spot_of}
+use Rattle.actor_laws.specs.Steps.{ready_at}
+use Rattle.actor_laws.specs.Tells.{tells}
 use Rattle.tx_actor.specs.Asks.{MayStore}
 use Rattle.tx_actor.specs.Dispatch.{IsToldWord, Records}
 use Rattle.tx_actor.specs.Running.{Runs, notice_of, seat_at, stage_of}
@@ -50,12 +50,12 @@ use Rattle.tx_table.specs.Seated.{acts, opening_of}
 use Rattle.tx_table.specs.Seated as seated
 use Rattle.tx_table.specs.Shown.{IsReached}
 use Rattle.tx_table.specs.Turns.{found_at, spot}
-use Rattle.tx_threads.proofs.OwnLemmas.{own_writes}
-use Rattle.tx_threads.specs.Dues.{IsDeed}
-use Rattle.tx_threads.specs.Touches.{Finds, IsNext, StepsWords}
-use Rattle.tx_threads.specs.declared.due.Due.{Due}
+use Rattle.tx_turns.proofs.OwnLemmas.{own_writes}
+use Rattle.tx_turns.specs.Dues.{IsDeed}
+use Rattle.tx_turns.specs.Touches.{Finds, IsNext, StepsWords}
+use Rattle.tx_turns.specs.declared.due.Due.{Due}
 use Rattle.tx_turns.specs.Ties.{Ties, Turned, commits_at, laid_in}
-use Rattle.tx_turns.proofs.DueLemmas.{becomes_is, clock_left, spot_is}
+use Rattle.tx_turns.proofs.TurnDueLemmas.{becomes_is, clock_left, spot_is}
 use Rattle.tx_turns.proofs.FoundLemmas.{found_cell, learns_found, may_release, runs_found, step_gates, step_learns_cell, step_tells_cell}
 use Rattle.tx_turns.proofs.FoundLemmas.{tells_found}
 use Rattle.tx_turns.proofs.TurnLemmas.{laid_as, own_held, own_place, own_stage, some_word, tied}

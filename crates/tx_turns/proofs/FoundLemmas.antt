@@ -22,21 +22,21 @@ use Rattle.replay_log.proofs.StageLemmas.{every_all}
 use Rattle.replay_log.specs.Contents.{content, home_of, is_plain}
 use Rattle.replay_log.specs.Seats.{World, Stage, Homing, Ready, Storing, acted, actor_of, moves, word_notice}
 use Rattle.replay_log.specs.Worlds.{all_of, distinct}
-use Rattle.actor_words.specs.Dispatch.{MayGoOn, MayRelease, next_of}
-use Rattle.actor_words.specs.declared.next.Next.TheVariants as next
-use Rattle.atomic_steps.proofs.Alone.{same_actors}
-use Rattle.atomic_steps.proofs.Tells.{told_by_number}
-use Rattle.atomic_steps.specs.Spots.{Word, with_word}
-use Rattle.atomic_steps.specs.Tells.{tells}
+use Rattle.actor_parts.specs.Dispatch.{MayGoOn, MayRelease, next_of}
+use Rattle.actor_parts.specs.declared.next.Next.TheVariants as next
+use Rattle.actor_laws.proofs.Alone.{same_actors}
+use Rattle.actor_laws.proofs.Tells.{told_by_number}
+use Rattle.actor_laws.specs.Spots.{Word, with_word}
+use Rattle.actor_laws.specs.Tells.{tells}
 use Rattle.tx_actor.specs.Running.{KnowsHomes, Runs}
 use Rattle.tx_actor.specs.declared.actor.Stage as own
 use Rattle.tx_actor.specs.declared.actor.Stage.TheVariants as stage
 use Rattle.tx_actor.specs.declared.actor.TxActor.{TxActor}
 use Rattle.tx_table.specs.Turns.{found_at}
-use Rattle.tx_threads.specs.Dues.{IsDeed}
-use Rattle.tx_threads.specs.Touches.{Finds}
-use Rattle.tx_threads.specs.declared.due.Due.{Due}
-use Rattle.tx_threads.specs.declared.due.Due.TheVariants as due
+use Rattle.tx_turns.specs.Dues.{IsDeed}
+use Rattle.tx_turns.specs.Touches.{Finds}
+use Rattle.tx_turns.specs.declared.due.Due.{Due}
+use Rattle.tx_turns.specs.declared.due.Due.TheVariants as due
 
 -- ---- what a store finds
 abbrev IsStore : Deed → Type 0

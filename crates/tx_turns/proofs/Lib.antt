@@ -1,4 +1,6 @@
 pub mod DueLemmas
+pub mod OwnLemmas
+pub mod TurnDueLemmas
 pub mod FoundLemmas
 pub mod TurnLemmas
 pub mod FirstLemmas

@@ -27,12 +27,12 @@ use Rattle.step_core.specs.Shown as words
 use Rattle.step_core.specs.declared.actor.Actor.{Actor}
 use Rattle.step_core.specs.declared.answer.WordAnswer.{WordAnswer}
 use Rattle.step_core.specs.declared.answer.WordRefusal.{WordRefusal}
-use Rattle.actor_words.specs.Blocks.{BlocksView}
-use Rattle.actor_words.specs.Dispatch.{AreSteps, after_word, is_loading, next_of, notice_told}
-use Rattle.actor_words.specs.declared.next.Next.TheVariants as next
-use Rattle.atomic_steps.proofs.Alone.{same_actors}
-use Rattle.atomic_steps.specs.Spots.{Spot, Word, spot_of}
-use Rattle.atomic_steps.specs.Tells.{tells}
+use Rattle.actor_parts.specs.Blocks.{BlocksView}
+use Rattle.actor_parts.specs.Dispatch.{AreSteps, after_word, is_loading, next_of, notice_told}
+use Rattle.actor_parts.specs.declared.next.Next.TheVariants as next
+use Rattle.actor_laws.proofs.Alone.{same_actors}
+use Rattle.actor_laws.specs.Spots.{Spot, Word, spot_of}
+use Rattle.actor_laws.specs.Tells.{tells}
 use Rattle.tx_actor.specs.Dispatch.{IsToldWord}
 use Rattle.tx_actor.specs.Keeping.{IsRunning}
 use Rattle.tx_actor.specs.Running.{Runs, notice_of, seat_at, seat_of, stage_of}
@@ -47,13 +47,13 @@ use Rattle.tx_table.specs.declared.view.View.{View}
 use Rattle.tx_table.specs.Seated.{Takes, acts, opening_of, view}
 use Rattle.tx_table.specs.Seated as seated
 use Rattle.tx_table.specs.Turns.{ends_of, found_at, moved, spot}
-use Rattle.tx_threads.proofs.OwnLemmas.{own_due, own_gates, own_ok}
-use Rattle.tx_threads.specs.Dues.{IsDeed}
-use Rattle.tx_threads.specs.Touches.{Finds, IsNext, StepsWords}
-use Rattle.tx_threads.specs.declared.due.Due.{Due}
+use Rattle.tx_turns.proofs.OwnLemmas.{own_due, own_gates, own_ok}
+use Rattle.tx_turns.specs.Dues.{IsDeed}
+use Rattle.tx_turns.specs.Touches.{Finds, IsNext, StepsWords}
+use Rattle.tx_turns.specs.declared.due.Due.{Due}
 use Rattle.actor_turns.proofs.SeatLemmas.{next_as, seat_by, stage_by}
 use Rattle.tx_turns.specs.Ties.{IsOnWord, Ties, Turned, commits, commits_at, laid_in}
-use Rattle.tx_turns.proofs.DueLemmas.{clock_left, next_is, word_spot}
+use Rattle.tx_turns.proofs.TurnDueLemmas.{clock_left, next_is, word_spot}
 use Rattle.tx_turns.proofs.FoundLemmas.{LocksAt, found_cell, knows_moved, learns_found, may_go_on, runs_found, step_gates, step_learns_cell}
 use Rattle.tx_turns.proofs.FoundLemmas.{step_tells_cell, tells_found}
 use Rattle.actor_turns.proofs.StepLemmas.{running_made}

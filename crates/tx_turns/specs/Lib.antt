@@ -1,2 +1,4 @@
+pub mod Dues
+pub mod Touches
 pub mod Ties
 pub mod Asked

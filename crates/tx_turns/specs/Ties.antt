@@ -3,7 +3,7 @@ use Rattle.std.specs.Prelude.{◌≡◌, ℕ, true, false, ◌<◌, ◌≤◌, L
 use Rattle.seq_model.specs.declared.record.Record.{Record}
 use Rattle.replay_log.specs.declared.base.Base.{Base}
 use Rattle.replay_log.specs.Seats.{World}
-use Rattle.actor_words.specs.Blocks.{BlocksView}
+use Rattle.actor_parts.specs.Blocks.{BlocksView}
 use Rattle.tx_actor.specs.Keeping.{IsRunning}
 use Rattle.tx_actor.specs.Running.{Runs, notice_of, stage_of}
 use Rattle.tx_actor.specs.declared.actor.Stage.{Stage}
@@ -15,11 +15,11 @@ use Rattle.tx_table.specs.declared.table.TxTable.{TxTable}
 use Rattle.tx_table.specs.Turns.{moved, spot}
 use Rattle.tx_table.specs.Shown.{IsReached, Slot}
 use Rattle.tx_table.specs.Seated.{Owns, Takes, actor, acts, blocks_in, opening_of, out, turned, view, words_in}
-use Rattle.atomic_steps.specs.Spots.{Word}
+use Rattle.actor_laws.specs.Spots.{Word}
 use Rattle.word_machine.specs.Cells.{ClockCell}
-use Rattle.actor_words.specs.Dispatch.{next_of}
-use Rattle.actor_words.specs.declared.next.Next.{Next}
-use Rattle.actor_words.specs.declared.next.Next.TheVariants as next
+use Rattle.actor_parts.specs.Dispatch.{next_of}
+use Rattle.actor_parts.specs.declared.next.Next.{Next}
+use Rattle.actor_parts.specs.declared.next.Next.TheVariants as next
 
 -- the step is on a word
 abbrev pub IsOnWord : Next → Type 0

@@ -1,20 +1,20 @@
 //! Turns on the words.
 ghost use Rattle.std.specs.Prelude.{◌≡◌, ◌++◌, ◌∷◌, [], IfOk, OnErr, OnOk, false, true};
-ghost use Rattle.actor_words.specs.Dispatch.{is_loading, next_of};
+ghost use Rattle.actor_parts.specs.Dispatch.{is_loading, next_of};
 ghost use Rattle.tx_actor.specs.Dispatch.{Records};
 ghost use Rattle.tx_actor.specs.Having.{KeepsCopies};
 ghost use Rattle.tx_actor.specs.Running.{stage_of};
 ghost use Rattle.tx_table.specs.Seated.{actor as actor_of_seat, opening_of, view};
 ghost use Rattle.tx_turns.specs.Ties.{Ties, Turned};
 
-use actor_words::Next;
-use actor_words::laws::steps_as_worlds;
+use crate::stepping::step_words;
+use actor_parts::Next;
+use actor_parts::word_laws::steps_as_worlds;
 use seq_model::{Items, Memory, Record, Value};
 use std::alloc::Global;
 use std::mem;
 use tx_actor::{Stage, Told, TxActor};
 use tx_table::{Seat, TxTable};
-use tx_threads::step_words;
 
 /// The next step of an actor's words, taken on the table by its seat.
 pub fn step_word<V: Value>(

@@ -17,7 +17,7 @@ use Rattle.client_sessions.specs.Holding.{state_of}
 use Rattle.client_sessions.specs.Runs.{AreSessions, Deal}
 use Rattle.vacation_core.specs.Alone.{AloneIsInOrder, AreOf, AreRecordsOf}
 use Rattle.vacation_core.specs.Asking.{Actions, AskAsSessions, MayHappen, Turn, begun, events_of}
-use Rattle.tx_phases.specs.Phases.{Phase, Rests, Committed, phase_at}
+use Rattle.actor_laws.specs.Phases.{Phase, Rests, Committed, phase_at}
 use Rattle.vacation_core.specs.Serial.{IsSerialSessions, actions_of, begun_all, committed_in, committed_of}
 use Rattle.vacation_core.proofs.ServeLemmas.{sessions_are_serial}
 

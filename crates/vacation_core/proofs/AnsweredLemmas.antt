@@ -20,8 +20,8 @@ use Rattle.replay_log.specs.Guards.{IsAtRest}
 use Rattle.replay_log.specs.WorldAnswers.{IsRefusal}
 use Rattle.replay_log.specs.Worlds.{Seat, Stage, Idle, Open, Copying, happens}
 use Rattle.replay_log.proofs.RequestLemmas.{run_by}
-use Rattle.tx_phases.specs.Alone.{ArePlain, HasRoomFor, IsAnswered, IsThere, commits_in, weight, weights}
-use Rattle.tx_phases.proofs.AloneLemmas.{never_refused}
+use Rattle.actor_laws.specs.Alone.{ArePlain, HasRoomFor, IsAnswered, IsThere, commits_in, weight, weights}
+use Rattle.actor_laws.proofs.AloneLemmas.{never_refused}
 use Rattle.vac_model.specs.declared.action.Action.{Action}
 use Rattle.client_sessions.specs.declared.entry.Entry.{Entry}
 use Rattle.client_sessions.specs.Holding.{state_of}
@@ -30,8 +30,8 @@ use Rattle.vacation_core.proofs.ThereLemmas.{AreKinds, of_tables, suit_kinds, th
 use Rattle.vacation_core.specs.Asking.{events_of}
 use Rattle.vacation_core.specs.Histories.{History, IsAt, IsLawful, opening_of, world_in}
 use Rattle.vacation_core.proofs.HistoryLemmas.{opens}
-use Rattle.tx_phases.specs.Courses.{IsUnderWay, IsUnderWayFrom}
-use Rattle.tx_phases.specs.Phases.{Phase, Rests, Begins, Stands, Calls, Commits, Committed, Ends, StepMoves, phase, phase_at}
+use Rattle.actor_laws.specs.Courses.{IsUnderWay, IsUnderWayFrom}
+use Rattle.actor_laws.specs.Phases.{Phase, Rests, Begins, Stands, Calls, Commits, Committed, Ends, StepMoves, phase, phase_at}
 use Rattle.vacation_core.specs.LoneClients.{may_commit}
 
 -- ---- what there is

@@ -22,9 +22,9 @@ use Rattle.replay_log.specs.WorldAnswers.{is_there}
 use Rattle.replay_log.specs.Worlds.{World, Stage, Idle, Open, ask_at, happens}
 use Rattle.replay_log.proofs.AskLemmas.{no_such, too_long}
 use Rattle.vac_model.specs.declared.action.Action.{Action}
-use Rattle.jobs.specs.declared.job.Ask.{Ask as Asked}
-use Rattle.jobs.specs.declared.job.Ask.TheVariants as ask
-use Rattle.jobs.specs.Programs.{Asks, Answers, GivesUp, after, asked, replies_of}
+use Rattle.seq_model.specs.declared.job.Ask.{Ask as Asked}
+use Rattle.seq_model.specs.declared.job.Ask.TheVariants as ask
+use Rattle.seq_model.specs.Programs.{Asks, Answers, GivesUp, after, asked, replies_of}
 use Rattle.client_sessions.specs.declared.entry.Entry.{Entry}
 use Rattle.client_sessions.specs.Sessions.{SessionProgram, session}
 use Rattle.step_world.specs.Feeds.{Feeds}
@@ -32,7 +32,7 @@ use Rattle.step_world.specs.Parts.{IsWorld}
 use Rattle.step_world.specs.declared.opening.TheConstants.{ACTORS}
 use Rattle.vacation_core.specs.Histories.{IsAt, action_in, done_in, world_in}
 use Rattle.vacation_core.proofs.HistoryLemmas.{abort_is_quiet, aborts_to, commit_is_quiet, commits_to, goes_on, idle, may_ask, opens}
-use Rattle.tx_phases.specs.Phases.{CallMoves, Phase, Rests, Stands, Calls, Commits, Ends, phase}
+use Rattle.actor_laws.specs.Phases.{CallMoves, Phase, Rests, Stands, Calls, Commits, Ends, phase}
 use Rattle.vacation_core.specs.Clients.{asks_next, failed, joined}
 use Rattle.vacation_core.specs.Plays.{Play, aborts, asks_on, if_replied, left_of, moved, seat_in, told}
 use Rattle.vacation_core.specs.Running.{AsksNext, AsksOn, Abandons, Called, HasPlace, IsAsking, IsCalling, IsClient, IsOn, IsOpen, IsOpenWith}
@@ -46,7 +46,7 @@ use Rattle.vacation_core.proofs.TurnLemmas.{client_as, client_at, on_turned, oth
 use Rattle.vacation_core.proofs.ClientLemmas.{parts_of}
 use Rattle.vacation_core.specs.Running.{IsOpenWith}
 use Rattle.vacation_core.proofs.TurnLemmas.{on_set, others_set, own_set, all_of, actor_at}
-use Rattle.jobs.proofs.ProgramLemmas.{same_call}
+use Rattle.seq_model.proofs.ProgramLemmas.{same_call}
 
 -- ---- programs
 

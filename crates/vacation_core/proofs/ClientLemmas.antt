@@ -30,11 +30,11 @@ use Rattle.replay_log.proofs.ProgressLemmas.{world_nears}
 use Rattle.replay_log.proofs.SizeLemmas.{world_soon}
 use Rattle.vac_model.specs.declared.action.Action.{Action}
 use Rattle.vac_model.specs.Holdings.{Holdings}
-use Rattle.tx_phases.specs.Alone.{ArePlain, IsPlain, commit_of, commits_in, weight, weights}
-use Rattle.tx_phases.proofs.AloneLemmas.{own}
-use Rattle.jobs.specs.declared.job.Ask.TheVariants as ask
-use Rattle.jobs.specs.Programs.{Answers, Asks, after, asked, replies_of}
-use Rattle.jobs.proofs.ProgramLemmas.{follows_after}
+use Rattle.actor_laws.specs.Alone.{ArePlain, IsPlain, commit_of, commits_in, weight, weights}
+use Rattle.actor_laws.proofs.AloneLemmas.{own}
+use Rattle.seq_model.specs.declared.job.Ask.TheVariants as ask
+use Rattle.seq_model.specs.Programs.{Answers, Asks, after, asked, replies_of}
+use Rattle.seq_model.proofs.ProgramLemmas.{follows_after}
 use Rattle.client_sessions.specs.declared.entry.Entry.{Entry}
 use Rattle.client_sessions.specs.Holding.{state_of}
 use Rattle.client_sessions.specs.Sessions.{SessionProgram, session}
@@ -49,11 +49,11 @@ use Rattle.vacation_core.specs.Serial.{begun_all}
 use Rattle.vacation_core.proofs.HistoryLemmas.{all_of, begin_is_quiet, begins, calls_to, commit_is_quiet, commits_to}
 use Rattle.vacation_core.proofs.HistoryLemmas.{lawful_next, may_ask, next}
 use Rattle.vacation_core.proofs.HistoryLemmas.{opens, step_at, world_next}
-use Rattle.tx_phases.proofs.CourseLemmas.{ends_at, steps_come}
-use Rattle.tx_phases.proofs.PhaseLemmas.{steps_move}
-use Rattle.tx_phases.specs.Courses.{ComesTo, EndsFrom, IsUnderWay, IsUnderWayFrom, IsRecordOf, latest}
-use Rattle.tx_phases.specs.Phases.{AskMoves, CallMoves, Phase, Rests, Begins, Stands, Calls, Commits, Committed, StepMoves, phase}
-use Rattle.tx_phases.specs.Phases.{Ends as Ended}
+use Rattle.actor_laws.proofs.CourseLemmas.{ends_at, steps_come}
+use Rattle.actor_laws.proofs.PhaseLemmas.{steps_move}
+use Rattle.actor_laws.specs.Courses.{ComesTo, EndsFrom, IsUnderWay, IsUnderWayFrom, IsRecordOf, latest}
+use Rattle.actor_laws.specs.Phases.{AskMoves, CallMoves, Phase, Rests, Begins, Stands, Calls, Commits, Committed, StepMoves, phase}
+use Rattle.actor_laws.specs.Phases.{Ends as Ended}
 use Rattle.vacation_core.specs.LoneClients.{IsAnswered, IsClient, IsDue, Leads, begun, may_commit}
 use Rattle.vacation_core.proofs.AnsweredLemmas.{HasRoom, asked_as, at_most_one, never_as_asked, never_in_steps, step_may}
 

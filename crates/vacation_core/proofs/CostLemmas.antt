@@ -13,8 +13,8 @@ use Rattle.seq_model.specs.declared.call.Op.{Op}
 use Rattle.seq_model.specs.declared.call.Op.TheVariants.{Read, Write, Get, Put, Remove, Enqueue, Dequeue, Peek}
 use Rattle.seq_model.specs.declared.call.Reply.{Reply}
 use Rattle.seq_model.specs.declared.call.Reply.TheVariants as reply
-use Rattle.tx_phases.specs.Alone.{IsSmall, weight, weights}
-use Rattle.jobs.specs.Programs.{Asks, Answers, GivesUp, Follows}
+use Rattle.actor_laws.specs.Alone.{IsSmall, weight, weights}
+use Rattle.seq_model.specs.Programs.{Asks, Answers, GivesUp, Follows}
 use Rattle.vac_model.specs.declared.action.Action.{Action}
 use Rattle.vac_model.specs.declared.action.Action.TheVariants.{Reserve, Delete, Update, QueryItem, QueryBill}
 use Rattle.vac_model.specs.declared.action.ActionReply.TheVariants.{Deleted, Reserved, Updated}

@@ -35,10 +35,10 @@ use Rattle.replay_log.specs.Worlds.{has_loaded, takes_gates, written_homes, has_
 use Rattle.replay_log.specs.Worlds.{why, step_at, starve_at, happens, more_tries}
 use Rattle.replay_log.specs.WorldReplies.{as_call}
 use Rattle.replay_log.specs.WorldTraces.{committed_by}
-use Rattle.jobs.specs.declared.job.Ask.{Ask as AnAsk}
-use Rattle.jobs.specs.declared.job.Ask.TheVariants as ask
-use Rattle.jobs.specs.Programs.{Program, Asks, Answers, GivesUp, Follows, after, asked, replies_of}
-use Rattle.jobs.proofs.ProgramLemmas.{done_call, follows_after, give_up_call, same_call}
+use Rattle.seq_model.specs.declared.job.Ask.{Ask as AnAsk}
+use Rattle.seq_model.specs.declared.job.Ask.TheVariants as ask
+use Rattle.seq_model.specs.Programs.{Program, Asks, Answers, GivesUp, Follows, after, asked, replies_of}
+use Rattle.seq_model.proofs.ProgramLemmas.{done_call, follows_after, give_up_call, same_call}
 
 -- it answers no commit
 abbrev pub TellsNoCommit : {V : Type 0} → Notice V → Type 0

@@ -40,7 +40,7 @@ use Rattle.client_sessions.specs.Runs.{HoldsBalanced}
 use Rattle.client_sessions.proofs.HoldingLemmas.{get_as}
 use Rattle.client_sessions.proofs.RunLemmas.{each_number_holds_tables}
 use Rattle.client_sessions.proofs.TablesLemmas.{answers_held}
-use Rattle.jobs.proofs.ProgramLemmas.{none_some, some_same}
+use Rattle.seq_model.proofs.ProgramLemmas.{none_some, some_same}
 use Rattle.vacation_core.specs.Asking.{events_of}
 use Rattle.vacation_core.specs.Histories.{History, IsLawful, opening_of, world_in}
 use Rattle.vacation_core.specs.Serial.{IsSerialSessions}

@@ -15,10 +15,10 @@ use Rattle.replay_log.specs.WorldRefusals.{is_ending}
 use Rattle.replay_log.specs.Worlds.{After, World, Stage, Idle, Beginning, Open, Releasing, Cancelling, Leaving, Reading}
 use Rattle.replay_log.specs.Worlds.{Trying, Copying, Loading, Storing, Homing, Returning}
 use Rattle.vac_model.specs.declared.action.Action.{Action}
-use Rattle.jobs.specs.Programs.{after, asked, replies_of}
+use Rattle.seq_model.specs.Programs.{after, asked, replies_of}
 use Rattle.client_sessions.specs.declared.entry.Entry.{Entry}
 use Rattle.client_sessions.specs.Sessions.{session}
-use Rattle.tx_phases.specs.Phases.{CallMoves, Phase, Rests, Begins, Stands, Calls, Commits, Committed, Ends, StepMoves, phase, phase_at}
+use Rattle.actor_laws.specs.Phases.{CallMoves, Phase, Rests, Begins, Stands, Calls, Commits, Committed, Ends, StepMoves, phase, phase_at}
 use Rattle.vacation_core.specs.Clients.{asks_of, has_open, is_under_way, left, with_fault, with_open, with_reply}
 use Rattle.vacation_core.specs.Running.{HearsAt, IsOpen, IsOpenWith, KeepsAt}
 use Rattle.vacation_core.specs.declared.client.Client.{Client}

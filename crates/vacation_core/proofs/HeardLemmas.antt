@@ -19,14 +19,14 @@ use Rattle.step_core.specs.Shown.{is_actor}
 use Rattle.replay_log.specs.Worlds.{Stage, Idle, Open}
 use Rattle.vac_model.specs.declared.action.Action.{Action}
 use Rattle.vac_model.specs.Actions.{IsAllowed}
-use Rattle.jobs.specs.Programs.{replies_of}
+use Rattle.seq_model.specs.Programs.{replies_of}
 use Rattle.client_sessions.specs.declared.entry.Entry.{Entry}
 use Rattle.step_world.specs.Feeds.{Feeds}
 use Rattle.vacation_core.specs.Asking.{at_idle}
 use Rattle.vacation_core.specs.Histories.{action_in, done_in, world_in}
 use Rattle.vacation_core.proofs.HistoryLemmas.{idle}
 use Rattle.vacation_core.proofs.HistoryLemmas as history
-use Rattle.tx_phases.specs.Phases.{Phase, Rests, Begins, Stands, IsMistaken, phase, phase_at}
+use Rattle.actor_laws.specs.Phases.{Phase, Rests, Begins, Stands, IsMistaken, phase, phase_at}
 use Rattle.vacation_core.specs.Clients.{begun, fault_in, fault_of, finished, has_open, joined, left}
 use Rattle.vacation_core.specs.Plays.{Play, aborts, at_open, begins, ends, ends_for, hears, moved, seat_in, takes, told, turned}
 use Rattle.vacation_core.specs.Running.{Abandons, AsksOn, Hears, HasPlace, IsAsking, IsClient, IsOn, IsOpen, IsOpenWith, IsPlay}
@@ -42,7 +42,7 @@ use Rattle.step_world.specs.Parts.{IsWorld}
 use Rattle.step_world.specs.Worlds.{WorldShown}
 use Rattle.word_machine.specs.World.{put}
 use Rattle.vacation_core.specs.Histories.{History, IsLawful}
-use Rattle.jobs.proofs.ProgramLemmas.{some_same}
+use Rattle.seq_model.proofs.ProgramLemmas.{some_same}
 
 -- ---- stages
 

@@ -20,18 +20,18 @@ use Rattle.seq_model.specs.declared.record.Record.{Record}
 use Rattle.replay_log.specs.Worlds.{World, Seat, Stage, Idle, Open, actor_of, ask_at, commits, happens}
 use Rattle.replay_log.specs.WorldTraces.{committed_by}
 use Rattle.vac_model.specs.declared.action.Action.{Action}
-use Rattle.jobs.specs.Programs.{after, asked, replies_of}
-use Rattle.jobs.specs.declared.job.Ask.{Ask as Asks}
-use Rattle.jobs.specs.declared.job.Ask.TheVariants as ask
+use Rattle.seq_model.specs.Programs.{after, asked, replies_of}
+use Rattle.seq_model.specs.declared.job.Ask.{Ask as Asks}
+use Rattle.seq_model.specs.declared.job.Ask.TheVariants as ask
 use Rattle.client_sessions.specs.declared.entry.Entry.{Entry}
 use Rattle.client_sessions.specs.Sessions.{session}
 use Rattle.vacation_core.specs.Alone.{AreOf}
 use Rattle.vacation_core.specs.Asking.{Actions, MayHappen, Turn, at_idle, begun}
 use Rattle.vacation_core.specs.Histories.{History, IsAt, IsLawful, action_in, done_in, later, opening_of, world_in}
-use Rattle.tx_phases.specs.Phases.{AskMoves, Phase, Rests, Begins, Stands, StepMoves, phase, phase_at}
+use Rattle.actor_laws.specs.Phases.{AskMoves, Phase, Rests, Begins, Stands, StepMoves, phase, phase_at}
 use Rattle.vacation_core.specs.Serial.{begun_all, committed_in, if_committed}
 use Rattle.vacation_core.proofs.AloneLemmas.{asks_on, begun_on, committed_on, run_on}
-use Rattle.tx_phases.proofs.PhaseLemmas.{asks_move, steps_move}
+use Rattle.actor_laws.proofs.PhaseLemmas.{asks_move, steps_move}
 use Rattle.vacation_core.proofs.ServeLemmas.{sessions_are_serial}
 
 -- ---- a turn more

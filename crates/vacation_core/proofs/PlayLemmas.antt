@@ -21,8 +21,8 @@ use Rattle.vac_model.specs.declared.action.Action.{Action}
 use Rattle.vac_model.specs.Actions.{IsAllowed}
 use Rattle.vac_model.specs.Balanced.{IsBalanced}
 use Rattle.vac_model.specs.Holdings.{Holdings}
-use Rattle.jobs.specs.declared.job.Ask.TheVariants as ask
-use Rattle.jobs.specs.Programs.{Program, Asks, Answers, GivesUp, after, asked, replies_of}
+use Rattle.seq_model.specs.declared.job.Ask.TheVariants as ask
+use Rattle.seq_model.specs.Programs.{Program, Asks, Answers, GivesUp, after, asked, replies_of}
 use Rattle.client_sessions.specs.declared.entry.Entry.{Entry}
 use Rattle.client_sessions.specs.Holding.{state_of}
 use Rattle.client_sessions.specs.Sessions.{SessionProgram, session}
@@ -31,15 +31,15 @@ use Rattle.vacation_core.specs.Histories.{IsAt, IsLawful, action_in, done_in, op
 use Rattle.vacation_core.specs.Serial.{begun_all}
 use Rattle.vacation_core.proofs.HistoryLemmas.{calls_to, goes_on, lawful_next, may_ask, phase_next}
 use Rattle.vacation_core.proofs.ServeLemmas.{sessions_are_serial}
-use Rattle.tx_phases.proofs.PhaseLemmas.{steps_move}
-use Rattle.tx_phases.specs.Phases.{CallMoves, Phase, Begins, Stands, Calls, StepMoves, phase}
+use Rattle.actor_laws.proofs.PhaseLemmas.{steps_move}
+use Rattle.actor_laws.specs.Phases.{CallMoves, Phase, Begins, Stands, Calls, StepMoves, phase}
 use Rattle.vacation_core.specs.declared.events.VacEvent.{VacEvent}
 use Rattle.vacation_core.specs.declared.events.VacEvent.TheVariants.{Start, Step, Starve}
 use Rattle.vacation_core.specs.Laws.{IsSerialPlay, PlaysAreSerial, PlaysHoldTables}
 use Rattle.vacation_core.proofs.HalfDoneLemmas.{holds_tables}
 use Rattle.vacation_core.specs.Plays.{AreAllowed, Play, aborts, asks_on, at_open, begins, ends, ends_for, hears, if_replied, left_of, moved}
 use Rattle.vacation_core.specs.Plays.{played, played_all, seat_in, takes, told, turned, unplayed}
-use Rattle.tx_phases.specs.Phases.{phase_at}
+use Rattle.actor_laws.specs.Phases.{phase_at}
 use Rattle.replay_log.specs.Worlds.{Copying, Gating, Ready, because}
 use Rattle.seq_model.specs.declared.refusal.Refusal.TheVariants.{Memory as OutOfMemory}
 

@@ -8,14 +8,14 @@ use Rattle.client_sessions.specs.Holding.{state_of}
 use Rattle.world_table.specs.Openings.{blocks_of, world_of}
 use Rattle.step_world.specs.Parts.{IsWorld}
 use Rattle.step_world.specs.declared.opening.TheConstants.{ACTORS}
-use Rattle.tx_phases.specs.Phases.{Rests}
+use Rattle.actor_laws.specs.Phases.{Rests}
 use Rattle.vacation_core.specs.PlayOpenings.{AreNew, eight, unplayed_on}
 use Rattle.vacation_core.specs.Running.{IsPlay}
 use Rattle.vacation_core.specs.declared.client.Client.{Client}
 use Rattle.vacation_core.specs.declared.world.VacWorld.{VacWorld}
 use Rattle.vacation_core.proofs.PlayLemmas.{IsSound, sound_unplayed}
 use Rattle.std.specs.Prelude.{zero, suc}
-use Rattle.jobs.proofs.ProgramLemmas.{some_same}
+use Rattle.seq_model.proofs.ProgramLemmas.{some_same}
 pub use Rattle.vacation_core.proofs.StripeLemmas.{have_indexes, stripes, suits}
 
 none_some : (x : Client) → None ≡ Some x → ⊥

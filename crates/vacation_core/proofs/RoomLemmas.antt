@@ -15,11 +15,11 @@ use Rattle.replay_log.specs.Contents.{Block, HaveStripes}
 use Rattle.replay_log.specs.WorldAnswers.{is_there}
 use Rattle.replay_log.specs.Worlds.{World, Open, actor_of, happens, is_change, may_ask, opened, run}
 use Rattle.replay_log.proofs.RequestLemmas.{happens_by}
-use Rattle.tx_phases.specs.Alone.{IsThere}
-use Rattle.tx_phases.specs.Beside.{AreFitting, BeginsNoReader, Fits, IsFitting, IsNoReader}
-use Rattle.tx_phases.proofs.BesideLemmas.{never_mistaken, one_none}
-use Rattle.jobs.specs.Programs.{asked, after, replies_of}
-use Rattle.jobs.specs.declared.job.Ask.TheVariants as ask
+use Rattle.actor_laws.specs.Alone.{IsThere}
+use Rattle.actor_laws.specs.Beside.{AreFitting, BeginsNoReader, Fits, IsFitting, IsNoReader}
+use Rattle.actor_laws.proofs.BesideLemmas.{never_mistaken, one_none}
+use Rattle.seq_model.specs.Programs.{asked, after, replies_of}
+use Rattle.seq_model.specs.declared.job.Ask.TheVariants as ask
 use Rattle.vac_model.specs.declared.action.Action.{Action}
 use Rattle.client_sessions.specs.declared.entry.Entry.{Entry}
 use Rattle.client_sessions.specs.Holding.{state_of}

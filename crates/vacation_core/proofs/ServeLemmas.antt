@@ -39,10 +39,10 @@ use Rattle.replay_log.proofs.SerialLemmas.{begins_above, serial_world, shown_sta
 use Rattle.vac_model.specs.declared.action.Action.{Action}
 use Rattle.vac_model.specs.declared.action.ActionReply.{ActionReply}
 use Rattle.vac_model.specs.Actions.{IsAllowed}
-use Rattle.jobs.specs.Programs.{Program, Asks, Answers, GivesUp, Follows, after, asked, replies_of}
-use Rattle.jobs.specs.declared.job.Ask.{Ask as AnAsk}
-use Rattle.jobs.specs.declared.job.Ask.TheVariants as ask
-use Rattle.jobs.proofs.ProgramLemmas.{follows_after}
+use Rattle.seq_model.specs.Programs.{Program, Asks, Answers, GivesUp, Follows, after, asked, replies_of}
+use Rattle.seq_model.specs.declared.job.Ask.{Ask as AnAsk}
+use Rattle.seq_model.specs.declared.job.Ask.TheVariants as ask
+use Rattle.seq_model.proofs.ProgramLemmas.{follows_after}
 use Rattle.client_sessions.specs.declared.entry.Entry.{Entry}
 use Rattle.client_sessions.specs.Holding.{state_of}
 use Rattle.client_sessions.specs.Runs.{AreActions, AreSessions, Deal, IsSession}

@@ -11,10 +11,10 @@ use Rattle.std.proofs.lemmas.List.Sorted.{All-permutation}
 use Rattle.seq_model.specs.declared.call.Call.{Call}
 use Rattle.seq_model.specs.declared.call.Reply.{Reply}
 use Rattle.seq_model.specs.declared.record.Record.{Record}
-use Rattle.jobs.specs.declared.job.Ask.{Ask}
-use Rattle.jobs.specs.declared.job.Ask.TheVariants as ask
-use Rattle.jobs.specs.Programs.{Answers, Asks, Follows, GivesUp, after, asked, replies_of}
-use Rattle.jobs.proofs.ProgramLemmas.{asked_follow, follows_after}
+use Rattle.seq_model.specs.declared.job.Ask.{Ask}
+use Rattle.seq_model.specs.declared.job.Ask.TheVariants as ask
+use Rattle.seq_model.specs.Programs.{Answers, Asks, Follows, GivesUp, after, asked, replies_of}
+use Rattle.seq_model.proofs.ProgramLemmas.{asked_follow, follows_after}
 use Rattle.vac_model.specs.declared.action.Action.{Action}
 use Rattle.vac_model.specs.declared.action.ActionReply.{ActionReply}
 use Rattle.client_sessions.specs.declared.entry.Entry.{Entry}

@@ -10,10 +10,10 @@ use Rattle.seq_model.specs.declared.event.Answer.TheVariants as answer
 use Rattle.seq_model.specs.declared.event.Notice.{Notice}
 use Rattle.seq_model.specs.declared.event.Notice.TheVariants.{Answered}
 use Rattle.seq_model.specs.declared.event.Request.TheVariants as request
-use Rattle.jobs.specs.declared.job.Ask.{Ask}
-use Rattle.jobs.specs.declared.job.Ask.TheVariants as ask
-use Rattle.jobs.specs.Programs.{Answers, Asks, Follows, GivesUp, after, asked, replies_of}
-use Rattle.jobs.proofs.ProgramLemmas.{follows_after, same_call}
+use Rattle.seq_model.specs.declared.job.Ask.{Ask}
+use Rattle.seq_model.specs.declared.job.Ask.TheVariants as ask
+use Rattle.seq_model.specs.Programs.{Answers, Asks, Follows, GivesUp, after, asked, replies_of}
+use Rattle.seq_model.proofs.ProgramLemmas.{follows_after, same_call}
 use Rattle.vac_model.specs.declared.action.Action.{Action}
 use Rattle.vac_model.specs.declared.action.ActionReply.{ActionReply}
 use Rattle.vac_model.specs.Actions.{IsAllowed}
@@ -21,7 +21,7 @@ use Rattle.vac_model.specs.Holdings.{Holdings}
 use Rattle.client_sessions.specs.declared.entry.Entry.{Entry}
 use Rattle.client_sessions.specs.Sessions.{SessionProgram, session}
 use Rattle.step_world.specs.declared.parts.Parts.{Parts}
-use Rattle.tx_phases.specs.Phases.{Phase, Rests, Stands}
+use Rattle.actor_laws.specs.Phases.{Phase, Rests, Stands}
 use Rattle.vacation_core.specs.LoneClients.{IsAnswered, IsClient, IsNext, Leads}
 use Rattle.vacation_core.proofs.CostLemmas.{asks_fit}
 use Rattle.vacation_core.proofs.HistoryLemmas.{goes_on}

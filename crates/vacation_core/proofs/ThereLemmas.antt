@@ -10,7 +10,7 @@ use Rattle.replay_log.specs.Collections.{Suit, kind_of_held}
 use Rattle.replay_log.specs.Contents.{Block, block_of}
 use Rattle.replay_log.specs.Parts.{Kind, MapKind, QueueKind, whole}
 use Rattle.replay_log.specs.Worlds.{World, is_known, is_missing}
-use Rattle.tx_phases.specs.Alone.{IsThere}
+use Rattle.actor_laws.specs.Alone.{IsThere}
 use Rattle.client_sessions.specs.declared.entry.Entry.{Entry}
 use Rattle.vacation_core.specs.Costs.{IsOn}
 

@@ -7,9 +7,9 @@ use Rattle.std.proofs.lemmas.Bool.{cases_eq, cond-false, cond-true}
 use Rattle.std.proofs.lemmas.Option.{slice_get-get_or}
 use Rattle.std.proofs.lemmas.List.{append_assoc, append-nil, get_or-set_other, get_or-set_same}
 use Rattle.seq_model.specs.declared.record.Record.{Record}
-use Rattle.jobs.specs.Programs.{Answers, after, asked, replies_of}
-use Rattle.jobs.specs.declared.job.Ask.TheVariants as ask
-use Rattle.jobs.proofs.ProgramLemmas.{follows_after, none_some, some_same}
+use Rattle.seq_model.specs.Programs.{Answers, after, asked, replies_of}
+use Rattle.seq_model.specs.declared.job.Ask.TheVariants as ask
+use Rattle.seq_model.proofs.ProgramLemmas.{follows_after, none_some, some_same}
 use Rattle.vac_model.specs.declared.action.Action.{Action}
 use Rattle.vac_model.specs.declared.action.ActionReply.{ActionReply}
 use Rattle.client_sessions.specs.declared.entry.Entry.{Entry}

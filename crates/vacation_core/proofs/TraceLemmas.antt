@@ -21,7 +21,7 @@ use Rattle.step_world.specs.Reached.{IsReached}
 use Rattle.step_world.specs.Traces.{IsTraceOf}
 use Rattle.step_world.specs.declared.trace.Trace.{Trace}
 use Rattle.vacation_core.specs.Histories.{action_in, done_in, world_in}
-use Rattle.tx_phases.specs.Phases.{Phase, Rests, Begins, Stands, Calls, Commits, Committed, Ends}
+use Rattle.actor_laws.specs.Phases.{Phase, Rests, Begins, Stands, Calls, Commits, Committed, Ends}
 use Rattle.vacation_core.specs.Clients.{with_open}
 use Rattle.vacation_core.specs.Laws.{IsSerialPlay}
 use Rattle.vacation_core.specs.Plays.{Play}

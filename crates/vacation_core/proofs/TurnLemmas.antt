@@ -28,8 +28,8 @@ use Rattle.vacation_core.specs.Histories.{History, action_in, done_in, later, op
 use Rattle.vacation_core.specs.Serial.{begun_all}
 use Rattle.vacation_core.proofs.AloneLemmas.{none_in}
 use Rattle.vacation_core.proofs.HistoryLemmas.{action_next, done_next, lawful_next, phase_next, steps_to, world_next}
-use Rattle.tx_phases.specs.Phases.{Phase, phase}
-use Rattle.jobs.specs.declared.job.Ask.{Ask as Asked}
+use Rattle.actor_laws.specs.Phases.{Phase, phase}
+use Rattle.seq_model.specs.declared.job.Ask.{Ask as Asked}
 use Rattle.vacation_core.specs.Clients.{asks_next, has_open}
 use Rattle.vacation_core.specs.Plays.{IsMoveOf, Play, moved, told, turned}
 use Rattle.vacation_core.specs.Running.{AsksNext, HasPlace, Hears, HearsAt, IsClient, IsHearing, IsOn, IsPlay, KeepsAt, Others}
@@ -40,7 +40,7 @@ use Rattle.vacation_core.proofs.PlayLemmas.{May, at_now}
 use Rattle.std.proofs.lemmas.Bool.Decides.{nat_tests}
 pub use Rattle.step_world.proofs.WorldLemmas.{set_here, set_length, set_there}
 use Rattle.step_core.proofs.Lists.{some_at}
-use Rattle.jobs.proofs.ProgramLemmas.{some_same}
+use Rattle.seq_model.proofs.ProgramLemmas.{some_same}
 use Rattle.vacation_core.proofs.ClientLemmas.{parts_of, told_of}
 
 -- ---- places

@@ -26,13 +26,13 @@ use Rattle.replay_log.specs.Worlds.{After, World, Seat, Stage, Idle, Beginning, 
 use Rattle.replay_log.specs.Worlds.{Storing, Homing, Returning, happens}
 use Rattle.replay_log.proofs.AnswerLemmas.{starves}
 use Rattle.replay_log.proofs.RequestLemmas.{happens_by}
-use Rattle.tx_phases.specs.Beside.{BeginsNoReader, IsNoReader, RefusesAsMistaken}
-use Rattle.jobs.specs.declared.job.Ask.TheVariants as ask
-use Rattle.jobs.specs.Programs.{Asks, Answers, GivesUp, after, asked, replies_of}
-use Rattle.tx_phases.proofs.PhaseLemmas.{steps_move}
-use Rattle.tx_phases.specs.Phases.{AskMoves, CallMoves, IsMistaken, Phase, Rests, Begins, Stands, Calls, Commits, Committed, Ends}
-use Rattle.tx_phases.specs.Phases.{StepMoves}
-use Rattle.tx_phases.specs.Phases.{phase, phase_at}
+use Rattle.actor_laws.specs.Beside.{BeginsNoReader, IsNoReader, RefusesAsMistaken}
+use Rattle.seq_model.specs.declared.job.Ask.TheVariants as ask
+use Rattle.seq_model.specs.Programs.{Asks, Answers, GivesUp, after, asked, replies_of}
+use Rattle.actor_laws.proofs.PhaseLemmas.{steps_move}
+use Rattle.actor_laws.specs.Phases.{AskMoves, CallMoves, IsMistaken, Phase, Rests, Begins, Stands, Calls, Commits, Committed, Ends}
+use Rattle.actor_laws.specs.Phases.{StepMoves}
+use Rattle.actor_laws.specs.Phases.{phase, phase_at}
 use Rattle.vac_model.specs.declared.action.Action.{Action}
 use Rattle.vac_model.specs.Actions.{IsAllowed}
 use Rattle.client_sessions.specs.declared.entry.Entry.{Entry}

@@ -13,7 +13,7 @@ use Rattle.client_sessions.specs.declared.entry.Entry.{Entry}
 use Rattle.client_sessions.specs.Holding.{state_of}
 use Rattle.client_sessions.specs.Runs.{AreDone, AreSessions, Deal, after_deals}
 use Rattle.vacation_core.specs.Asking.{Actions, AskAsSessions, Turn, events_of}
-use Rattle.tx_phases.specs.Phases.{Rests, phase}
+use Rattle.actor_laws.specs.Phases.{Rests, phase}
 use Rattle.vacation_core.specs.Serial.{committed_of}
 
 -- only actor a does anything

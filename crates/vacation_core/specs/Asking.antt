@@ -7,8 +7,8 @@ use Rattle.seq_model.specs.declared.event.Request.TheVariants as request
 use Rattle.replay_log.specs.Worlds.{World, Stage, Idle, happens}
 use Rattle.vac_model.specs.declared.action.Action.{Action}
 use Rattle.vac_model.specs.Actions.{IsAllowed}
-use Rattle.jobs.specs.Programs.{after, asked, replies_of}
-use Rattle.jobs.specs.declared.job.Ask.TheVariants as ask
+use Rattle.seq_model.specs.Programs.{after, asked, replies_of}
+use Rattle.seq_model.specs.declared.job.Ask.TheVariants as ask
 use Rattle.client_sessions.specs.declared.entry.Entry.{Entry}
 use Rattle.client_sessions.specs.Sessions.{session}
 

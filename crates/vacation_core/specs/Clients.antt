@@ -3,9 +3,9 @@ use Rattle.std.specs.Prelude.{Bool, true, false, List, [], ◌∷◌, ◌++◌, 
 use Rattle.seq_model.specs.declared.call.Reply.{Reply}
 use Rattle.seq_model.specs.declared.refusal.Refusal.{Refusal}
 use Rattle.vac_model.specs.declared.action.Action.{Action}
-use Rattle.jobs.specs.declared.job.Ask.{Ask as Asks}
-use Rattle.jobs.specs.declared.job.Ask.TheVariants as ask
-use Rattle.jobs.specs.Programs.{after, asked}
+use Rattle.seq_model.specs.declared.job.Ask.{Ask as Asks}
+use Rattle.seq_model.specs.declared.job.Ask.TheVariants as ask
+use Rattle.seq_model.specs.Programs.{after, asked}
 use Rattle.client_sessions.specs.declared.entry.Entry.{Entry}
 use Rattle.client_sessions.specs.Sessions.{session}
 use Rattle.vacation_core.specs.declared.client.Client.{Client}

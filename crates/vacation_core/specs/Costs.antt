@@ -6,8 +6,8 @@ use Rattle.seq_model.specs.declared.call.Op.{Op}
 use Rattle.seq_model.specs.declared.call.Op.TheVariants.{Read, Write, Get, Put, Remove, Enqueue, Dequeue, Peek}
 use Rattle.seq_model.specs.declared.call.Reply.{Reply}
 use Rattle.seq_model.specs.declared.limits.TheConstants.{CALL_LIMIT}
-use Rattle.tx_phases.specs.Alone.{IsSmall, weight, weights}
-use Rattle.jobs.specs.Programs.{Asks, Answers, Follows, GivesUp}
+use Rattle.actor_laws.specs.Alone.{IsSmall, weight, weights}
+use Rattle.seq_model.specs.Programs.{Asks, Answers, Follows, GivesUp}
 use Rattle.vac_model.specs.declared.action.Action.{Action}
 use Rattle.vac_model.specs.Actions.{IsAllowed}
 use Rattle.client_sessions.specs.declared.entry.Entry.{Entry}

@@ -10,7 +10,7 @@ use Rattle.vac_model.specs.Holdings.{Holdings}
 use Rattle.client_sessions.specs.declared.entry.Entry.{Entry}
 use Rattle.client_sessions.specs.Holding.{state_of}
 use Rattle.vacation_core.specs.Asking.{Actions, AskAsSessions, Turn, events_of}
-use Rattle.tx_phases.specs.Phases.{Phase, phase}
+use Rattle.actor_laws.specs.Phases.{Phase, phase}
 use Rattle.vacation_core.specs.Serial.{begun_all, committed_of}
 
 -- the turns that a world has taken since it opened on these tables, its locations in these blocks

@@ -20,4 +20,4 @@ pub mod Unmet
 pub use Rattle.client_sessions.specs.Holding
 pub use Rattle.client_sessions.specs.Refusals
 pub use Rattle.client_sessions.specs.Sessions
-pub use Rattle.jobs.specs.Programs
+pub use Rattle.seq_model.specs.Programs

@@ -10,11 +10,11 @@ use Rattle.seq_model.specs.declared.event.Request.{Request}
 use Rattle.seq_model.specs.declared.event.Request.TheVariants as request
 use Rattle.step_core.specs.Shown.{is_actor}
 use Rattle.replay_log.specs.WorldProgress.{AreSmall}
-use Rattle.tx_phases.specs.Alone.{ArePlain, commits_in}
+use Rattle.actor_laws.specs.Alone.{ArePlain, commits_in}
 use Rattle.vac_model.specs.declared.action.Action.{Action}
 use Rattle.vac_model.specs.Actions.{IsAllowed}
 use Rattle.vac_model.specs.Holdings.{Holdings}
-use Rattle.jobs.specs.Programs.{Answers, Asks, Follows}
+use Rattle.seq_model.specs.Programs.{Answers, Asks, Follows}
 use Rattle.vac_model.specs.declared.action.ActionReply.{ActionReply}
 use Rattle.client_sessions.specs.declared.entry.Entry.{Entry}
 use Rattle.client_sessions.specs.Sessions.{SessionProgram, session}
@@ -23,7 +23,7 @@ use Rattle.step_world.specs.declared.parts.Parts.{Parts}
 use Rattle.vacation_core.specs.Alone.{AreOf}
 use Rattle.vacation_core.specs.Asking.{events_of}
 use Rattle.vacation_core.specs.Histories.{History, IsAt, IsLawful, world_in}
-use Rattle.tx_phases.specs.Phases.{Phase, Rests, Begins, Stands, Calls}
+use Rattle.actor_laws.specs.Phases.{Phase, Rests, Begins, Stands, Calls}
 
 -- whether a commit may still be asked for
 abbrev pub may_commit : Phase Entry → ℕ

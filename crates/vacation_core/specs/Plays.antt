@@ -17,7 +17,7 @@ use Rattle.vac_model.specs.declared.action.Action.{Action}
 use Rattle.vac_model.specs.declared.action.Action.TheVariants.{QueryBill}
 use Rattle.vac_model.specs.Actions.{IsAllowed}
 use Rattle.vac_model.specs.Holdings.{Holdings}
-use Rattle.jobs.specs.Programs.{Asks, Answers, GivesUp, after, replies_of}
+use Rattle.seq_model.specs.Programs.{Asks, Answers, GivesUp, after, replies_of}
 use Rattle.client_sessions.specs.declared.entry.Entry.{Entry}
 use Rattle.client_sessions.specs.Sessions.{SessionProgram, session}
 use Rattle.vacation_core.specs.Asking.{at_idle}

@@ -6,7 +6,7 @@ use Rattle.replay_log.specs.WorldProgress.{whose}
 use Rattle.replay_log.specs.Worlds.{happens, opened, run}
 use Rattle.vacation_core.specs.Asking.{Actions, AskAsSessions, MayHappen, Turn, events_of}
 use Rattle.vacation_core.specs.Serial.{begun_all}
-use Rattle.tx_phases.specs.Beside.{BeginsNoReader, RefusesAsMistaken}
+use Rattle.actor_laws.specs.Beside.{BeginsNoReader, RefusesAsMistaken}
 use Rattle.vac_model.specs.Actions.{IsAllowed}
 use Rattle.vac_model.specs.Holdings.{Holdings}
 use Rattle.client_sessions.specs.Holding.{state_of}

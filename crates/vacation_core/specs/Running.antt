@@ -13,12 +13,12 @@ use Rattle.replay_log.specs.Worlds.{Open}
 use Rattle.step_world.specs.Parts.{IsWorld}
 use Rattle.step_world.specs.declared.opening.TheConstants.{ACTORS}
 use Rattle.vac_model.specs.declared.action.Action.{Action}
-use Rattle.jobs.specs.declared.job.Ask.{Ask as Asked}
-use Rattle.jobs.specs.Programs.{Asks, after, replies_of}
+use Rattle.seq_model.specs.declared.job.Ask.{Ask as Asked}
+use Rattle.seq_model.specs.Programs.{Asks, after, replies_of}
 use Rattle.client_sessions.specs.declared.entry.Entry.{Entry}
 use Rattle.client_sessions.specs.Sessions.{SessionProgram, session}
 use Rattle.vacation_core.specs.Histories.{IsLawful, action_in, done_in, world_in}
-use Rattle.tx_phases.specs.Phases.{Phase, Rests, Begins, Stands, Calls, Commits, Committed, Ends, CallMoves, IsMistaken, phase}
+use Rattle.actor_laws.specs.Phases.{Phase, Rests, Begins, Stands, Calls, Commits, Committed, Ends, CallMoves, IsMistaken, phase}
 use Rattle.vacation_core.specs.Clients.{asks_next}
 use Rattle.vacation_core.specs.Plays.{Play, aborts, asks_on, if_replied, left_of, seat_in}
 use Rattle.vacation_core.specs.declared.client.Client.{Client}

@@ -11,8 +11,8 @@ use Rattle.vac_model.specs.declared.action.Action.{Action}
 use Rattle.vac_model.specs.Actions.{IsAllowed}
 use Rattle.vac_model.specs.Balanced.{IsBalanced}
 use Rattle.vac_model.specs.Holdings.{Holdings}
-use Rattle.jobs.specs.Programs.{after, asked, replies_of}
-use Rattle.jobs.specs.declared.job.Ask.TheVariants as ask
+use Rattle.seq_model.specs.Programs.{after, asked, replies_of}
+use Rattle.seq_model.specs.declared.job.Ask.TheVariants as ask
 use Rattle.client_sessions.specs.declared.entry.Entry.{Entry}
 use Rattle.client_sessions.specs.Holding.{state_of}
 use Rattle.client_sessions.specs.Runs.{AreDone, AreSessions, Deal, after_deals}

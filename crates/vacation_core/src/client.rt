@@ -3,8 +3,7 @@ ghost use Rattle.std.specs.Prelude.{◌≡◌, None, [], IfOk, OnOk};
 ghost use Rattle.vacation_core.specs.Clients.{asks_next, begun, failed, fault_of, finished, has_open, joined, left};
 
 use client_sessions::{Entry, Session};
-use jobs::{Ask, Job};
-use seq_model::{Items, Memory, Refusal, Reply};
+use seq_model::{Ask, Items, Job, Memory, Refusal, Reply};
 use std::alloc::Global;
 
 /// A session that is under way.

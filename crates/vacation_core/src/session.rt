@@ -4,8 +4,7 @@ ghost use Rattle.vacation_core.specs.Turns.{Begins, Calls, Commits, HasBegun, Ma
 
 use crate::asking::ask;
 use client_sessions::{Entry, Session};
-use jobs::{Ask, Job};
-use seq_model::{Answer, CALL_LIMIT, Call, Memory, Notice, Reply, Request};
+use seq_model::{Answer, Ask, CALL_LIMIT, Call, Job, Memory, Notice, Reply, Request};
 use std::alloc::Global;
 use step_world::World;
 

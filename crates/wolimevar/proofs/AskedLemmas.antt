@@ -6,7 +6,7 @@ use Rattle.seq_model.specs.declared.event.Request.{Request}
 use Rattle.seq_model.specs.declared.event.Request.TheVariants as request
 use Rattle.seq_model.specs.declared.refusal.Refusal.{Refusal}
 use Rattle.replay_log.specs.Seats.{World}
-use Rattle.tx_phases.specs.Phases.{Rests}
+use Rattle.actor_laws.specs.Phases.{Rests}
 use Rattle.tx_table.specs.declared.seat.Seat.{Seat}
 use Rattle.driven_turns.specs.Requested.{requests_of}
 use Rattle.seq_model.specs.declared.record.Record.{Record}

@@ -11,7 +11,7 @@ use Rattle.driven_turns.specs.Driven.{is_declared}
 use Rattle.driven_turns.specs.Requested.{requests_of}
 use Rattle.seq_model.specs.declared.refusal.Refusal.{Refusal}
 use Rattle.replay_log.specs.Seats.{World}
-use Rattle.tx_phases.specs.Phases.{Rests}
+use Rattle.actor_laws.specs.Phases.{Rests}
 use Rattle.tx_table.specs.declared.seat.Seat.{Seat}
 use Rattle.tx_table.specs.declared.table.TxTable.{TxTable}
 use Rattle.tx_table.specs.Seated.{actor, opening_of, view}

@@ -5,7 +5,7 @@ use Rattle.std.proofs.Crossing.{crosses}
 use Rattle.atomic_table.specs.contracts.shared.Seat as Place
 use Rattle.atomic_table.proofs.shared.Seat.TheSendSync as place
 use Rattle.counted_slot.proofs.Counted.TheSendSync as counted
-use Rattle.boxes.proofs.Boxed.TheSendSync as boxed
+use Rattle.actor_parts.proofs.Boxed.TheSendSync as boxed
 use Rattle.replay_log.proofs.base.Base.TheSendSync as base
 use Rattle.tx_actor.proofs.actor.TxActor.TheSendSync as actor
 use Rattle.tx_table.specs.contracts.seat.Asked as Asked

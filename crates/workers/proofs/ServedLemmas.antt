@@ -13,8 +13,8 @@ use Rattle.vac_model.specs.Actions.{IsAllowed}
 use Rattle.client_sessions.specs.declared.entry.Entry.{Entry}
 use Rattle.vacation_core.specs.Served.{IsWhole}
 use Rattle.tx_engine.specs.Jobs.{IsWholeJob}
-use Rattle.jobs.specs.declared.causes.LastAbort.{LastAbort}
-use Rattle.jobs.specs.declared.causes.LastAbort.TheVariants.{NotStarted}
+use Rattle.seq_model.specs.declared.causes.LastAbort.{LastAbort}
+use Rattle.seq_model.specs.declared.causes.LastAbort.TheVariants.{NotStarted}
 use Rattle.job_workers.specs.declared.report.Report.{Report}
 use Rattle.job_workers.specs.Reports.{IsReportOf, Reports, numbered}
 use Rattle.job_workers.specs.Tasks as worked

@@ -11,8 +11,8 @@ use Rattle.vac_model.specs.declared.action.Action.{Action}
 use Rattle.vac_model.specs.Actions.{IsAllowed}
 use Rattle.vac_model.specs.Balanced.{IsBalanced}
 use Rattle.vac_model.specs.Holdings.{Holdings}
-use Rattle.jobs.specs.declared.job.Ask.{Ask}
-use Rattle.jobs.specs.Programs.{after, asked}
+use Rattle.seq_model.specs.declared.job.Ask.{Ask}
+use Rattle.seq_model.specs.Programs.{after, asked}
 use Rattle.client_sessions.specs.declared.entry.Entry.{Entry}
 use Rattle.client_sessions.specs.Holding.{state_of}
 use Rattle.client_sessions.specs.Sessions.{session}
@@ -28,7 +28,7 @@ use Rattle.tx_table.specs.Shown.{ShowsWorld, first}
 use Rattle.tx_engine.specs.Closing.{IsLeftBy, state_of as held_by}
 use Rattle.tx_engine.specs.declared.seats.TxSeat.{TxSeat}
 use Rattle.tx_engine.specs.Ready.{IsReady}
-use Rattle.jobs.specs.declared.causes.LastAbort.{LastAbort}
+use Rattle.seq_model.specs.declared.causes.LastAbort.{LastAbort}
 use Rattle.job_workers.specs.declared.report.Report.{Report}
 use Rattle.job_workers.specs.Reports.{HasRun, IsReportOf}
 use Rattle.job_workers.specs.Tasks.{Outcome, missed_in, receipts_in}

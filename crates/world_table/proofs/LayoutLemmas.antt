@@ -6,7 +6,7 @@ use Rattle.replay_log.specs.Collections.{kind_of_held}
 use Rattle.replay_log.specs.Contents.{Block}
 use Rattle.replay_log.specs.Parts as parts
 use Rattle.step_core.proofs.Lists.{get_or_same}
-use Rattle.actor_words.specs.Blocks.{kind_of}
+use Rattle.actor_parts.specs.Blocks.{kind_of}
 use Rattle.seq_model.specs.declared.kind.Kind.{Kind}
 use Rattle.world_table.specs.Openings.{blocks_of}
 

@@ -24,12 +24,12 @@ use Rattle.replay_log.specs.Contents.{Block, HaveStripes, block_of, end_of, firs
 use Rattle.replay_log.specs.Parts.{kind_of, part}
 use Rattle.replay_log.proofs.CollectionLemmas.{behind, kind_viewed}
 use Rattle.replay_log.proofs.ContentLemmas.{end_above}
-use Rattle.actor_words.specs.declared.blocks.TheConstants.{TABLE_LIMIT}
-use Rattle.atomic_steps.specs.Bases.{IsBaseOf}
+use Rattle.actor_parts.specs.declared.blocks.TheConstants.{TABLE_LIMIT}
+use Rattle.actor_laws.specs.Bases.{IsBaseOf}
 use Rattle.world_table.specs.Openings.{AreOpened, AreStripeCounts, HasShape, IsOpened, blocks_of, world_of}
 use Rattle.world_table.specs.Tables.{HasTable, holder}
 use Rattle.world_table.specs.declared.table.Table.{Table}
-use Rattle.atomic_steps.proofs.Bases.{in_range}
+use Rattle.actor_laws.proofs.Bases.{in_range}
 
 module _ {V : Type 0} where
   -- the locations after one more collection

@@ -10,8 +10,8 @@ use Rattle.replay_log.specs.declared.base.Base.{Base}
 use Rattle.replay_log.specs.Base.{editions_of, shown_of}
 use Rattle.replay_log.specs.Contents.{Block, block_of}
 use Rattle.replay_log.specs.Parts.{kind_of}
-use Rattle.atomic_steps.specs.Bases.{IsBaseOf, IsFolded}
-use Rattle.atomic_steps.proofs.Bases.{kind_stays, raised_long}
+use Rattle.actor_laws.specs.Bases.{IsBaseOf, IsFolded}
+use Rattle.actor_laws.proofs.Bases.{kind_stays, raised_long}
 use Rattle.world_table.specs.Openings.{HasShape}
 use Rattle.world_table.specs.declared.table.Table.{Table}
 

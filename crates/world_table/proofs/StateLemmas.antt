@@ -21,7 +21,7 @@ use Rattle.replay_log.specs.Seats.{World}
 use Rattle.replay_log.specs.WorldTraces.{held_from, state}
 use Rattle.replay_log.proofs.ContentLemmas.{end_above, home_is, not_plain}
 use Rattle.replay_log.proofs.PartLemmas.{is_whole, whole_local}
-use Rattle.atomic_steps.specs.Bases.{IsBaseOf}
+use Rattle.actor_laws.specs.Bases.{IsBaseOf}
 use Rattle.world_table.specs.Openings.{HasShape}
 use Rattle.world_table.specs.States.{held_in}
 use Rattle.world_table.specs.Tables.{HasTable}

@@ -30,16 +30,16 @@ use Rattle.replay_log.specs.Base.{Shown}
 use Rattle.replay_log.specs.Contents.{Answered, Block, HaveStripes, block_of, content, home_of}
 use Rattle.replay_log.specs.Worlds.{happens, opened, run}
 use Rattle.replay_log.specs.Seats.{World, acted, actor_of, moves, word_notice}
-use Rattle.atomic_steps.specs.Bases.{IsBaseOf, IsFolded, ShowsBase, log_changes, log_locations}
-use Rattle.atomic_steps.specs.Gates.{GoesHome}
-use Rattle.atomic_steps.specs.Spots.{Word, Gate, spot_at, spot_by}
-use Rattle.atomic_steps.specs.Steps.{OnlyOwn, ready_at}
-use Rattle.atomic_steps.proofs.Alike.{alike_same}
-use Rattle.atomic_steps.proofs.Bases as bases
-use Rattle.atomic_steps.proofs.Guards.{home_allowed}
-use Rattle.atomic_steps.proofs.Others.{others}
-use Rattle.atomic_steps.proofs.Spots.{one_spot}
-use Rattle.atomic_steps.proofs.Turned.{home_turned}
+use Rattle.actor_laws.specs.Bases.{IsBaseOf, IsFolded, ShowsBase, log_changes, log_locations}
+use Rattle.actor_laws.specs.Gates.{GoesHome}
+use Rattle.actor_laws.specs.Spots.{Word, Gate, spot_at, spot_by}
+use Rattle.actor_laws.specs.Steps.{OnlyOwn, ready_at}
+use Rattle.actor_laws.proofs.Alike.{alike_same}
+use Rattle.actor_laws.proofs.Bases as bases
+use Rattle.actor_laws.proofs.Guards.{home_allowed}
+use Rattle.actor_laws.proofs.Others.{others}
+use Rattle.actor_laws.proofs.Spots.{one_spot}
+use Rattle.actor_laws.proofs.Turned.{home_turned}
 use Rattle.world_table.specs.Tables.{HasTable, holder}
 use Rattle.world_table.specs.declared.table.Table.{Table}
 

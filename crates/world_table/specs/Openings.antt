@@ -10,8 +10,8 @@ use Rattle.replay_log.specs.Collections.{kind_of_held}
 use Rattle.replay_log.specs.Contents.{Block, block_of, end_of}
 use Rattle.replay_log.specs.Seats.{World}
 use Rattle.replay_log.specs.Worlds.{opened}
-use Rattle.actor_words.specs.declared.blocks.TheConstants.{COLLECTION_LIMIT, TABLE_LIMIT}
-use Rattle.atomic_steps.specs.Bases.{IsBaseOf}
+use Rattle.actor_parts.specs.declared.blocks.TheConstants.{COLLECTION_LIMIT, TABLE_LIMIT}
+use Rattle.actor_laws.specs.Bases.{IsBaseOf}
 use Rattle.world_table.specs.declared.table.Table.{Table}
 
 module _ {V : Type 0} where

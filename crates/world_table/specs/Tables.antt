@@ -3,7 +3,7 @@ use Rattle.std.specs.Prelude.{◌≡◌, ℕ, zero, suc, ◌<◌, Option, Some, 
 use Rattle.step_core.specs.CellSteps.{AreCells}
 use Rattle.replay_log.specs.declared.base.Base.{Base}
 use Rattle.replay_log.specs.Seats.{World}
-use Rattle.atomic_steps.specs.Bases.{ShowsBase}
+use Rattle.actor_laws.specs.Bases.{ShowsBase}
 use Rattle.world_table.specs.declared.table.Table.{Table}
 
 -- who holds a gate, by its number: nobody at 0

@@ -1,10 +1,10 @@
 //! How the locations of an opening are laid out: its words come first, then the block of each collection in turn.
 ghost use Rattle.std.specs.Prelude.{◌≡◌, IfOk, length};
 ghost use Rattle.replay_log.specs.Collections.{kind_of_held};
-ghost use Rattle.actor_words.specs.Blocks.{kind_of};
+ghost use Rattle.actor_parts.specs.Blocks.{kind_of};
 ghost use Rattle.world_table.specs.Openings.{blocks_of};
 
-use actor_words::{Blocks, TABLE_LIMIT};
+use actor_parts::{Blocks, TABLE_LIMIT};
 use seq_model::{Held, Kind, Refusal};
 use std::alloc::Global;
 

@@ -7,7 +7,7 @@ ghost use Rattle.replay_log.specs.Collections.{kind_of_held};
 ghost use Rattle.replay_log.specs.Contents.{end_of, size_by};
 ghost use Rattle.world_table.specs.Openings.{AreOpened, AreStripeCounts, blocks_of};
 
-use actor_words::{COLLECTION_LIMIT, TABLE_LIMIT};
+use actor_parts::{COLLECTION_LIMIT, TABLE_LIMIT};
 use conflict::is_stripe_count_of;
 use replay_log::Base;
 use seq_model::{Held, Memory, Refusal, Value};

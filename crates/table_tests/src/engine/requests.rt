@@ -2,6 +2,7 @@
 ghost use Rattle.table_tests.specs.Fit.{IsFit};
 
 use crate::shared::{Listed, Meeting, Page};
+use crate::shown;
 use seq_model::{Call, Refusal, Request};
 use text_formats::EventLine;
 use tx_engine::{Attempt, Pause, TxSeat, attempt_with};
@@ -51,25 +52,23 @@ fn make(page: &mut Page, table: &TxTable<u64>, seat: &mut TxSeat<u64>, call: Cal
     requires fit { IsFit table.now seat.old }
     ensures fit { IsFit table.now seat.new }
 {
-    let answered = seat.call(table, call);
+    let answered = shown::call(table, seat, call);
     page.hear(answered);
 }
 
-#[tactic(auto, using(crate::proofs::FitLemmas::rests_fit))]
 fn commit(page: &mut Page, table: &TxTable<u64>, seat: &mut TxSeat<u64>)
     requires fit { IsFit table.now seat.old }
     ensures fit { IsFit table.now seat.new }
 {
-    let answered = seat.commit(table);
+    let answered = shown::commit(table, seat);
     page.hear_commit(answered);
 }
 
-#[tactic(auto, using(crate::proofs::FitLemmas::rests_fit))]
 fn abort(page: &mut Page, table: &TxTable<u64>, seat: &mut TxSeat<u64>)
     requires fit { IsFit table.now seat.old }
     ensures fit { IsFit table.now seat.new }
 {
-    seat.abort(table);
+    shown::abort(table, seat);
     page.say("aborted");
 }
 

@@ -1,7 +1,6 @@
 //! Jobs that a row spells.
-use jobs::{Ask, Job};
 use row_parts::script_of;
-use seq_model::{Memory, Refusal, Reply, Request};
+use seq_model::{Ask, Job, Memory, Refusal, Reply, Request};
 use std::alloc::Global;
 use text_formats::{EventLine, Script};
 

@@ -1,5 +1,5 @@
 use Rattle.std.proofs.Common.{rules, ◌≡◌, ◌*◌, ◌∙◌, get_or, ap, sym, arith}
-use Rattle.jobs.specs.Programs.{asked}
+use Rattle.seq_model.specs.Programs.{asked}
 use Rattle.vac_model.specs.declared.item.Booking.{Booking}
 use Rattle.vac_model.specs.declared.item.Kind.TheVariants.{Car}
 use Rattle.client_sessions.specs.GivenBack.{is_given_back}

@@ -1,5 +1,5 @@
 use Rattle.std.proofs.Common.{◌≡◌, ◌*◌, drop}
-use Rattle.jobs.specs.Programs.{after}
+use Rattle.seq_model.specs.Programs.{after}
 use Rattle.client_sessions.specs.Sessions.{SessionProgram, give_all_back}
 use Rattle.client_sessions.proofs.delete.are_given_back.Given as goal
 

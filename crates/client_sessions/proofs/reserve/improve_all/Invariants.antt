@@ -1,5 +1,5 @@
 use Rattle.std.proofs.Common.{◌≡◌, ℕ, drop, Option}
-use Rattle.jobs.specs.Programs.{after}
+use Rattle.seq_model.specs.Programs.{after}
 use Rattle.vac_model.specs.declared.item.Item.{Item}
 use Rattle.client_sessions.specs.Drafts.{AreSound}
 use Rattle.client_sessions.specs.Sessions.{SessionProgram, gather}

@@ -1,6 +1,6 @@
 use Rattle.std.proofs.Common.{None, Option, subst, sym}
 use Rattle.seq_model.specs.declared.record.Record.{Record}
-use Rattle.actor_words.specs.declared.next.Next.{Next}
+use Rattle.actor_parts.specs.declared.next.Next.{Next}
 use Rattle.tx_table.specs.Seated.{opening_of}
 use Rattle.driven_turns.proofs.DrivenLemmas.{driven_on}
 use Rattle.driven_turns.proofs.GivenUpLemmas.{given_up, stopped_ends, stops_at}

@@ -1,5 +1,5 @@
 use Rattle.std.proofs.Common.{◌≡◌, refl, sym, ap, ◌∙◌, subst}
-use Rattle.actor_words.specs.Dispatch.{is_loading, next_of}
+use Rattle.actor_parts.specs.Dispatch.{is_loading, next_of}
 use Rattle.actor_turns.proofs.StepLemmas.{running_moved}
 use Rattle.tx_actor.specs.Running.{stage_of}
 use Rattle.tx_actor.specs.declared.actor.Stage.{Stage}

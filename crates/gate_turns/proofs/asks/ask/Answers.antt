@@ -1,8 +1,8 @@
 use Rattle.std.proofs.Common.{◌≡◌, subst, sym, refl}
 use Rattle.seq_model.specs.declared.event.Request.{Request}
 use Rattle.replay_log.specs.Worlds.{ask_at}
-use Rattle.actor_words.specs.Blocks.{BlocksView}
-use Rattle.actor_words.specs.Requests.{HasNoReads}
+use Rattle.actor_parts.specs.Blocks.{BlocksView}
+use Rattle.actor_parts.specs.Requests.{HasNoReads}
 use Rattle.tx_actor.specs.Asks.{Admits}
 use Rattle.tx_actor.specs.Calls.{AsksAt, CanCall}
 use Rattle.tx_actor.specs.Keeping.{KeepsIn}

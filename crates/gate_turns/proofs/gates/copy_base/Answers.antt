@@ -4,7 +4,7 @@ use Rattle.tx_actor.specs.declared.actor.Stage.TheVariants as stage
 use Rattle.tx_actor.specs.declared.actor.Told.TheVariants.{Quiet}
 use Rattle.tx_actor.specs.declared.actor.TxActor.{TxActor}
 use Rattle.tx_actor.specs.declared.taking.Taken.{Taken}
-use Rattle.actor_words.specs.Blocks.{BlocksView}
+use Rattle.actor_parts.specs.Blocks.{BlocksView}
 use Rattle.actor_turns.proofs.NameLemmas.{named_copy}
 use Rattle.tx_actor.proofs.HavingLemmas.{asks_nothing}
 use Rattle.tx_actor.specs.Copying.{CanCopyAt, HasTakenAt, StepsOnAt}

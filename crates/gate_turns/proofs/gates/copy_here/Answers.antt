@@ -1,7 +1,7 @@
 use Rattle.std.proofs.Common.{[], length, subst, sym}
 use Rattle.replay_log.specs.declared.base.Base.{Base}
 use Rattle.tx_actor.specs.declared.actor.Told.TheVariants.{Quiet}
-use Rattle.actor_words.specs.Blocks.{BlocksView}
+use Rattle.actor_parts.specs.Blocks.{BlocksView}
 use Rattle.actor_turns.proofs.NameLemmas.{named_copy}
 use Rattle.tx_actor.specs.Copying.{CanCopyAt, HasTakenAt, StepsOnAt}
 use Rattle.tx_actor.specs.Keeping.{IsRunning}

@@ -5,9 +5,9 @@ use Rattle.replay_log.specs.Base.{IsPreparedFor, after, editions_of, locations_o
 use Rattle.replay_log.specs.Log.{AreRaised}
 use Rattle.std.specs.declared.alloc.Global.{Global}
 use Rattle.std.specs.declared.vec.Vec.{Vec}
-use Rattle.actor_copies.specs.declared.copies.CopyOf.{CopyOf}
-use Rattle.actor_copies.specs.Kept.{copy_of}
-use Rattle.actor_words.specs.Dispatch.{is_loading}
+use Rattle.actor_parts.specs.declared.copies.CopyOf.{CopyOf}
+use Rattle.actor_parts.specs.Kept.{copy_of}
+use Rattle.actor_parts.specs.Dispatch.{is_loading}
 use Rattle.actor_turns.proofs.HomeLemmas.{quiet_home, recorded_home}
 use Rattle.actor_turns.proofs.NameLemmas.{named_home}
 use Rattle.tx_actor.specs.Having.{KeepsFrom}

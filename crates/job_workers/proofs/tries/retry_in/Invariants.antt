@@ -1,6 +1,6 @@
 use Rattle.std.proofs.Common.{◌≡◌, ◌⊎◌}
 use Rattle.tx_table.specs.Seated.{opening_of}
-use Rattle.tx_phases.specs.Phases.{Rests}
+use Rattle.actor_laws.specs.Phases.{Rests}
 use Rattle.tx_engine.specs.Ready.{IsReady, standing}
 use Rattle.job_workers.specs.Tries.{HasNoReceipt}
 use Rattle.job_workers.proofs.TryLemmas.{InVain}

@@ -1,11 +1,11 @@
 use Rattle.std.proofs.Common.{◌≡◌, List, ap, arith, subst, sym, ◌∙◌}
 use Rattle.conflict.specs.declared.change.Change.{Change}
 use Rattle.replay_log.specs.Base.{IsPreparedFor}
-use Rattle.actor_copies.specs.Kept.{copy_of}
+use Rattle.actor_parts.specs.Kept.{copy_of}
 use Rattle.std.specs.declared.alloc.Global.{Global}
 use Rattle.std.specs.declared.vec.Vec.{Vec}
-use Rattle.actor_copies.specs.declared.copies.CopyOf.{CopyOf}
-use Rattle.actor_words.specs.Dispatch.{is_loading}
+use Rattle.actor_parts.specs.declared.copies.CopyOf.{CopyOf}
+use Rattle.actor_parts.specs.Dispatch.{is_loading}
 use Rattle.tx_actor.specs.Having.{KeepsFrom}
 use Rattle.tx_actor.specs.Keeping.{KeepsIn}
 use Rattle.tx_actor.specs.Running.{stage_of}

@@ -1,8 +1,8 @@
 use Rattle.std.proofs.Common.{Option, ℕ, length, refl, sym, ap, subst, ◌∙◌}
 use Rattle.std.proofs.lemmas.Option.{slice_get_read}
-use Rattle.actor_copies.specs.declared.copies.CopyOf.{CopyOf}
-use Rattle.actor_copies.specs.Copies.{holds_call}
-use Rattle.actor_copies.specs.Footprints.{IsPlaceOf}
+use Rattle.actor_parts.specs.declared.copies.CopyOf.{CopyOf}
+use Rattle.actor_parts.specs.Copies.{holds_call}
+use Rattle.actor_parts.specs.Footprints.{IsPlaceOf}
 use Rattle.tx_actor.proofs.CallsLemmas.{held_at_place, not_held_at}
 use Rattle.tx_actor.proofs.asks_calls.held_place.Goals as goal
 

@@ -1,7 +1,7 @@
 use Rattle.std.proofs.Common.{ap, subst, sym, ◌∙◌, refl}
 use Rattle.std.specs.declared.alloc.Global.{Global}
 use Rattle.std.specs.declared.vec.Vec.{Vec}
-use Rattle.actor_words.specs.Dispatch.{is_loading, next_of}
+use Rattle.actor_parts.specs.Dispatch.{is_loading, next_of}
 use Rattle.tx_actor.specs.Dispatch.{Records}
 use Rattle.tx_actor.specs.Running.{stage_of}
 use Rattle.tx_table.specs.Seated.{actor, view}

@@ -1,8 +1,8 @@
 use Rattle.std.proofs.Common.{◌≡◌, ◌+◌, ◌<◌, List, arith, sym, ◌∙◌, ap, subst}
 use Rattle.seq_model.specs.declared.call.Reply.{Reply}
 use Rattle.seq_model.specs.declared.limits.TheConstants.{CALL_LIMIT}
-use Rattle.jobs.specs.Programs.{after, asked}
-use Rattle.jobs.specs.declared.job.Ask.TheVariants as ask
+use Rattle.seq_model.specs.Programs.{after, asked}
+use Rattle.seq_model.specs.declared.job.Ask.TheVariants as ask
 use Rattle.client_sessions.specs.declared.entry.Entry.{Entry}
 use Rattle.client_sessions.specs.Sessions.{session}
 use Rattle.vacation_core.proofs.SessionLemmas.{Makes, asks_within, goes_on_so, made_all, makes_none, makes_one, may_call}

@@ -1,5 +1,5 @@
 use Rattle.std.proofs.Common.{refl, sym, ap, ◌∙◌, get_or}
-use Rattle.actor_words.specs.Blocks.{BlocksView}
+use Rattle.actor_parts.specs.Blocks.{BlocksView}
 use Rattle.world_table.proofs.LayoutLemmas.{kind_laid, laid_more}
 use Rattle.world_table.proofs.layout.lay.Goals as goal
 

@@ -1,6 +1,6 @@
 use Rattle.std.proofs.Common.{◌∙◌, ap, arith, ◌+◌, ◌-◌}
 use Rattle.std.proofs.lemmas.Result.{err_from_is_err_and}
-use Rattle.jobs.specs.Programs.{after}
+use Rattle.seq_model.specs.Programs.{after}
 use Rattle.client_sessions.specs.Sessions as programs
 use Rattle.client_sessions.specs.Serving.{serves_on}
 use Rattle.client_sessions.proofs.WalkLemmas.{stops_along, serve_some}

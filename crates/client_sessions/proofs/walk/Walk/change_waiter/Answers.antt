@@ -2,7 +2,7 @@ use Rattle.std.proofs.Common.{rules, ◌≡◌, ◌∙◌, ap, sym, List, []}
 use Rattle.std.specs.Option.{option_copied}
 use Rattle.std.proofs.lemmas.Result.{err_from_is_err_and}
 use Rattle.seq_model.specs.declared.call.Reply.{Reply}
-use Rattle.jobs.specs.Programs.{after}
+use Rattle.seq_model.specs.Programs.{after}
 use Rattle.client_sessions.specs.declared.entry.Entry.{Entry}
 use Rattle.client_sessions.specs.Sessions as programs
 use Rattle.client_sessions.specs.Serving.{waiter}

@@ -1,5 +1,5 @@
 use Rattle.std.proofs.Common.{rules, ◌≡◌, ◌∙◌, ap, sym, Some}
-use Rattle.jobs.specs.Programs.{after}
+use Rattle.seq_model.specs.Programs.{after}
 use Rattle.vac_model.specs.Actions.{take_units}
 use Rattle.vac_model.specs.declared.action.Part.TheVariants as part
 use Rattle.client_sessions.specs.Sessions as programs

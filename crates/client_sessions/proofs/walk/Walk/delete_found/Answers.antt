@@ -1,6 +1,6 @@
 use Rattle.std.proofs.Common.{◌∙◌, ap, sym}
 use Rattle.std.proofs.lemmas.Result.{err_from_is_err_and}
-use Rattle.jobs.specs.Programs.{after, Answers}
+use Rattle.seq_model.specs.Programs.{after, Answers}
 use Rattle.vac_model.specs.declared.action.ActionReply.TheVariants as reply
 use Rattle.vac_model.specs.declared.item.Customer.{Customer}
 use Rattle.vac_model.specs.Actions as actions

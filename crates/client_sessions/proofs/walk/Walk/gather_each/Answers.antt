@@ -1,5 +1,5 @@
 use Rattle.std.proofs.Common.{◌≡◌, ◌∷◌, true, ◌∙◌, sym, ◌+◌, drop}
-use Rattle.jobs.specs.Programs.{after}
+use Rattle.seq_model.specs.Programs.{after}
 use Rattle.client_sessions.specs.Gets.{tells_item}
 use Rattle.client_sessions.specs.Sessions as programs
 use Rattle.client_sessions.proofs.GetLemmas.{gather_told}

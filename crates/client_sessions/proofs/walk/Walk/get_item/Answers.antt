@@ -1,6 +1,6 @@
 use Rattle.std.proofs.Common.{ap}
 use Rattle.seq_model.specs.declared.call.Op.TheVariants.{Get}
-use Rattle.jobs.specs.Programs.{after}
+use Rattle.seq_model.specs.Programs.{after}
 use Rattle.client_sessions.specs.Sessions as programs
 use Rattle.client_sessions.proofs.WalkLemmas.{along, replied, stops_along}
 use Rattle.client_sessions.proofs.walk.Walk.get_item.Goals as goal

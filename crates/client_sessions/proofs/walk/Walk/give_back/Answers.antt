@@ -1,6 +1,6 @@
 use Rattle.std.proofs.Common.{◌∙◌, ap}
 use Rattle.std.proofs.lemmas.Result.{err_from_is_err_and}
-use Rattle.jobs.specs.Programs.{after, asked}
+use Rattle.seq_model.specs.Programs.{after, asked}
 use Rattle.client_sessions.specs.Sessions as programs
 use Rattle.client_sessions.proofs.WalkLemmas.{along, back_refused, back_given}
 use Rattle.client_sessions.proofs.walk.Walk.give_back.Goals as goal

@@ -1,7 +1,7 @@
 use Rattle.std.proofs.Common.{rules, ◌≡◌, ◌∙◌, ap, sym, true, List, []}
 use Rattle.std.specs.Prelude.{if◌then◌else◌}
 use Rattle.seq_model.specs.declared.call.Reply.{Reply}
-use Rattle.jobs.specs.Programs.{after}
+use Rattle.seq_model.specs.Programs.{after}
 use Rattle.client_sessions.specs.declared.entry.Entry.{Entry}
 use Rattle.client_sessions.specs.Drafts.{drafted}
 use Rattle.client_sessions.specs.Sessions as programs

@@ -1,6 +1,6 @@
 use Rattle.std.proofs.Common.{◌∙◌, ap, Option}
 use Rattle.std.proofs.lemmas.Result.{err_from_is_err_and}
-use Rattle.jobs.specs.Programs.{Answers}
+use Rattle.seq_model.specs.Programs.{Answers}
 use Rattle.vac_model.specs.declared.item.Item.{Item}
 use Rattle.vac_model.specs.Actions as actions
 use Rattle.client_sessions.specs.Sessions.{SessionProgram}

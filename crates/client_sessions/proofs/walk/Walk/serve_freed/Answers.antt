@@ -1,5 +1,5 @@
 use Rattle.std.proofs.Common.{rules, ◌∙◌, ap, sym}
-use Rattle.jobs.specs.Programs.{after}
+use Rattle.seq_model.specs.Programs.{after}
 use Rattle.client_sessions.proofs.WalkLemmas.{along, freed_served}
 use Rattle.client_sessions.proofs.walk.Walk.serve_freed.Goals as goal
 

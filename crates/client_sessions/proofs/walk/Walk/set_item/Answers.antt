@@ -1,5 +1,5 @@
 use Rattle.std.proofs.Common.{◌∙◌, ap, sym}
-use Rattle.jobs.specs.Programs.{after}
+use Rattle.seq_model.specs.Programs.{after}
 use Rattle.client_sessions.specs.Sessions as programs
 use Rattle.client_sessions.proofs.WalkLemmas.{item_differs, along}
 use Rattle.client_sessions.proofs.walk.Walk.set_item.Goals as goal

@@ -1,6 +1,6 @@
 use Rattle.std.proofs.Common.{◌∙◌, ap, List, ◌∷◌, ◌++◌, ◌+◌, drop}
 use Rattle.std.proofs.lemmas.Result.{err_from_is_err_and}
-use Rattle.jobs.specs.Programs.{after}
+use Rattle.seq_model.specs.Programs.{after}
 use Rattle.vac_model.specs.declared.action.Changed.{Changed}
 use Rattle.client_sessions.specs.Sessions as programs
 use Rattle.client_sessions.specs.Sessions.{SessionProgram}

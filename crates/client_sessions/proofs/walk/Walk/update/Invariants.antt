@@ -1,5 +1,5 @@
 use Rattle.std.proofs.Common.{◌≡◌, ◌++◌, List, drop}
-use Rattle.jobs.specs.Programs.{after}
+use Rattle.seq_model.specs.Programs.{after}
 use Rattle.vac_model.specs.declared.action.Changed.{Changed}
 use Rattle.client_sessions.specs.Sessions.{SessionProgram, change_each}
 use Rattle.client_sessions.proofs.walk.Walk.update.Given as goal

@@ -15,7 +15,7 @@ use Rattle.tx_actor.specs.Keeping.{NamesAmong}
 use Rattle.tx_actor.specs.Running.{stage_of}
 use Rattle.tx_actor.specs.declared.actor.TxActor.{TxActor}
 use Rattle.step_world.specs.Homes.{HasRoomDue, HasRoomLeft}
-use Rattle.actor_words.specs.declared.next.Next.TheVariants as next
+use Rattle.actor_parts.specs.declared.next.Next.TheVariants as next
 use Rattle.actor_turns.proofs.StepLemmas.{quiet_first}
 use Rattle.step_world.proofs.parts.Parts.commit.Goals as goal
 

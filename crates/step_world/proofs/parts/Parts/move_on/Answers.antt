@@ -6,7 +6,7 @@ use Rattle.step_world.proofs.OwnTurnLemmas.{keeps_step}
 use Rattle.actor_turns.proofs.OwnLemmas.{calm_at}
 use Rattle.step_world.proofs.RoomLemmas.{not_first, room_kept}
 use Rattle.tx_actor.specs.Running.{stage_of}
-use Rattle.actor_words.specs.declared.next.Next.TheVariants as next
+use Rattle.actor_parts.specs.declared.next.Next.TheVariants as next
 use Rattle.step_world.proofs.parts.Parts.move_on.Goals as goal
 
 pub step_word-requires-clause-running : goal.step_word-requires-clause-running

@@ -8,7 +8,7 @@ use Rattle.actor_turns.proofs.NameLemmas.{named_try}
 use Rattle.step_world.proofs.OwnTurnLemmas.{keeps_step}
 use Rattle.actor_turns.proofs.OwnLemmas.{calm_at}
 use Rattle.step_world.proofs.RoomLemmas.{not_first, room_kept}
-use Rattle.actor_words.specs.declared.next.Next.TheVariants as next
+use Rattle.actor_parts.specs.declared.next.Next.TheVariants as next
 use Rattle.step_world.proofs.parts.Parts.try_gate.Goals as goal
 
 pub try_gate-requires-clause-inside : goal.try_gate-requires-clause-inside

@@ -8,13 +8,13 @@ use Rattle.step_core.specs.Shown.{actor_of}
 use Rattle.replay_log.specs.Worlds.{Open}
 use Rattle.tx_actor.specs.Answers.{IsAcceptedAt}
 use Rattle.tx_actor.specs.Running.{answered_of, seat_of}
-use Rattle.actor_copies.specs.Writes.{MayWrite, written_as}
+use Rattle.actor_parts.specs.Writes.{MayWrite, written_as}
 use Rattle.replay_log.specs.Contents.{end_of}
 use Rattle.step_core.specs.Sound.{owed}
 use Rattle.step_core.specs.declared.actor.Place.{Place}
 use Rattle.tx_actor.specs.declared.actor.Answered as running
 use Rattle.tx_actor.specs.declared.actor.Told.TheVariants as told
-use Rattle.actor_copies.proofs.TakingLemmas.{at_place}
+use Rattle.actor_parts.proofs.TakingLemmas.{at_place}
 use Rattle.tx_actor.proofs.KeepingLemmas.{keeps_open}
 use Rattle.tx_actor.proofs.RoomLemmas.{fits_written}
 use Rattle.tx_actor.proofs.AnswerLemmas.{accepted_as, pieces_stay}

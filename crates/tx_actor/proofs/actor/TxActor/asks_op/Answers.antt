@@ -8,7 +8,7 @@ use Rattle.tx_actor.specs.Calls.{AsksOwn}
 use Rattle.tx_actor.specs.Running.{seat_of}
 use Rattle.tx_actor.proofs.AskedLemmas.{admits_call, alike_stands, call_as, on_err, own_still}
 use Rattle.tx_actor.proofs.OwnAsksLemmas.{read_same, write_same}
-use Rattle.actor_words.specs.Dispatch.{is_loading}
+use Rattle.actor_parts.specs.Dispatch.{is_loading}
 use Rattle.tx_actor.specs.Running.{stage_of}
 use Rattle.tx_actor.specs.declared.actor.Stage.{Stage}
 use Rattle.tx_actor.proofs.HavingLemmas.{still_same}

@@ -3,9 +3,9 @@ use Rattle.seq_model.specs.declared.limits.TheConstants.{CALL_LIMIT}
 use Rattle.seq_model.specs.declared.refusal.Refusal.TheVariants.{NoSuch, TooLong}
 use Rattle.replay_log.specs.Worlds.{calls_on}
 use Rattle.tx_actor.specs.Calls.{ask_call}
-use Rattle.actor_copies.specs.Keeps.{call_on}
+use Rattle.actor_parts.specs.Keeps.{call_on}
 use Rattle.tx_actor.specs.Running.{seat_of}
-use Rattle.actor_words.proofs.BlocksLemmas.{is_below, is_not_below}
+use Rattle.actor_parts.proofs.BlocksLemmas.{is_below, is_not_below}
 use Rattle.tx_actor.proofs.CallsLemmas.{asked_as, asks_allowed, no_such, refused_as, too_long}
 use Rattle.tx_actor.proofs.KeepingLemmas.{keeps_same}
 use Rattle.tx_actor.proofs.actor.TxActor.asks_to_call.Goals as goal

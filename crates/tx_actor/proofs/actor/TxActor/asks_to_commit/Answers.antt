@@ -8,8 +8,8 @@ use Rattle.tx_actor.specs.declared.actor.Stage.TheVariants as stage
 use Rattle.tx_actor.specs.declared.actor.TxActor.{TxActor}
 use Rattle.tx_actor.proofs.AskLemmas.{closes_as, locks_as, none_there, some_there}
 use Rattle.std.specs.List.{All}
-use Rattle.actor_words.specs.Requests.{KeepsAt}
-use Rattle.actor_words.proofs.HomesLemmas.{homes_below}
+use Rattle.actor_parts.specs.Requests.{KeepsAt}
+use Rattle.actor_parts.proofs.HomesLemmas.{homes_below}
 use Rattle.tx_actor.proofs.KeepingLemmas.{keeps_asked}
 use Rattle.tx_actor.proofs.actor.TxActor.asks_to_commit.Goals as goal
 

@@ -5,7 +5,7 @@ use Rattle.replay_log.specs.Worlds.{Seat}
 use Rattle.std.specs.Prelude.{IsSome}
 use Rattle.step_core.specs.declared.actor.Actor.{Actor}
 use Rattle.step_core.specs.Shown.{actor_of}
-use Rattle.actor_words.specs.Requests.{HasNoReads, may_read, number_told}
+use Rattle.actor_parts.specs.Requests.{HasNoReads, may_read, number_told}
 use Rattle.replay_log.specs.Worlds.{ask_op}
 use Rattle.seq_model.specs.declared.call.Op.TheVariants.{Read}
 use Rattle.tx_actor.specs.Asks.{Asks}
@@ -15,7 +15,7 @@ use Rattle.tx_actor.specs.Running.{seat_of}
 use Rattle.tx_actor.specs.declared.actor.Stage.TheVariants as stage
 use Rattle.tx_actor.specs.declared.actor.Told.TheVariants as told
 use Rattle.tx_actor.specs.declared.actor.TxActor.{TxActor}
-use Rattle.actor_words.proofs.BlocksLemmas.{end_behind, is_below}
+use Rattle.actor_parts.proofs.BlocksLemmas.{end_behind, is_below}
 use Rattle.tx_actor.proofs.KeepingLemmas.{keeps_asked, keeps_through, room_as}
 use Rattle.std.specs.Vec.{vec_capacity, vec_len}
 use Rattle.replay_log.specs.Contents.{end_of}

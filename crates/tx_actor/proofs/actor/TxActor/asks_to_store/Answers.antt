@@ -1,7 +1,7 @@
 use Rattle.std.proofs.Common.{ℕ, refl, subst}
 use Rattle.tx_actor.specs.declared.actor.TxActor.{TxActor}
 use Rattle.tx_actor.proofs.AskLemmas.{stores_as}
-use Rattle.actor_words.specs.Requests.{KeepsAt}
+use Rattle.actor_parts.specs.Requests.{KeepsAt}
 use Rattle.tx_actor.proofs.KeepingLemmas.{keeps_asked, room_as}
 use Rattle.tx_actor.proofs.actor.TxActor.asks_to_store.Goals as goal
 

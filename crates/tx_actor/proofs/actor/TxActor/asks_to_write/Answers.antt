@@ -13,7 +13,7 @@ use Rattle.tx_actor.specs.declared.actor.Stage.TheVariants as stage
 use Rattle.tx_actor.specs.declared.actor.Told.TheVariants as told
 use Rattle.seq_model.specs.declared.event.Answer.TheVariants as answer
 use Rattle.tx_actor.specs.declared.actor.TxActor.{TxActor}
-use Rattle.actor_words.proofs.BlocksLemmas.{end_behind, is_below}
+use Rattle.actor_parts.proofs.BlocksLemmas.{end_behind, is_below}
 use Rattle.tx_actor.proofs.KeepingLemmas.{keeps_asked, room_as}
 use Rattle.std.specs.Vec.{vec_capacity, vec_len}
 use Rattle.replay_log.specs.Contents.{end_of}

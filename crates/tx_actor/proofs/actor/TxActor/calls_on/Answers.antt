@@ -3,7 +3,7 @@ use Rattle.std.proofs.Common.{◌≡◌, Option, ℕ, false, refl, sym, subst}
 use Rattle.tx_actor.specs.Calls.{AsksOwn}
 use Rattle.tx_actor.specs.Keeping.{KeepsIn}
 use Rattle.replay_log.specs.Worlds.{calls_on}
-use Rattle.actor_copies.specs.Keeps.{call_on}
+use Rattle.actor_parts.specs.Keeps.{call_on}
 use Rattle.tx_actor.specs.Running.{seat_of}
 use Rattle.tx_actor.specs.declared.actor.Told.TheVariants.{Quiet}
 use Rattle.tx_actor.proofs.PreparesLemmas.{alike_itself}
@@ -11,8 +11,8 @@ use Rattle.tx_actor.proofs.RoomLemmas.{alike_in}
 use Rattle.tx_actor.specs.Prepares.{IsHeldPlace}
 use Rattle.tx_actor.proofs.CallsLemmas.{gate_is_tried}
 use Rattle.replay_log.specs.Contents.{end_of}
-use Rattle.actor_copies.specs.Copies.{holds_of}
-use Rattle.actor_copies.specs.Kept.{copy_of}
+use Rattle.actor_parts.specs.Copies.{holds_of}
+use Rattle.actor_parts.specs.Kept.{copy_of}
 use Rattle.tx_actor.specs.declared.actor.Asked.{Asked}
 use Rattle.tx_actor.specs.declared.actor.Stage.TheVariants as stage
 use Rattle.tx_actor.proofs.KeepingLemmas.{keeps_asked, words_same}

@@ -2,7 +2,7 @@ use Rattle.std.proofs.Common.{refl}
 use Rattle.replay_log.specs.Worlds.{at_stage}
 use Rattle.tx_actor.specs.Running.{seat_of}
 use Rattle.step_core.specs.Shown.{actor_of}
-use Rattle.actor_words.specs.Shows.{ending}
+use Rattle.actor_parts.specs.Shows.{ending}
 use Rattle.tx_actor.specs.declared.actor.TxActor.{TxActor}
 use Rattle.tx_actor.proofs.RunsLemmas.{cancels_as, seat_as}
 use Rattle.tx_actor.proofs.KeepingLemmas.{keeps_to}

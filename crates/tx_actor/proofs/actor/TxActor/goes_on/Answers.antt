@@ -2,7 +2,7 @@ use Rattle.std.proofs.Common.{◌≤◌, [], refl, subst, sym, ◌∙◌, arith}
 use Rattle.step_core.specs.Shown.{actor_of}
 use Rattle.replay_log.specs.Worlds.{Loading, Seat, Stage, at_stage}
 use Rattle.tx_actor.specs.Answers.{CopiesAfter}
-use Rattle.actor_words.specs.Judged.{left_after}
+use Rattle.actor_parts.specs.Judged.{left_after}
 use Rattle.tx_actor.specs.Running.{answered_of, outcome_in, seat_of, with_outcome}
 use Rattle.tx_actor.proofs.AnswerLemmas.{by_judged, by_outcome, reads_by}
 use Rattle.tx_actor.proofs.RoomLemmas.{goes_on_next}

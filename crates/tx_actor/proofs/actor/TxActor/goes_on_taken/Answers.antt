@@ -2,7 +2,7 @@ use Rattle.std.proofs.Common.{◌≡◌, ℕ, Option, Some, inr, sym, ap, subst,
 use Rattle.std.specs.declared.alloc.Global.{Global}
 use Rattle.std.specs.declared.collections.VecDeque.{VecDeque}
 use Rattle.replay_log.specs.Contents.{block_of, first_of}
-use Rattle.actor_words.specs.Judged.{judged}
+use Rattle.actor_parts.specs.Judged.{judged}
 use Rattle.tx_actor.specs.Answers.{CanAccept}
 use Rattle.tx_actor.specs.Having.{HasGone}
 use Rattle.tx_actor.specs.Keeping.{CanGoOn, KeepsIn}

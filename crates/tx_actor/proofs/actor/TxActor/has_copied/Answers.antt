@@ -1,7 +1,7 @@
 use Rattle.std.proofs.Common.{ℕ, Option, Some, None, inl, inr, refl, sym, ap, subst, ◌∙◌}
 use Rattle.std.specs.declared.alloc.Global.{Global}
 use Rattle.std.specs.declared.collections.VecDeque.{VecDeque}
-use Rattle.actor_words.specs.Judged.{judged}
+use Rattle.actor_parts.specs.Judged.{judged}
 use Rattle.tx_actor.specs.Answers.{CanAccept}
 use Rattle.tx_actor.specs.Having.{HasGone}
 use Rattle.tx_actor.specs.Copying.{AreReadyIn, CanCopy}

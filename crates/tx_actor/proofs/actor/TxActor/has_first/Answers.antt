@@ -5,7 +5,7 @@ use Rattle.tx_actor.specs.declared.actor.Stage.TheVariants as stage
 use Rattle.tx_actor.proofs.HeardLemmas.{heard_ends, heard_goes}
 use Rattle.std.proofs.Common.{inl, inr, subst, sym}
 use Rattle.tx_sets.specs.Entries.{Entries}
-use Rattle.actor_words.specs.Judged.{judged}
+use Rattle.actor_parts.specs.Judged.{judged}
 use Rattle.tx_actor.specs.Having.{HasFound}
 use Rattle.tx_actor.specs.Running.{at}
 use Rattle.tx_actor.proofs.GoneLemmas.{gone_at}

@@ -1,7 +1,7 @@
 use Rattle.tx_actor.proofs.HeardLemmas.{heard_stays}
 use Rattle.std.proofs.Common.{subst, sym}
-use Rattle.actor_words.specs.Dispatch.{shown_notice}
-use Rattle.actor_words.specs.declared.notice.WordNotice.{WordNotice}
+use Rattle.actor_parts.specs.Dispatch.{shown_notice}
+use Rattle.actor_parts.specs.declared.notice.WordNotice.{WordNotice}
 use Rattle.tx_actor.specs.Keeping.{KeepsHeard}
 use Rattle.tx_actor.specs.Running.{at}
 use Rattle.tx_actor.specs.declared.actor.Stage.TheVariants as stage

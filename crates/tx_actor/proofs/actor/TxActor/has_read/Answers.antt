@@ -1,6 +1,6 @@
 use Rattle.std.proofs.Common.{refl}
 use Rattle.tx_actor.specs.Running.{at, seat_of}
-use Rattle.actor_words.specs.Dispatch.{shown_notice}
+use Rattle.actor_parts.specs.Dispatch.{shown_notice}
 use Rattle.tx_actor.specs.declared.actor.Stage.TheVariants as stage
 use Rattle.tx_actor.proofs.DispatchLemmas.{heard_as, word_stays, read_else}
 use Rattle.tx_actor.proofs.KeepingLemmas.{keeps_from, keeps_same}

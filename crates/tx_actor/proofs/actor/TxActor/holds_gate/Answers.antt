@@ -1,6 +1,6 @@
 use Rattle.std.proofs.Common.{ℕ, true, [], refl, sym, ◌∙◌}
 use Rattle.replay_log.specs.Worlds as worlds
-use Rattle.actor_words.specs.Dispatch.{after_try}
+use Rattle.actor_parts.specs.Dispatch.{after_try}
 use Rattle.tx_actor.specs.Running.{Reseats, asked_of, at, seat_of, stage_of}
 use Rattle.tx_actor.specs.declared.actor.Told.TheVariants as told
 use Rattle.tx_actor.specs.declared.actor.Stage.TheVariants as stage

@@ -2,7 +2,7 @@ use Rattle.std.proofs.Common.{refl, sym, ◌∙◌}
 use Rattle.tx_actor.specs.Running.{at}
 use Rattle.tx_actor.specs.declared.actor.Stage.TheVariants as stage
 use Rattle.tx_actor.proofs.LoadLemmas.{load_at_stage, load_heard, load_quiet, loadable_as}
-use Rattle.actor_words.specs.Dispatch.{notice_told, shown_notice}
+use Rattle.actor_parts.specs.Dispatch.{notice_told, shown_notice}
 use Rattle.tx_actor.proofs.HeardLemmas.{heard_apart, heard_at, heard_quiet}
 use Rattle.tx_actor.proofs.GoneLemmas.{apart_loaded, loaded_at, loaded_quiet}
 use Rattle.tx_actor.proofs.actor.TxActor.loaded.Goals as goal

@@ -1,12 +1,12 @@
 use Rattle.std.proofs.Common.{rules, ◌≡◌, None, List, refl, sym, ap, subst, ◌∙◌}
 use Rattle.replay_log.specs.Contents.{end_of}
-use Rattle.actor_copies.specs.declared.copies.CopyOf.{CopyOf}
+use Rattle.actor_parts.specs.declared.copies.CopyOf.{CopyOf}
 use Rattle.tx_actor.specs.declared.actor.TxActor.{TxActor}
-use Rattle.actor_copies.specs.Footprints.{IsPlaceOf}
-use Rattle.actor_copies.specs.Logs.{changes_had, locations_had}
-use Rattle.actor_copies.specs.Kept.{copy_of}
+use Rattle.actor_parts.specs.Footprints.{IsPlaceOf}
+use Rattle.actor_parts.specs.Logs.{changes_had, locations_had}
+use Rattle.actor_parts.specs.Kept.{copy_of}
 use Rattle.tx_actor.proofs.KeepingLemmas.{keeps_asked, keeps_same, recorded_quiet, recorded_room, words_same}
-use Rattle.actor_copies.proofs.LogLemmas.{found_at, others_stand}
+use Rattle.actor_parts.proofs.LogLemmas.{found_at, others_stand}
 use Rattle.tx_actor.proofs.RunsLemmas.{left_alike}
 use Rattle.tx_actor.proofs.actor.TxActor.log_of.Goals as goal
 

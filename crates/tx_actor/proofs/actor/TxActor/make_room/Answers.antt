@@ -1,6 +1,6 @@
 use Rattle.std.proofs.Common.{length, refl, rules}
 use Rattle.std.proofs.lemmas.Option.{slice_get_read}
-use Rattle.actor_copies.proofs.AlikeLemmas.{all_kept, kept_set}
+use Rattle.actor_parts.proofs.AlikeLemmas.{all_kept, kept_set}
 use Rattle.tx_actor.proofs.PreparesLemmas.{ready_at}
 use Rattle.tx_actor.proofs.actor.TxActor.make_room.Goals as goal
 

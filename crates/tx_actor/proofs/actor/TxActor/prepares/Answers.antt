@@ -2,12 +2,12 @@ use Rattle.std.proofs.Common.{◌≡◌, ℕ, Option, None, length, refl, sym, a
 use Rattle.std.proofs.lemmas.Option.{slice_get_read}
 use Rattle.std.specs.declared.alloc.Global.{Global}
 use Rattle.std.specs.declared.collections.VecDeque.{VecDeque}
-use Rattle.actor_copies.specs.declared.copies.CopyOf.{CopyOf}
+use Rattle.actor_parts.specs.declared.copies.CopyOf.{CopyOf}
 use Rattle.tx_actor.specs.declared.actor.Answered as running
 use Rattle.tx_actor.specs.declared.actor.Asked.{Asked}
 use Rattle.tx_actor.specs.declared.prepares.Prepared.{Prepared}
 use Rattle.tx_actor.specs.Prepares.{ArePrepared, AreReadied, IsReadyCall, MayPrepare}
-use Rattle.actor_copies.proofs.TakingLemmas.{some_copy}
+use Rattle.actor_parts.proofs.TakingLemmas.{some_copy}
 use Rattle.tx_actor.proofs.PreparesLemmas.{alike_itself}
 use Rattle.tx_actor.proofs.actor.TxActor.prepares.Goals as goal
 

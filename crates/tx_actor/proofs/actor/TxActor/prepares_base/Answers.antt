@@ -1,9 +1,9 @@
 use Rattle.std.proofs.Common.{rules, OnOk, Option, sym, subst}
 use Rattle.replay_log.specs.Base.{IsPreparedFor}
-use Rattle.actor_copies.specs.declared.copies.Copied.{Copied}
-use Rattle.actor_copies.specs.Footprints.{IsPlaceOf}
-use Rattle.actor_copies.specs.Logs.{changes_had}
-use Rattle.actor_copies.proofs.LogLemmas.{found_at}
+use Rattle.actor_parts.specs.declared.copies.Copied.{Copied}
+use Rattle.actor_parts.specs.Footprints.{IsPlaceOf}
+use Rattle.actor_parts.specs.Logs.{changes_had}
+use Rattle.actor_parts.proofs.LogLemmas.{found_at}
 use Rattle.tx_actor.proofs.actor.TxActor.prepares_base.Goals as goal
 
 pub returns-in-Some-clause-ok : goal.returns-in-Some-clause-ok

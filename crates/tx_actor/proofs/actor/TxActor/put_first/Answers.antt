@@ -3,7 +3,7 @@ use Rattle.std.specs.List.{All}
 use Rattle.std.proofs.Common.{sym, ap, ◌∙◌, refl, subst, ℕ, ◌<◌}
 use Rattle.replay_log.specs.Worlds.{gives_up}
 use Rattle.tx_actor.specs.Running.{at, seat_of, stage_of}
-use Rattle.actor_words.specs.Dispatch.{after_put}
+use Rattle.actor_parts.specs.Dispatch.{after_put}
 use Rattle.tx_actor.specs.declared.actor.Stage.TheVariants as stage
 use Rattle.tx_actor.proofs.DispatchLemmas.{by_result, does_stays, give_up_at, puts_first, puts_none}
 use Rattle.tx_actor.proofs.KeepingLemmas.{keeps_from, keeps_same}

@@ -1,11 +1,11 @@
 use Rattle.std.proofs.Common.{◌≡◌, true, false, length, Some, refl, sym, ap, subst, ◌∙◌, arith}
 use Rattle.std.proofs.lemmas.Option.{slice_get_read}
-use Rattle.actor_copies.specs.declared.copies.CopyOf.{CopyOf}
-use Rattle.actor_copies.specs.Copies.{answer_of}
-use Rattle.actor_copies.specs.Footprints.{reads_in, with_known, writes_in}
+use Rattle.actor_parts.specs.declared.copies.CopyOf.{CopyOf}
+use Rattle.actor_parts.specs.Copies.{answer_of}
+use Rattle.actor_parts.specs.Footprints.{reads_in, with_known, writes_in}
 use Rattle.tx_actor.specs.Prepares.{HasRoomFor, fits}
-use Rattle.actor_copies.specs.Writes.{with_next}
-use Rattle.actor_copies.proofs.TakingLemmas.{some_copy}
+use Rattle.actor_parts.specs.Writes.{with_next}
+use Rattle.actor_parts.proofs.TakingLemmas.{some_copy}
 use Rattle.tx_actor.proofs.PreparesLemmas.{alike_itself, known_length, prepared_by}
 use Rattle.tx_actor.proofs.actor.TxActor.readies.Goals as goal
 

@@ -1,9 +1,9 @@
 use Rattle.std.proofs.Common.{◌≡◌, ℕ, ◌<◌, Option, length, refl, sym, subst, arith}
 use Rattle.std.specs.declared.alloc.Global.{Global}
 use Rattle.std.specs.declared.collections.VecDeque.{VecDeque}
-use Rattle.actor_copies.proofs.AlikeLemmas.{kept_length}
-use Rattle.actor_copies.proofs.TakingLemmas.{taken_there}
-use Rattle.actor_copies.specs.Taking.{TakesBack, copy_with}
+use Rattle.actor_parts.proofs.AlikeLemmas.{kept_length}
+use Rattle.actor_parts.proofs.TakingLemmas.{taken_there}
+use Rattle.actor_parts.specs.Taking.{TakesBack, copy_with}
 use Rattle.tx_actor.specs.declared.actor.Asked.{Asked}
 use Rattle.tx_actor.specs.Prepares.{AreReadied}
 use Rattle.tx_actor.proofs.CopyingLemmas.{may_prepare, moved_back}

@@ -2,7 +2,7 @@ use Rattle.tx_actor.specs.declared.actor.Stage.{Stage}
 use Rattle.std.proofs.Common.{sym, subst, ◌∙◌, refl, ◌≡◌, false}
 use Rattle.tx_actor.specs.Running.{at, seat_at, stage_of}
 use Rattle.tx_actor.specs.Dispatch.{Records, HasRoom}
-use Rattle.actor_words.specs.Dispatch.{notice_told, is_loading}
+use Rattle.actor_parts.specs.Dispatch.{notice_told, is_loading}
 use Rattle.tx_actor.specs.declared.actor.Stage.TheVariants as stage
 use Rattle.tx_actor.proofs.DispatchLemmas.{records_else, told_as, waits_unrecorded, word_at_stage, word_else, word_stays, word_waits}
 use Rattle.tx_actor.proofs.KeepingLemmas.{keeps_at, keeps_from, keeps_same}

@@ -1,5 +1,5 @@
 use Rattle.std.proofs.Common.{ℕ, refl, subst}
-use Rattle.actor_copies.specs.Taking.{IsTakenAt}
+use Rattle.actor_parts.specs.Taking.{IsTakenAt}
 use Rattle.tx_actor.proofs.actor.TxActor.takes_from.Goals as goal
 
 pub returns-in_ok-place-in-Ok-clause-ok : goal.returns-in_ok-place-in-Ok-clause-ok

@@ -1,6 +1,6 @@
 use Rattle.std.proofs.Common.{sym, ◌∙◌, ◌≡◌, false, subst}
 use Rattle.tx_actor.specs.Running.{at, seat_of, stage_of}
-use Rattle.actor_words.specs.Dispatch.{after_try, is_loading}
+use Rattle.actor_parts.specs.Dispatch.{after_try, is_loading}
 use Rattle.tx_actor.specs.declared.actor.Stage.TheVariants as stage
 use Rattle.tx_actor.proofs.DispatchLemmas.{does_at_stage, does_stays, try_else}
 use Rattle.tx_actor.proofs.KeepingLemmas.{keeps_at, keeps_same}

@@ -1,6 +1,6 @@
 use Rattle.std.proofs.Common.{Bool, subst, sym}
 use Rattle.tx_actor.specs.Running.{Does, seat_of, stage_of}
-use Rattle.actor_words.specs.Dispatch.{after_try}
+use Rattle.actor_parts.specs.Dispatch.{after_try}
 use Rattle.tx_actor.proofs.actor.TxActor.tried_gate.Goals as goal
 
 pub holds_gate-requires : goal.holds_gate-requires

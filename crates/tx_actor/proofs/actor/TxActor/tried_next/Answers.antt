@@ -1,7 +1,7 @@
 use Rattle.std.proofs.Common.{◌<◌, ◌≤◌, ◌∙◌, drop, length, rules, take, refl}
 use Rattle.std.proofs.lemmas.List.{drop_all, drop_more}
 use Rattle.tx_actor.specs.Running.{at, seat_of, stage_of}
-use Rattle.actor_words.specs.Dispatch.{after_try}
+use Rattle.actor_parts.specs.Dispatch.{after_try}
 use Rattle.tx_actor.specs.declared.actor.Stage.TheVariants as stage
 use Rattle.tx_actor.proofs.DispatchLemmas.{by_result, does_stays, gating_some, gating_none, tried_at}
 use Rattle.tx_actor.proofs.KeepingLemmas.{keeps_same}

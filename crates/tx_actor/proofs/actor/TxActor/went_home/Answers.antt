@@ -4,7 +4,7 @@ use Rattle.tx_actor.specs.declared.actor.Stage.TheVariants as stage
 use Rattle.tx_actor.proofs.DispatchLemmas.{home_at_stage, home_else, home_stays}
 use Rattle.tx_actor.proofs.KeepingLemmas.{keeps_at, keeps_same}
 use Rattle.tx_actor.proofs.HavingLemmas.{copies_at, copies_same}
-use Rattle.actor_words.specs.Dispatch.{is_loading}
+use Rattle.actor_parts.specs.Dispatch.{is_loading}
 use Rattle.tx_actor.specs.declared.actor.Stage.{Stage}
 use Rattle.tx_actor.proofs.actor.TxActor.went_home.Goals as goal
 

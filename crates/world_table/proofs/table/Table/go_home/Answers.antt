@@ -2,7 +2,7 @@ use Rattle.std.proofs.Common.{◌≡◌, refl, subst}
 use Rattle.std.proofs.lemmas.Option.{slice_get_read}
 use Rattle.std.specs.Vec.{with_item}
 use Rattle.step_core.proofs.Lists.{same_at}
-use Rattle.atomic_steps.specs.Bases.{IsFolded}
+use Rattle.actor_laws.specs.Bases.{IsFolded}
 use Rattle.std.proofs.lemmas.List.{length-set}
 use Rattle.world_table.proofs.ShapeLemmas.{keeps_shape_home}
 use Rattle.world_table.proofs.TableLemmas.{goes_home}

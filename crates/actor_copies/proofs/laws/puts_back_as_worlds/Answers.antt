@@ -1,5 +1,0 @@
-use Rattle.actor_copies.proofs.CopyingLemmas.{puts_back}
-use Rattle.actor_copies.proofs.laws.puts_back_as_worlds.Goals as goal
-
-pub returns : goal.returns
-returns c s = puts_back

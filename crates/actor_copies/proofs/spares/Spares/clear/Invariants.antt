@@ -1,5 +1,0 @@
-use Rattle.std.proofs.Common.{vec_len}
-use Rattle.actor_copies.proofs.spares.Spares.clear.Given as goal
-
-abbrev pub decreases-loop-copy : goal.decreases-loop-copy
-decreases-loop-copy g l = vec_len l.copies

@@ -1,5 +1,0 @@
-use Rattle.actor_copies.proofs.TakingLemmas.{taken_goes_back}
-use Rattle.actor_copies.proofs.taking.taken_back.Goals as goal
-
-pub returns : goal.returns
-returns g c = taken_goes_back

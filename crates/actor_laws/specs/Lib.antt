@@ -1,0 +1,14 @@
+pub mod Machine
+pub mod Own
+pub mod Clock
+pub mod Steps
+pub mod Spots
+pub mod Gates
+pub mod Tells
+pub mod Bases
+pub mod StepVectors
+pub mod Phases
+pub mod Courses
+pub mod Alone
+pub mod Beside
+pub mod Limits

@@ -1,0 +1,56 @@
+//! The first copy of a collection, by what was found of it for a call.
+ghost use Rattle.std.specs.Prelude.{◌≡◌, IfOk};
+ghost use Rattle.actor_parts.specs.declared.copies.Found.TheVariants as found;
+ghost use Rattle.actor_parts.specs.First.{IsFirst, IsFirstTouch, memo_kind};
+
+use crate::copies::{Copied, Found};
+use crate::spares::Spares;
+use replay_log::{Touch, Touched};
+use seq_model::{Refusal, Value};
+use shadow::MemoKind;
+use std::alloc::Global;
+
+/// The kind of the collection that was touched.
+fn memo_kind<V>(held: &Touched<V>) -> MemoKind
+    ensures { result ≡ memo_kind held.now }
+{
+    if let Touched::Copies(_, _) = held {
+        return MemoKind::Bag;
+    }
+    MemoKind::Map
+}
+
+fn first_touch<V: Value>(
+    spares: &mut Spares<V>,
+    alloc: Global,
+    stripes: u32,
+    touch: Touch<V>,
+) -> Result<Copied<V>, Refusal>
+    ensures { IfOk result (λ copied. IsFirstTouch stripes touch copied) }
+{
+    let blank = spares.blank(alloc, stripes, memo_kind(&touch.held))?;
+    let mut copied = Copied::Keys(blank.memo, blank.editions);
+    let editions = copied.learn(touch)?;
+    spares.keep_editions(editions);
+    Ok(copied)
+}
+
+/// What there is of a collection in so many stripes once this was found of it, and no call is accepted yet, in spare memory where there is
+/// some. A number of stripes outside 1 to `STRIPE_LIMIT` is refused there as TooLong.
+pub fn first_copy<V: Value>(
+    spares: &mut Spares<V>,
+    alloc: Global,
+    stripes: u32,
+    found: Found<V>,
+) -> Result<Copied<V>, Refusal>
+    ensures { IfOk result (λ copied. IsFirst stripes found copied) }
+{
+    match found {
+        Found::Keys(touch) => first_touch(spares, alloc, stripes, touch),
+        Found::Whole(shadow) => {
+            let mut shadow = shadow;
+            shadow.get_mut().renew(spares.log(alloc));
+            Ok(Copied::Whole(shadow))
+        }
+    }
+}

@@ -1,0 +1,174 @@
+//! What a call touches joins what a transaction has of collections, while the gate of its collection is held, and is taken back where
+//! the call is not made.
+ghost use Rattle.std.specs.Prelude.{◌≡◌, ◌+◌, ◌<◌, ◌≤◌, ◌^◌, IfOk, OnErr, OnOk, Some, false, length};
+ghost use Rattle.std.specs.Vec.{vec_capacity, vec_len};
+ghost use Rattle.conflict.specs.declared.outcome.Outcome.{Outcome};
+ghost use Rattle.replay_log.specs.Base.{locations_of, outcome_of, shown_of, stripes_of};
+ghost use Rattle.actor_parts.specs.Copies.{IsKept};
+ghost use Rattle.actor_parts.specs.Kept.{HaveSame};
+ghost use Rattle.actor_parts.specs.Taking.{IsAdded, IsPushed, IsTakenAt, TakenBack, TakesBack, fits_base};
+
+use crate::copies::{Copied, CopyOf, Found};
+use crate::first::first_copy;
+use crate::footprints::{all_read, place_of};
+use crate::room::{has_room, has_room_below, surely_fits};
+use crate::spares::Spares;
+use replay_log::Base;
+use seq_model::{Memory, Op, Value};
+use std::alloc::Global;
+use step_core::Actor;
+
+/// A call reads at most the stripes of its collection and so many locations more.
+const OTHER_READS: usize = 2;
+
+/// A call writes at most so many locations.
+const MOST_WRITES: usize = 2;
+
+/// Whether the locations of the call on the base as it is, which has so many stripes, fit the sets of the transaction. The collection
+/// begins at location `first`. It is asked before anything is learnt for the call: an edition that is learnt is not forgotten. Where the
+/// sets have room for the locations of any call on the base, the outcome of this one is not sought.
+#[inline(always)]
+pub fn fits_base<V: Value>(
+    words: &Actor,
+    base: &Base<V>,
+    stripes: u32,
+    first: u32,
+    op: &Op<V>,
+) -> Result<bool, Memory>
+    requires count { stripes ≡ stripes_of base.now }
+    requires stripes { 0 < stripes_of base.now }
+    requires range { first + locations_of (stripes_of base.now) (shown_of base.now) ≤ 2 ^ 32 }
+    ensures fits { IfOk result (λ fits. (o : Outcome V) → outcome_of op.now (shown_of base.now) ≡ Some o →
+        fits ≡ fits_base words.now base.now first o) }
+    ensures known { IfOk result (λ fits. fits ≡ false → (o : Outcome V) × (outcome_of op.now (shown_of base.now) ≡ Some o)) }
+{
+    if surely_fits(words, stripes as usize + OTHER_READS, MOST_WRITES) {
+        Ok(true)
+    } else {
+        fits_outcome(words, base, first, op)
+    }
+}
+
+#[inline(never)]
+fn fits_outcome<V: Value>(
+    words: &Actor,
+    base: &Base<V>,
+    first: u32,
+    op: &Op<V>,
+) -> Result<bool, Memory>
+    requires stripes { 0 < stripes_of base.now }
+    requires range { first + locations_of (stripes_of base.now) (shown_of base.now) ≤ 2 ^ 32 }
+    ensures { IfOk result (λ fits. (o : Outcome V) × (outcome_of op.now (shown_of base.now) ≡ Some o)
+        × (fits ≡ fits_base words.now base.now first o)) }
+{
+    match base.outcome(op) {
+        Ok(outcome) => {
+            let writes = base.writes(&outcome)?;
+            match all_read(base, &outcome) {
+                Some(count) => Ok(has_room_below(words, first, count, &writes)),
+                None => {
+                    let reads = base.reads(&outcome)?;
+                    Ok(has_room(words, first, &reads, &writes))
+                }
+            }
+        }
+        Err(_) => Err(Memory),
+    }
+}
+
+/// The copy has what was found besides. A whole collection that is copied already has all.
+fn add<V: Value>(
+    copied: &mut Copied<V>,
+    spares: &mut Spares<V>,
+    found: Found<V>,
+) -> Result<(), Memory>
+    ensures ok { OnOk result (IsAdded found copied.old copied.new) }
+    ensures err { OnErr result (IsKept copied.old copied.new) }
+{
+    match found {
+        Found::Keys(touch) => {
+            let editions = copied.learn(touch)?;
+            spares.keep_editions(editions);
+        }
+        Found::Whole(_) => {}
+    }
+    Ok(())
+}
+
+// Room for one copy more, and to keep its memory once it goes.
+fn make_room<V: Drop>(copies: &mut Vec<CopyOf<V>>, spares: &mut Spares<V>) -> Result<(), Memory>
+    ensures items { copies.new.items ≡ copies.old.items }
+    ensures ok { OnOk result (vec_len copies.new < vec_capacity copies.new) }
+{
+    copies.reserve(1)?;
+    spares.reserve(copies.len().saturating_add(1))?;
+    Ok(())
+}
+
+#[inline(never)]
+fn push_first<V: Value>(
+    copies: &mut Vec<CopyOf<V>>,
+    spares: &mut Spares<V>,
+    alloc: Global,
+    stripes: u32,
+    collection: u32,
+    found: Found<V>,
+) -> Result<(), Memory>
+    ensures ok { OnOk result (IsPushed stripes collection found copies.old.items copies.new.items) }
+    ensures err { OnErr result (copies.new.items ≡ copies.old.items) }
+{
+    make_room(copies, spares)?;
+    match first_copy(spares, alloc, stripes, found) {
+        Ok(copied) => {
+            copies.push_reserved(CopyOf { collection, copied });
+            Ok(())
+        }
+        Err(_) => Err(Memory),
+    }
+}
+
+/// What was found of the collection for a call is taken: where there is a copy of it that learns it, and else a first copy. Returns where
+/// that stands. `Memory`, where an allocation fails, leaves the pieces that there were.
+pub fn take<V: Value>(
+    copies: &mut Vec<CopyOf<V>>,
+    spares: &mut Spares<V>,
+    alloc: Global,
+    stripes: u32,
+    collection: u32,
+    found: Found<V>,
+) -> Result<usize, Memory>
+    ensures ok { IfOk result (λ place. IsTakenAt stripes collection found place copies.old.items copies.new.items) }
+    ensures err { OnErr result (HaveSame copies.old.items copies.new.items) }
+{
+    match place_of(copies, collection) {
+        Some(place) => {
+            match add(&mut copies[place].copied, spares, found) {
+                Ok(()) => Ok(place),
+                Err(_) => Err(Memory),
+            }
+        }
+        None => {
+            let place = copies.len();
+            push_first(copies, spares, alloc, stripes, collection, found)?;
+            Ok(place)
+        }
+    }
+}
+
+/// What was taken for a call that is not made goes: the copy at this place forgets what the call touches, where it is one of the first
+/// `count` copies, and goes itself where it is not.
+pub fn take_back<V: Value>(copies: &mut Vec<CopyOf<V>>, count: usize, place: usize, op: &Op<V>)
+    requires { place < length copies.old.items }
+    ensures { TakesBack count place op.now copies.old.items copies.new.items }
+{
+    if place < count {
+        copies[place].copied.forget(op);
+    } else {
+        copies.truncate(count);
+    }
+}
+
+/// What was taken for a call that is not made, and is taken back, leaves the pieces that there were.
+pub fn taken_back<V: Value>()
+    ensures { TakenBack V }
+{}

@@ -1,5 +1,0 @@
-use Rattle.actor_words.proofs.ShowsLemmas.{reads_next}
-use Rattle.actor_words.proofs.laws.reads_next_as_worlds.Goals as goal
-
-pub returns : goal.returns
-returns c s = reads_next

@@ -1,5 +1,0 @@
-use Rattle.atomic_steps.proofs.Alike.{spot_same, action_same, deed_same}
-use Rattle.atomic_steps.proofs.laws.due_by_own_part.Goals as goal
-
-pub returns : goal.returns
-returns g c = record { spot = spot_same; action = action_same; deed = deed_same }

@@ -1,5 +1,0 @@
-use Rattle.atomic_steps.proofs.Turned.{try_turned, put_turned, home_turned}
-use Rattle.atomic_steps.proofs.laws.gate_becomes.Goals as goal
-
-pub returns : goal.returns
-returns g c = record { tried = λ v a. try_turned a v; back = λ v a. put_turned a v; home = λ v a. home_turned a v }

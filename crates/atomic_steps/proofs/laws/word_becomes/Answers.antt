@@ -1,5 +1,0 @@
-use Rattle.atomic_steps.proofs.Turned.{word_turned}
-use Rattle.atomic_steps.proofs.laws.word_becomes.Goals as goal
-
-pub returns : goal.returns
-returns g c = record { word = λ v a d e. (word_turned a v d e).0; clock = λ v a d e. (word_turned a v d e).1 }

@@ -1,9 +1,0 @@
-pub mod Machine
-pub mod Own
-pub mod Clock
-pub mod Steps
-pub mod Spots
-pub mod Gates
-pub mod Tells
-pub mod Bases
-pub mod StepVectors

@@ -1,8 +1,0 @@
-use Rattle.refused_calls.proofs.RefusedLemmas.{if_finished}
-use Rattle.refused_calls.proofs.commit.Goals as goal
-
-pub returns-clause-refused : goal.returns-clause-refused
-returns-clause-refused g c =
-    if_finished c.args.table.now c.args.seat.now c.commit.new.self _
-    (λ cause h calls on. c.aborted_transactions_saw_one_state.ensures.commit c.args.table.now c.args.seat.now c.commit.new.self
-    calls cause h on) c.commit.result c.commit.ensures.finished

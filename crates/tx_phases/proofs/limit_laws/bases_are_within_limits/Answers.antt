@@ -1,5 +1,0 @@
-use Rattle.tx_phases.proofs.LimitLemmas.{within_limits}
-use Rattle.tx_phases.proofs.limit_laws.bases_are_within_limits.Goals as goal
-
-pub returns : goal.returns
-returns g c blocks clock values held events stripes suit = within_limits blocks stripes clock values held suit events

@@ -1,5 +1,0 @@
-pub mod Phases
-pub mod Courses
-pub mod Alone
-pub mod Beside
-pub mod Limits

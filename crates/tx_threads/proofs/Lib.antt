@@ -1,2 +1,0 @@
-pub mod DueLemmas
-pub mod OwnLemmas

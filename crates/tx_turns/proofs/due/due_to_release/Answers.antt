@@ -1,0 +1,13 @@
+use Rattle.std.proofs.Common.{◌∙◌, refl, ◌<◌, length, arith}
+use Rattle.tx_turns.proofs.DueLemmas.{at_place, release_is}
+use Rattle.tx_turns.proofs.due.due_to_release.Goals as goal
+
+pub returns-clause-deed : goal.returns-clause-deed
+returns-clause-deed c =
+    let some : 0 < length c.args.actor.now.held.items = omega (arith, c.if-len-eq0.false, c.len.ensures, c.args.actor.now.held.ok.0) in (
+      c.args.actor.now.wv,
+      _,
+      at_place c.args.actor.now _ c.requires.place
+          ∙ release_is c.args.actor.now c.index.result.now some c.index.ensures,
+      refl,
+    )

@@ -1,6 +1,0 @@
-use Rattle.std.proofs.Common.{◌≡◌, drop, fold}
-use Rattle.vac_balance.specs.Tallies.{with_ticket}
-use Rattle.vac_balance.proofs.tally.add_tickets.Given as goal
-
-abbrev pub invariant-loop-ticket : goal.invariant-loop-ticket
-invariant-loop-ticket l = fold with_ticket l.tally (drop l.ticket-index l.tickets) ≡ fold with_ticket l.fn.tally l.tickets
