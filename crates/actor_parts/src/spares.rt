@@ -18,6 +18,7 @@ use std::marker::Model;
 use std::mem;
 
 /// A memo, with the table of editions beside it, in the boxes in which both serve again.
+#[derive(Drop)]
 pub(crate) struct Spare<V> {
     pub memo: Boxed<Memo<V>>,
     pub editions: Boxed<FewKeys<u64>>,
@@ -25,7 +26,6 @@ pub(crate) struct Spare<V> {
 
 /// What the transactions of a seat took of memory for what they had of collections, and need no more: the next one takes it from here.
 /// Contracts see nothing of it.
-#[derive(Drop)]
 pub struct Spares<V> {
     kept: Vec<Spare<V>>,
     wholes: Vec<Boxed<Shadow<V>>>,

@@ -140,7 +140,8 @@ impl<V: Value> World<V> {
         if self.failed {
             return Err(Memory);
         }
-        self.parts.into_trace()
+        let World { parts, failed: _ } = self;
+        parts.into_trace()
     }
 }
 

@@ -7,6 +7,7 @@ use std::collections::VecDeque;
 use step_core::Actor;
 
 /// A call on a collection.
+#[derive(Drop)]
 pub struct Asked<V> {
     pub collection: u32,
     pub op: Op<V>,
@@ -66,7 +67,6 @@ pub enum Told<V> {
 }
 
 /// An actor with its transaction.
-#[derive(Drop)]
 pub struct TxActor<V> {
     pub words: Actor,
     pub stage: Stage<V>,

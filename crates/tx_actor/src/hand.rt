@@ -15,6 +15,7 @@ use std::marker::Model;
 use std::mem;
 
 /// A call on a collection, in the box that will hold its outcome. Contracts see the call alone.
+#[derive(Drop)]
 pub struct Asking<V> {
     call: Boxed<Answered<V>>,
 }
@@ -46,7 +47,6 @@ impl<V> Asking<V> {
 
 /// Memory that served an actor, to serve it again: that of its earlier transactions, and the box of its last call. Contracts see nothing
 /// of it.
-#[derive(Drop)]
 pub struct Kept<V> {
     copies: Spares<V>,
     call: Option<Boxed<Answered<V>>>,

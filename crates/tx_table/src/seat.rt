@@ -6,13 +6,13 @@ use seq_model::Event;
 use std::snapshot::Snapshot;
 
 /// What an actor has asked since its last step. A snapshot has nothing in it as the program runs: only clauses read it.
+#[derive(Drop)]
 pub enum Asked<V> {
     Nothing,
     More(Snapshot<Asked<V>>, Snapshot<Event<V>>),
 }
 
 /// What one thread steps with at a table: an actor of its own, and shares of the table.
-#[derive(Drop)]
 pub struct Seat<V> {
     pub(crate) place: Place<V>,
     pub(crate) asked: Asked<V>,
@@ -25,5 +25,15 @@ pub struct Seat<V> {
 impl<V: Drop> Drop for Seat<V> {
     fn drop(self) {
         let Seat { place: _, asked: _, shares: _, last: _ } = self;
+    }
+}
+
+impl<V> Seat<V> {
+    /// Its place, its shares and its last number.
+    pub(crate) fn into_parts(self) -> (Place<V>, u64, u64)
+        ensures { result ≡ (self.place, (self.shares, self.last)) }
+    {
+        let Seat { place, asked: _, shares, last } = self;
+        (place, shares, last)
     }
 }

@@ -25,6 +25,16 @@ pub struct TxTable<V> {
 
 impl<V: Drop> Drop for TxTable<V> {
     fn drop(self) {
-        let TxTable { whole: _, blocks: _, alloc: _ } = self;
+        let TxTable { whole: _, words: _, locations: _, blocks: _, alloc: _ } = self;
+    }
+}
+
+impl<V> TxTable<V> {
+    /// The words and slots that threads share, how many words and locations there are, and the allocator.
+    pub(crate) fn into_parts(self) -> (Whole<V>, u32, usize, Global)
+        ensures { result ≡ (self.whole, (self.words, (self.locations, self.alloc))) }
+    {
+        let TxTable { whole, words, locations, blocks: _, alloc } = self;
+        (whole, words, locations, alloc)
     }
 }
