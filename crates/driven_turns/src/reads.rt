@@ -11,7 +11,9 @@ ghost use Rattle.driven_turns.specs.Driven.{LeadsOn, told_in};
 ghost use Rattle.driven_turns.specs.Straight.{HasLed, LeadsAll, at_place};
 
 use crate::loads::{load_on, location_to_load};
+use crate::releases::{has_locks, releases_on};
 use crate::steps;
+use crate::stores::{stores_on, value_to_store};
 use crate::turns::says;
 use actor_parts::word_laws::steps_as_worlds;
 use actor_parts::{Boxed, Next};
@@ -186,7 +188,8 @@ pub(crate) fn word_read_on<V: Value>(
     }
 }
 
-/// Like [`steps::steps_on`], but the loads of a word that is read, and of a location that a call reads, are straight code.
+/// Like [`steps::steps_on`], but the loads of a word that is read and of a location that a call reads, the value stores of a commit after
+/// its first, and the stores that give its locks back are straight code.
 #[inline(always)]
 pub(crate) fn steps_on<V: Value>(
     table: &TxTable<V>,
@@ -210,6 +213,12 @@ pub(crate) fn steps_on<V: Value>(
     }
     if let Some(location) = location_to_load(actor) {
         return load_on(table, seat, actor, bases, location, said);
+    }
+    if let Some(i) = value_to_store(actor) {
+        return stores_on(table, seat, actor, bases, i, said);
+    }
+    if has_locks(actor) {
+        return releases_on(table, seat, actor, bases, said);
     }
     steps::steps_on(table, seat, actor, bases, said)
 }

@@ -24,7 +24,7 @@ use tx_table::{Seat, TxTable};
 
 /// Whether locks are to be given back by a commit.
 #[inline(always)]
-fn has_locks<V>(actor: &TxActor<V>) -> bool
+pub(crate) fn has_locks<V>(actor: &TxActor<V>) -> bool
     ensures stage { result ≡ true → actor.now.stage ≡ Stage.Releasing }
     ensures place { result ≡ true → actor.now.words.place ≡ Release }
     ensures some { result ≡ true → 0 < deque_len actor.now.words.held }
@@ -110,7 +110,7 @@ fn release_last<V: Value>(
 /// The locks that are held are given back, one atomic step each. The last one answers that the transaction has committed, so the result is
 /// false.
 #[inline(always)]
-fn releases_on<V: Value>(
+pub(crate) fn releases_on<V: Value>(
     table: &TxTable<V>,
     seat: &mut Seat<V>,
     actor: &mut TxActor<V>,

@@ -20,7 +20,7 @@ use tx_table::{Seat, TxTable};
 
 /// Which value is stored next, where it is not the first.
 #[inline(always)]
-fn value_to_store<V>(actor: &TxActor<V>) -> Option<usize>
+pub(crate) fn value_to_store<V>(actor: &TxActor<V>) -> Option<usize>
     ensures stage { IfSome result (λ i. is_storing actor.now.stage ≡ true) }
     ensures place { IfSome result (λ i. actor.now.words.place ≡ Store i) }
     ensures inside { IfSome result (λ i. i < length actor.now.words.writes.entries) }
@@ -90,7 +90,7 @@ fn store_last<V: Value>(
 
 /// The stores that are left, from the one at `first` on, one atomic step each. Between them the actor is unchanged.
 #[inline(always)]
-fn stores_on<V: Value>(
+pub(crate) fn stores_on<V: Value>(
     table: &TxTable<V>,
     seat: &mut Seat<V>,
     actor: &mut TxActor<V>,
