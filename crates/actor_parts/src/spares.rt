@@ -37,7 +37,14 @@ pub struct Spares<V> {
 
 impl<V: Drop> Drop for Spares<V> {
     fn drop(self) {
-        let Spares { kept: _, wholes: _, logs: _, left: _, homes: _, editions: _ } = self;
+        let Spares {
+            kept: _,
+            wholes: _,
+            logs: _,
+            left: _,
+            homes: _,
+            editions: _,
+        } = self;
     }
 }
 

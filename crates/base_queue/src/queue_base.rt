@@ -24,7 +24,11 @@ pub struct QueueBase {
 
 impl Drop for QueueBase {
     fn drop(self) {
-        let QueueBase { cells: _, stripes: _, editions: _ } = self;
+        let QueueBase {
+            cells: _,
+            stripes: _,
+            editions: _,
+        } = self;
     }
 }
 

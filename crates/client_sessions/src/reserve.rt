@@ -24,7 +24,9 @@ use crate::split::SplitCustomer;
 use crate::walk::{Stop, Walk, asks_get, asks_put, map_of, put_customer, tell_items};
 use seq_model::{Memory, Reply};
 use std::alloc::Global;
-use vac_model::{ActionReply, Ask, Booking, Each, Item, Kind, Part, TICKET_LIMIT, Ticket, Wait, is_item_sound};
+use vac_model::{
+    ActionReply, Ask, Booking, Each, Item, Kind, Part, TICKET_LIMIT, Ticket, Wait, is_item_sound,
+};
 
 /// A customer with what was decided so far, which is not put yet.
 #[derive(Clone, Copy)]

@@ -12,17 +12,17 @@ use wolimevar::{
 /// One more than the clients that may be lent at once.
 const ONE_TOO_MANY: u64 = 64;
 
-/// What transactions that count a word came to: how many read the number before their own, and the sum of their numbers.
+/// What transactions that count a word have read: how many committed, and the sum of what the word held before each.
 #[derive(Clone, Copy)]
 struct Made {
-    in_order: u64,
+    commits: u64,
     sum: u64,
 }
 
 impl Made {
     fn and(self, other: Made) -> Made {
         Made {
-            in_order: self.in_order.saturating_add(other.in_order),
+            commits: self.commits.saturating_add(other.commits),
             sum: self.sum.saturating_add(other.sum),
         }
     }
@@ -73,16 +73,12 @@ impl Body<u64> for Undo {
 }
 
 fn work(client: &mut LentClient<u64>, word: Word) -> Made {
-    let mut made = Made {
-        in_order: 0,
-        sum: 0,
-    };
+    let mut made = Made { commits: 0, sum: 0 };
     for _ in 0..10u64 {
-        if let Ok((read, receipt)) = client.atomically(TRIES, &Count(word)) {
-            let number = receipt.number;
+        if let Ok((read, _)) = client.atomically(TRIES, &Count(word)) {
             made = made.and(Made {
-                in_order: u64::from(number == read.saturating_add(1)),
-                sum: number,
+                commits: 1,
+                sum: read,
             });
         }
     }
@@ -186,15 +182,15 @@ pub fn test<R: Threads>(rt: &R, alloc: Global, text: &mut String) -> Result<(), 
     let Ok(mut store) = lender.end() else {
         return Err(Refusal::NotIdle);
     };
-    let (number, _) = store.atomically(TRIES, &Count(word))?;
-    let last = store.last_number();
+    let (number, receipt) = store.atomically(TRIES, &Count(word))?;
+    let is_last = store.last_number() == receipt.number;
     let contents = store.close()?;
     let left = contents.word(word);
     drop(contents);
-    let Made { in_order, sum } = made;
+    let Made { commits, sum } = made;
     writeln!(
         text,
-        "all lent clients = {in_order} in order, sum {sum}, word {number}, last number {last}, left {left:?}"
+        "all lent clients = {commits} commits, sum {sum}, word {number}, its number the last {is_last}, left {left:?}"
     )?;
     Ok(())
 }

@@ -13,8 +13,8 @@ mod tasks;
 mod tree;
 mod tries;
 
-pub use seq_model::LastAbort;
 pub use report::Report;
 pub use run::{run_workers, run_workers_owned};
+pub use seq_model::LastAbort;
 pub use tries::retry;
 pub use tx_engine::{NoPause, Pause};

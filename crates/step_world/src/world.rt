@@ -31,7 +31,10 @@ pub struct World<V> {
 
 impl<V: Drop> Drop for World<V> {
     fn drop(self) {
-        let World { parts: _, failed: _ } = self;
+        let World {
+            parts: _,
+            failed: _,
+        } = self;
     }
 }
 

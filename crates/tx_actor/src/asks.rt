@@ -14,7 +14,10 @@ ghost use Rattle.tx_actor.specs.Running.{Does, seat_of, stage_of};
 
 use crate::actor::{Stage, Told, TxActor};
 use crate::room::{move_calls, reserve_call, reserve_made};
-use actor_parts::{Blocks, close_words, fits_one, lock_words, read_word, seek_word, store_words, write_word, written_homes};
+use actor_parts::{
+    Blocks, close_words, fits_one, lock_words, read_word, seek_word, store_words, write_word,
+    written_homes,
+};
 use seq_model::{Answer, CALL_LIMIT, Call, Memory, Op, Refusal, Reply};
 use std::alloc::Global;
 

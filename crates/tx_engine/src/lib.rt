@@ -26,8 +26,8 @@ mod tx;
 mod unheld;
 
 pub use attempts::{Attempt, attempt_with};
-pub use seq_model::{Ask, Job};
 pub use pause::{NoPause, Pause};
 pub use seats::TxSeat;
+pub use seq_model::{Ask, Job};
 pub use tx::{Receipt, Tx, begin, begin_read, learn};
 pub use unheld::attempt;

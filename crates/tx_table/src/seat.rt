@@ -24,7 +24,12 @@ pub struct Seat<V> {
 
 impl<V: Drop> Drop for Seat<V> {
     fn drop(self) {
-        let Seat { place: _, asked: _, shares: _, last: _ } = self;
+        let Seat {
+            place: _,
+            asked: _,
+            shares: _,
+            last: _,
+        } = self;
     }
 }
 
@@ -33,7 +38,12 @@ impl<V> Seat<V> {
     pub(crate) fn into_parts(self) -> (Place<V>, u64, u64)
         ensures { result ≡ (self.place, (self.shares, self.last)) }
     {
-        let Seat { place, asked: _, shares, last } = self;
+        let Seat {
+            place,
+            asked: _,
+            shares,
+            last,
+        } = self;
         (place, shares, last)
     }
 }

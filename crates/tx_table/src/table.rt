@@ -25,7 +25,13 @@ pub struct TxTable<V> {
 
 impl<V: Drop> Drop for TxTable<V> {
     fn drop(self) {
-        let TxTable { whole: _, words: _, locations: _, blocks: _, alloc: _ } = self;
+        let TxTable {
+            whole: _,
+            words: _,
+            locations: _,
+            blocks: _,
+            alloc: _,
+        } = self;
     }
 }
 
@@ -34,7 +40,13 @@ impl<V> TxTable<V> {
     pub(crate) fn into_parts(self) -> (Whole<V>, u32, usize, Global)
         ensures { result ≡ (self.whole, (self.words, (self.locations, self.alloc))) }
     {
-        let TxTable { whole, words, locations, blocks: _, alloc } = self;
+        let TxTable {
+            whole,
+            words,
+            locations,
+            blocks: _,
+            alloc,
+        } = self;
         (whole, words, locations, alloc)
     }
 }

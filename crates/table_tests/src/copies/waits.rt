@@ -4,15 +4,15 @@ ghost use Rattle.std.specs.Prelude.{◌≡◌, IfOk, length};
 ghost use Rattle.tx_table.specs.Seated.{view};
 ghost use Rattle.tx_engine.specs.Ready.{IsReady};
 
+use super::rations::{Ration, Rationed, get};
+use super::seats::commit_puts;
+use super::tables::Made;
 use crate::shared::print_receipt;
 use crate::worker::reports::{memory_missed, print_all_missed};
 use seq_model::{Ask, Call, Items, Job, Memory, Op, Record, Refusal, Reply};
 use std::alloc::Global;
 use std::sync::Wait;
 use std::thread::Threads;
-use super::rations::{Ration, Rationed, get};
-use super::seats::commit_puts;
-use super::tables::Made;
 use tx_engine::{Pause, TxSeat};
 use tx_table::TxTable;
 use workers::{Report, run_workers_owned};

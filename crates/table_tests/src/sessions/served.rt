@@ -5,7 +5,7 @@ ghost use Rattle.vac_model.specs.Balanced.{IsBalanced};
 use super::printed::{is_refused, print_served};
 use crate::shared::{Meeting, Order, audit_receipts};
 use client_sessions::{Entry, state_of};
-use seq_model::{Record, Refusal, State};
+use seq_model::{Items, Record, Refusal, State};
 use std::alloc::Global;
 use std::sync::Wait;
 use std::thread::Threads;

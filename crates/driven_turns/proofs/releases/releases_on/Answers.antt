@@ -7,9 +7,14 @@ use Rattle.driven_turns.proofs.StraightLemmas.{come_then, leads_from}
 use Rattle.driven_turns.proofs.releases.releases_on.Goals as goal
 
 pub loop-seat-init : goal.loop-seat-init
-loop-seat-init g c =
-    (c.requires.ties, c.requires.own, c.requires.stage, c.requires.place, c.requires.some,
-    starts (opening_of c.args.table.now) c.args.seat.now)
+loop-seat-init g c = (
+  c.requires.ties,
+  c.requires.own,
+  c.requires.stage,
+  c.requires.place,
+  c.requires.some,
+  starts (opening_of c.args.table.now) c.args.seat.now,
+)
 
 pub loop-seat-preserved : goal.loop-seat-preserved
 loop-seat-preserved g c =

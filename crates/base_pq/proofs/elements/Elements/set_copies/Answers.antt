@@ -24,7 +24,7 @@ invariant_of-self c =
       c.self.invariant.0,
       c.self.invariant.1,
       subst HasNoZero (sym is)
-      (no_zero_with (laid m (map.entries c.self.inside.own.elements)) c.args.element c.args.count c.self.invariant.2),
+          (no_zero_with (laid m (map.entries c.self.inside.own.elements)) c.args.element c.args.count c.self.invariant.2),
     )
 
 pub place_of-requires : goal.place_of-requires
