@@ -23,11 +23,16 @@ use tx_table::TxTable;
 ///
 /// Contracts see the number of its actor (each client has its own), the last number that it committed or learnt, its receipts (the first
 /// one first), the requests of its actor, and the counts of its attempts.
-#[derive(Drop)]
 pub struct Client<'t, V, S: Scope<V>> {
     pub(crate) table: &'t TxTable<V>,
     pub(crate) runner: Runner<V>,
     pub(crate) scope: PhantomData<S>,
+}
+
+impl<'t, V: Drop, S: Scope<V> + Drop> Drop for Client<'t, V, S> {
+    fn drop(self) {
+        let Client { table: _, runner: _, scope: _ } = self;
+    }
 }
 
 impl<'t, V, S: Scope<V>> Model for Client<'t, V, S> {

@@ -12,10 +12,15 @@ use seq_model::{Counts, Entries, Held, QueueItems, State, Value};
 
 /// What the words and the collections of a store hold once it is closed, read by their handles. A handle of a store with another number, of
 /// another kind, or beyond the layout finds `None`.
-#[derive(Drop)]
 pub struct Contents<V> {
     pub(crate) store: u32,
     pub(crate) state: State<V>,
+}
+
+impl<V: Drop> Drop for Contents<V> {
+    fn drop(self) {
+        let Contents { store: _, state: _ } = self;
+    }
 }
 
 impl<V: Value> Contents<V> {

@@ -24,12 +24,17 @@ pub(crate) struct Collection<V> {
 ///
 /// A collection is in 1 to 4,096 stripes, a priority queue in at most 4,095. Calls on different stripes of it don't conflict, so more
 /// stripes let more transactions commit beside each other; each stripe is one location more to read where a call needs them all.
-#[derive(Drop)]
 pub struct Layout<V> {
     pub(crate) alloc: Global,
     pub(crate) store: u32,
     pub(crate) words: Vec<u64>,
     pub(crate) collections: Vec<Collection<V>>,
+}
+
+impl<V: Drop> Drop for Layout<V> {
+    fn drop(self) {
+        let Layout { alloc: _, store: _, words: _, collections: _ } = self;
+    }
 }
 
 impl<V: Value> Layout<V> {

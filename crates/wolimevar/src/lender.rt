@@ -29,7 +29,6 @@ use tx_table::{SHARES, TxTable};
 ///
 /// Contracts see it as the store, whose receipts are those that it had and those of the clients that were taken back, and see how many of
 /// the 64 shares it has. A client that is out has one.
-#[derive(Drop)]
 pub struct Lender<V> {
     pub(crate) alloc: Global,
     pub(crate) number: u32,
@@ -37,6 +36,12 @@ pub struct Lender<V> {
     pub(crate) seat: TxSeat<V>,
     pub(crate) tally: Tally,
     pub(crate) homes: Vec<Home<V>>,
+}
+
+impl<V: Drop> Drop for Lender<V> {
+    fn drop(self) {
+        let Lender { alloc: _, number: _, table: _, seat: _, tally: _, homes: _ } = self;
+    }
 }
 
 impl<V> Model for Lender<V> {

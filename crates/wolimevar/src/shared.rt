@@ -8,9 +8,15 @@ use std::sync::Arc;
 
 /// A value that is never changed. A copy is one more owner of it, and allocates nothing; so it is cheap to put a large value into a map,
 /// and to get it. Contracts see the value.
-#[derive(Debug, Drop)]
+#[derive(Debug)]
 pub struct Shared<T> {
     value: Arc<T>,
+}
+
+impl<T: Drop> Drop for Shared<T> {
+    fn drop(self) {
+        let Shared { value: _ } = self;
+    }
 }
 
 impl<T> Model for Shared<T> {

@@ -28,7 +28,6 @@ use tx_table::TxTable;
 /// Contracts see its number, what it opened with, the receipts of all its transactions, and of those that it runs itself the last number
 /// that it committed or learnt, the requests, and the counts of attempts. Between two calls it has all its shares, so it can always be
 /// closed.
-#[derive(Drop)]
 pub struct Store<V> {
     pub(crate) alloc: Global,
     pub(crate) number: u32,
@@ -36,6 +35,12 @@ pub struct Store<V> {
     /// It is `None` only while a transaction or sessions run.
     pub(crate) seat: Option<TxSeat<V>>,
     pub(crate) tally: Tally,
+}
+
+impl<V: Drop> Drop for Store<V> {
+    fn drop(self) {
+        let Store { alloc: _, number: _, table: _, seat: _, tally: _ } = self;
+    }
 }
 
 impl<V> Model for Store<V> {
