@@ -36,7 +36,7 @@ impl<V: Drop> Drop for Seat<V> {
 impl<V> Seat<V> {
     /// Its place, its shares and its last number.
     pub(crate) fn into_parts(self) -> (Place<V>, u64, u64)
-        ensures { result ≡ (self.place, (self.shares, self.last)) }
+        ensures { result ≡ (self.place, self.shares, self.last) }
     {
         let Seat {
             place,

@@ -38,7 +38,7 @@ impl<V: Drop> Drop for TxTable<V> {
 impl<V> TxTable<V> {
     /// The words and slots that threads share, how many words and locations there are, and the allocator.
     pub(crate) fn into_parts(self) -> (Whole<V>, u32, usize, Global)
-        ensures { result ≡ (self.whole, (self.words, (self.locations, self.alloc))) }
+        ensures { result ≡ (self.whole, self.words, self.locations, self.alloc) }
     {
         let TxTable {
             whole,
