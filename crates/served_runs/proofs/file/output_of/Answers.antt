@@ -1,6 +1,4 @@
-use Rattle.std.proofs.Common.{rules, subst, List}
-use Rattle.vac_model.specs.declared.action.Action.{Action}
-use Rattle.served_runs.specs.Runs.{IsServedRun}
+use Rattle.std.proofs.Common.{rules}
 use Rattle.served_runs.proofs.RunLemmas.{file_fault}
 use Rattle.served_runs.proofs.file.output_of.Goals as goal
 
@@ -11,10 +9,9 @@ returns-in_err-run-clause-refused g c =
 pub returns-clause-output : goal.returns-clause-output
 returns-clause-output g c = record {
   tables = c.in_ok-tables.tables;
-  actions = c.in_ok-tables.actions;
+  actions = c.in_ok-tables.actions.items;
   run = c.in_ok-run.run';
   spelled = c.in_ok-tables.ensures.sessions;
-  made = subst (λ (actions : List Action). IsServedRun c.args.workers c.in_ok-tables.tables actions c.in_ok-run.run') c.into_vec.ensures
-      c.in_ok-run.ensures.run;
+  made = c.in_ok-run.ensures.run;
   written = c.in_ok-output.ensures;
 }
