@@ -24,14 +24,14 @@ into_inner_spec 𝓤 𝓛 𝓜 𝓡 wired T L =
     let Run : List Val → SProp 𝓤 = λ ws. WpFn 𝓤 H 𝓣.C 𝓣.Λ fn ws Post in
     let x : R.Denot = z.0.3.0.value in let Told : Type 0 = x ≡ x in
     qed 𝓛 ((raw (alive 𝓛 En.signature z.0.0 z.0.1) ⊛ ‵ (owns (types_at En.signature.params z.0.0) z.0.3 z.0.4))
-        ∷ raw ((c z.0.0 z.0.3).requires z.1) ∷ []) ∵
+    ∷ raw ((c z.0.0 z.0.3).requires z.1) ∷ []) ∵
     split ! $ keep ! (1 ∷ 0 ∷ []) $ fsplit ! $ fsplit ! $
     fpick ! (λ vss. fsplit ! $ feq_l ! (λ e. fsplit ! $ peeks ! R (Is R) (shows 𝓛 R) x vss.0 (λ is.
     let got = one (layout T) vss.0 (((param_laws 0 T L).lawful 𝓛).typed x vss.0 is) in let v : Val = got.0 in
     let at : z.0.4.0 ≡ round v ∷ [] = e ∙ ap (λ (ws : List Val). vstruct (of_list (ws ++ [])) ∷ []) got.1 in
     rewrite ! 0 (λ (ws : List Val). ‵ (R.own_val x ws)) got.1 refl $ keep ! (0 ∷ 4 ∷ []) $
     suffices ! (Run (round v ∷ []))
-        (subst (λ (ws : List Val). ent 𝓤 (Run (round v ∷ [])) (Run ws)) (sym (λ i. at i ++ [])) (id⊢ 𝓤 (Run (round v ∷ [])))) $
+    (subst (λ (ws : List Val). ent 𝓤 (Run (round v ∷ [])) (Run ws)) (sym (λ i. at i ++ [])) (id⊢ 𝓤 (Run (round v ∷ [])))) $
     enter ! 𝓣.C 𝓣.Λ fn (round v ∷ []) Post $ alloc_all ! (λ l. pass_all ! refl (Good-round [] (layout T) v got.2, tt) $
     sets ! (of_opd ! (get_in ! (fld ! refl (stop !)) (sub ! 0 refl (whole !)))) refl got.2 $ sets ! (of_opd ! (get ! refl)) refl got.2 $
     use0 𝓛 (raw (fact 𝓤 Told)) (fact_i 𝓤 Told (emp 𝓤) refl) $ nothing ! $ nothing ! $ fjoin ! $

@@ -26,14 +26,14 @@ new_spec 𝓤 𝓛 𝓜 𝓡 wired T L =
     let got = one (layout T) z.0.4.0 (((param_laws 0 T L).lawful 𝓛).typed x z.0.4.0 are.0) in
     let v : Val = got.0 in let r : A.Denot = record { value = x } in let Told : Type 0 = x ≡ x in
     qed 𝓛 ((raw (alive 𝓛 En.signature z.0.0 z.0.1) ⊛ ‵ (owns (types_at En.signature.params z.0.0) z.0.3 z.0.4))
-        ∷ raw ((c z.0.0 z.0.3).requires z.1) ∷ []) ∵
+    ∷ raw ((c z.0.0 z.0.3).requires z.1) ∷ []) ∵
     split ! $ keep ! (1 ∷ 0 ∷ []) $ rewrite ! 0 (λ (us : List Val). ‵ (owns (R ∷ []) (x, tt) (us, tt))) got.1 refl $
     suffices ! (Run (v ∷ []))
-        (subst (λ (us : List Val). ent 𝓤 (Run (v ∷ [])) (Run us)) (sym (λ i. got.1 i ++ [])) (id⊢ 𝓤 (Run (v ∷ [])))) $
+    (subst (λ (us : List Val). ent 𝓤 (Run (v ∷ [])) (Run us)) (sym (λ i. got.1 i ++ [])) (id⊢ 𝓤 (Run (v ∷ [])))) $
     feq_i ! (List Val) (round v ∷ []) (round v ∷ []) refl $ fjoin ! $
     fpack ! (Valss (R ∷ []))
-        (λ vss. fsep (feq (List Val) (round v ∷ []) (vstruct (of_list (vss.0 ++ [])) ∷ [])) (owns (R ∷ []) (x, tt) vss))
-        (v ∷ [], tt) $
+    (λ vss. fsep (feq (List Val) (round v ∷ []) (vstruct (of_list (vss.0 ++ [])) ∷ [])) (owns (R ∷ []) (x, tt) vss))
+    (v ∷ [], tt) $
     nothing ! $ move ! (1 ∷ 0 ∷ []) $ fjoin ! $
     enter ! 𝓣.C 𝓣.Λ fn (v ∷ []) Post $ alloc_all ! (λ l. pass_all ! refl (got.2, tt) $
     sets ! (of_opd ! (get ! refl)) refl got.2 $
