@@ -1,3 +1,4 @@
+pub mod Walks
 pub mod AskedLemmas
 pub mod FrameLemmas
 pub mod EndLemmas
@@ -7,4 +8,3 @@ pub mod ClientLemmas
 pub mod StoreLemmas
 pub mod SessionLemmas
 pub mod LenderLemmas
-pub mod SentLemmas

@@ -28,6 +28,7 @@
 //! that wants to prove something of its own defines `makes` of a body, and `serves` of a session.
 #![tactic(auto)]
 
+mod alone;
 mod attempts;
 mod bags;
 mod body;
