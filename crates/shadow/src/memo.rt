@@ -480,21 +480,8 @@ impl<V: Value> Memo<V> {
         ensures changes { result.changes ≡ self.changes }
         ensures locations { result.locations ≡ self.locations }
     {
-        let Memo {
-            kind: _,
-            stripes: _,
-            alloc: _,
-            entries: _,
-            copies: _,
-            total: _,
-            grown: _,
-            shrunk: _,
-            log,
-            is_ready: _,
-            change: _,
-            written: _,
-        } = self;
-        log
+        let mut memo = self;
+        memo.take_log()
     }
 }
 
