@@ -1,4 +1,3 @@
-pub mod Walks
 pub mod AskedLemmas
 pub mod FrameLemmas
 pub mod EndLemmas
@@ -8,3 +7,4 @@ pub mod ClientLemmas
 pub mod StoreLemmas
 pub mod SessionLemmas
 pub mod LenderLemmas
+pub mod SentLemmas

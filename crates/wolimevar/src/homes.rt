@@ -9,7 +9,6 @@ ghost use Rattle.std.specs.Arc.{arc_value};
 ghost use Rattle.wolimevar.specs.Backs.{IsBack};
 ghost use Rattle.wolimevar.specs.Homes.{IsHomeOf};
 
-use crate::alone::Alone;
 use counted_slot::{Counted, FREE, Fits, MARKED, PRESENT, TAKEN};
 use seq_model::{Memory, Value};
 use std::alloc::Global;
@@ -21,13 +20,13 @@ use tx_table::TxTable;
 /// A seat that has come back.
 #[derive(Drop)]
 pub(crate) struct Back<V> {
-    pub(crate) seat: Alone<TxSeat<V>>,
+    pub(crate) seat: TxSeat<V>,
 }
 
 impl<V> Fits for Back<V> {
     type Tag = Snapshot<TxTable<V>>;
 
-    ghost fits = { λ t x. IsBack t.value x.seat.value };
+    ghost fits = { λ t x. IsBack t.value x.seat };
 }
 
 /// Where the seat of a client comes back.
@@ -73,7 +72,6 @@ impl<V: Drop> Home<V> {
     {
         let (found, claim) = self.slot.turn(FREE, TAKEN);
         if found == FREE {
-            let seat = Alone::new(seat);
             claim.put(Some(Back { seat }), PRESENT);
         } else {
             claim.done();
@@ -90,7 +88,7 @@ impl<V: Drop> Home<V> {
             return None;
         }
         let back = claim.put(None, MARKED)?;
-        Some(back.seat.into_inner())
+        Some(back.seat)
     }
 
     /// Whether it was idle. Then it waits for a seat again.

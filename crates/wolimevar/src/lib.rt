@@ -28,7 +28,6 @@
 //! that wants to prove something of its own defines `makes` of a body, and `serves` of a session.
 #![tactic(auto)]
 
-mod alone;
 mod attempts;
 mod bags;
 mod body;
