@@ -1,10 +1,8 @@
-//! Clients that are lent to two threads of one's own: one is dropped in its thread, the other one comes back. Then one is dropped after a
-//! body that has aborted, and as many are lent as there can be.
+//! Two clients that are lent: one is dropped once its lender was asked to end, the other one later. Then one is dropped after a body that
+//! has aborted, and as many are lent as there can be.
 use crate::scripts::TRIES;
 use std::alloc::Global;
 use std::fmt::Write;
-use std::thread;
-use std::thread::Threads;
 use wolimevar::{
     Body, Failure, Layout, Lender, LentClient, Refusal, Scope, StillLent, Store, Transaction, Word,
 };
@@ -85,28 +83,18 @@ fn work(client: &mut LentClient<u64>, word: Word) -> Made {
     made
 }
 
-/// What two threads made, and the lender, which was asked to end meanwhile.
-fn run_both<R: Threads>(
-    rt: &R,
+/// What two clients made, and the lender, which was asked to end meanwhile.
+fn run_both(
     text: &mut String,
     mut lender: Lender<u64>,
     word: Word,
 ) -> Result<(Made, Lender<u64>), Refusal> {
     let mut first = lender.client()?;
     let mut second = lender.client()?;
-    let Ok(one) = thread::spawn(rt, move || work(&mut first, word)) else {
-        return Err(Refusal::Memory);
-    };
-    let other = thread::spawn(rt, move || {
-        let made = work(&mut second, word);
-        (made, second)
-    });
+    let made = work(&mut first, word);
     let asked = lender.end();
-    let made = one.join(rt);
-    let Ok(other) = other else {
-        return Err(Refusal::Memory);
-    };
-    let (others, second) = other.join(rt);
+    drop(first);
+    let others = work(&mut second, word);
     let Err(StillLent { mut lender, .. }) = asked else {
         return Err(Refusal::NotIdle);
     };
@@ -171,12 +159,12 @@ fn open(alloc: Global) -> Result<(Store<u64>, Word), Refusal> {
     Ok((store, word))
 }
 
-pub fn test<R: Threads>(rt: &R, alloc: Global, text: &mut String) -> Result<(), Refusal> {
+pub fn test(alloc: Global, text: &mut String) -> Result<(), Refusal> {
     let (store, word) = open(alloc)?;
     let Ok(lender) = store.lend() else {
         return Err(Refusal::Memory);
     };
-    let (made, mut lender) = run_both(rt, text, lender, word)?;
+    let (made, mut lender) = run_both(text, lender, word)?;
     drop_after_abort(text, &mut lender, word)?;
     lend_too_many(alloc, text, &mut lender)?;
     let Ok(mut store) = lender.end() else {
