@@ -284,7 +284,7 @@ draw_peers() {
     while read -r name; do
         plot="$plot${plot:+, }$(rows peers.csv "$contention,$name") using 3:4:5:6 with yerrorlines title '$name' noenhanced"
     done < <(awk -F, -v contention="$contention" '$1 == contention && !seen[$2]++ { print $2 }' "$figures/peers.csv")
-    draw "peers_$contention" peers.csv "Four clients: proved transactions serve $(ratio "$ours" "$lock") times what one lock serves" <<END
+    draw "peers_$contention" peers.csv "Four clients: Wolimevar serves $(ratio "$ours" "$lock") times what one lock serves" <<END
 set xlabel "clients (${contention} contention)"
 set ylabel "thousand sessions a second"
 set xtics (1, 2, 4)
