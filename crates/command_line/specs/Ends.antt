@@ -29,7 +29,7 @@ use Rattle.command_line.specs.declared.work.Task.TheVariants.{OnDrawn, OnFile}
 use Rattle.command_line.specs.declared.work.TimesForm.{TimesForm}
 use Rattle.command_line.specs.declared.work.TimesForm.TheVariants.{Unasked}
 use Rattle.command_line.specs.declared.work.Work.{Work}
-use Rattle.command_line.specs.declared.work.Work.TheVariants.{Served, Step, Vacation}
+use Rattle.command_line.specs.declared.work.Work.TheVariants.{Explore, Served, Step, Vacation}
 use Rattle.command_line.specs.Words.{AreTaken, AskForInformation, task_named}
 
 -- ---- what is printed of a text
@@ -77,6 +77,7 @@ IsFaultOf (Served workers) text fault = faults.IsFault text fault
 -- its workers are as many as there may be, and what is drawn is within its limits
 abbrev pub IsDoable : Task → Type 0
 IsDoable (OnFile Step) = ⊤
+IsDoable (OnFile (Explore most)) = ⊤
 IsDoable (OnFile Vacation) = ⊤
 IsDoable (OnFile (Served workers)) = (1 ≤ workers) × (workers ≤ ACTOR_LIMIT)
 IsDoable (OnDrawn drawn times) = IsDrawable drawn

@@ -14,6 +14,7 @@ use crate::work::{Cause, Output, output_of};
 use clap::Error;
 use clap::error::ErrorKind;
 use client_sessions::Progress;
+use interleavings::ExploreProgress;
 use seq_model::Refusal;
 use session_text::RunFault;
 use std::alloc::Global;
@@ -100,7 +101,7 @@ pub fn run_file<
     R: Read + Drop,
     W: Write,
     E: Write,
-    P: Progress + Sync,
+    P: Progress + ExploreProgress + Sync,
 >(
     rt: &H,
     alloc: Global,
@@ -148,7 +149,13 @@ pub fn run_file<
 /// it fails, is the line of the fault, and `out` is unchanged (`memory`); or it is the line that the output can't be written, and `out`
 /// has grown by a beginning of what the task prints, but not by all of it. `unwritten`: with status 1 `out` has changed, by help and the
 /// version too, only where that line was written.
-pub fn run_tool<H: Threads + Wait + Clock + Sync, R: Read, W: Write, E: Write, P: Progress + Sync>(
+pub fn run_tool<
+    H: Threads + Wait + Clock + Sync,
+    R: Read,
+    W: Write,
+    E: Write,
+    P: Progress + ExploreProgress + Sync,
+>(
     rt: &H,
     alloc: Global,
     words: &[String],

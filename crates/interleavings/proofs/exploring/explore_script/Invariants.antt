@@ -1,0 +1,6 @@
+use Rattle.std.proofs.Common.{All}
+use Rattle.interleavings.specs.Explorations.{IsOutcomeOf}
+use Rattle.interleavings.proofs.exploring.explore_script.Given as goal
+
+abbrev pub invariant-loop-run : goal.invariant-loop-run
+invariant-loop-run g l = All (IsOutcomeOf l.script) l.found.outcomes.items

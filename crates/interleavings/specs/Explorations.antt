@@ -1,0 +1,53 @@
+-- What an exploration finds, and what is printed of it.
+use Rattle.std.specs.Prelude.{◌≡◌, ◌≤◌, ℕ, if◌then◌else◌, List, [], ◌∷◌, ◌++◌, All, codes, flat_map, length}
+use Rattle.std.specs.Fmt.{decimal}
+use Rattle.step_world.specs.Traces.{IsSerialTrace}
+use Rattle.text_formats.specs.declared.script.Script.{Script}
+use Rattle.text_formats.specs.Scripts.{IsScriptText}
+use Rattle.session_text.specs.Audits.{IsAudited}
+use Rattle.session_text.specs.Plays.{IsRunOf}
+use Rattle.session_text.specs.Scripts.{IsOpeningOf}
+use Rattle.session_text.specs.TracePrints.{run_text}
+use Rattle.interleavings.specs.ScriptPrints.{script_text}
+use Rattle.interleavings.specs.declared.outcomes.Exploration.{Exploration}
+use Rattle.interleavings.specs.declared.outcomes.Outcome.{Outcome}
+
+-- both open the same world
+pub record HasHeaderOf (script other : Script) : Type 0 where
+  pub words : other.words ≡ script.words
+  pub clock : other.clock ≡ script.clock
+  pub collections : other.collections ≡ script.collections
+
+-- The outcome is the result of its script's lines in the world that the explored script opens: all that was answered, and the trace, which
+-- is in serial order and was audited.
+pub record IsOutcomeOf (script : Script) (outcome : Outcome) : Type 0 where
+  pub header : HasHeaderOf script outcome.script
+  pub opening : IsOpeningOf outcome.script outcome.run.opening
+  pub made : IsRunOf outcome.script outcome.run
+  pub serial : IsSerialTrace outcome.run.opening outcome.run.trace
+  pub audited : IsAudited outcome.run
+
+-- ---- what is printed
+
+abbrev pub title_text : ℕ → List ℕ
+title_text count = codes "outcome of " ++ (decimal count ++ (codes " interleavings" ++ (10 ∷ [])))
+
+abbrev pub outcome_text : Outcome → List ℕ
+outcome_text outcome = title_text outcome.count ++ (run_text outcome.run ++ (codes "script\n" ++ script_text outcome.script))
+
+abbrev pub ending_text : Exploration → List ℕ
+ending_text found =
+    codes "outcomes " ++ (decimal (length found.outcomes.items) ++ (10 ∷ (codes "interleavings " ++ (decimal found.interleavings
+    ++ (10 ∷ (codes "audit ok" ++ (10 ∷ (codes "complete " ++ ((if found.is_complete then codes "yes" else codes "no")
+    ++ (10 ∷ []))))))))))
+
+abbrev pub exploration_text : Exploration → List ℕ
+exploration_text found = flat_map outcome_text found.outcomes.items ++ ending_text found
+
+-- The text spells a script, and what is printed are outcomes that it has, with the scripts that lead there.
+pub record IsExplored (text bytes : List ℕ) : Type 0 where
+  pub script : Script
+  pub found : Exploration
+  pub spelled : IsScriptText text script
+  pub outcomes : All (IsOutcomeOf script) found.outcomes.items
+  pub printed : bytes ≡ exploration_text found
