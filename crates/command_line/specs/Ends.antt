@@ -18,6 +18,8 @@ use Rattle.session_text.specs.declared.fault.RunFault.{RunFault}
 use Rattle.session_text.specs.declared.fault.RunFault.TheVariants.{Audit, NotBalanced, Refused}
 use Rattle.session_text.specs.Faults as faults
 use Rattle.session_text.specs.Outputs as outputs
+use Rattle.interleavings.specs.Explorations.{IsExplored}
+use Rattle.interleavings.specs.Faults.{IsTextFault}
 use Rattle.served_runs.specs.Drawn.{IsDrawable, IsDrawnOutput}
 use Rattle.served_runs.specs.Runs.{IsServedOutput, IsWantOfMemory}
 use Rattle.command_line.specs.declared.tool.TheConstants.{AUDIT_FAULT, MEMORY, REFUSED}
@@ -63,12 +65,14 @@ IsFault text fault = ⊥
 -- what a text prints where this work is asked for
 abbrev pub IsOutputOf : Work → List ℕ → List ℕ → Type 0
 IsOutputOf Step text bytes = IsOutput text bytes
+IsOutputOf (Explore most) text bytes = IsExplored text bytes
 IsOutputOf Vacation text bytes = outputs.IsOutput text bytes
 IsOutputOf (Served workers) text bytes = IsServedOutput workers text bytes
 
 -- why it has no output
 abbrev pub IsFaultOf : Work → List ℕ → RunFault → Type 0
 IsFaultOf Step text fault = IsFault text fault
+IsFaultOf (Explore most) text fault = IsTextFault text fault
 IsFaultOf Vacation text fault = faults.IsFault text fault
 IsFaultOf (Served workers) text fault = faults.IsFault text fault
 

@@ -2,6 +2,8 @@
 ghost use Rattle.std.specs.Prelude.{◌≡◌, ◌≤◌, ◌⊎◌, [], IsOk, IfOk, IfErr, IfSome};
 ghost use Rattle.std.specs.String.{string_bytes};
 ghost use Rattle.std.specs.Vec.{vec_len};
+ghost use Rattle.interleavings.specs.Explorations.{IsExplored};
+ghost use Rattle.interleavings.specs.Faults.{IsTextFault};
 ghost use Rattle.served_runs.specs.Drawn.{IsDrawable, IsDrawnOutput};
 ghost use Rattle.served_runs.specs.Runs.{IsWantOfMemory};
 ghost use Rattle.command_line.specs.declared.work.Cause.TheVariants.{Ended};
@@ -145,7 +147,10 @@ fn explored<P: Progress + ExploreProgress>(
     text: &[u8],
     most: u64,
     progress: &P,
-) -> Result<Vec<u8>, RunFault> {
+) -> Result<Vec<u8>, RunFault>
+    ensures output { IfOk result (λ bytes. IsExplored text.now bytes.items) }
+    ensures refused { IfErr result (IsTextFault text.now) }
+{
     let explored = explore(alloc, text, most, progress);
     progress.end();
     explored

@@ -1,7 +1,7 @@
 //! The sections, and what is made of each.
 use client_sessions::NoProgress;
 use interleavings::{Exploration, Schedules, explore, explore_script};
-use seq_model::Refusal;
+use seq_model::{Memory, Refusal};
 use session_text::{RunFault, print_trace, run_script};
 use std::alloc::{AllocError, Global};
 use std::fmt::Write;
@@ -62,8 +62,13 @@ fn print_explored(text: &mut String, script: &str, most: u64) -> Result<(), RunF
     let alloc = *text.allocator();
     let bytes = explore(alloc, script.as_bytes(), most, &NoProgress)?;
     let printed = std::str::from_utf8(bytes.as_slice()).unwrap_or("no text\n");
-    text.push_str(printed)?;
     let replayed = replay_all(alloc, printed)?;
+    print_replayed(text, printed, replayed)?;
+    Ok(())
+}
+
+fn print_replayed(text: &mut String, printed: &str, replayed: u64) -> Result<(), Memory> {
+    text.push_str(printed)?;
     writeln!(text, "replayed {replayed}")?;
     Ok(())
 }
@@ -96,7 +101,8 @@ fn compare(text: &mut String, script: &str) -> Result<(), RunFault> {
     let few = explore_script(alloc, &script, 1, Schedules::Apart, MOST, &NoProgress)?;
     let all = explore_script(alloc, &script, 1, Schedules::All, u64::MAX, &NoProgress)?;
     print_found(text, "apart", &few, &all)?;
-    print_found(text, "all", &all, &few)
+    print_found(text, "all", &all, &few)?;
+    Ok(())
 }
 
 fn print_found(
@@ -104,7 +110,7 @@ fn print_found(
     name: &str,
     found: &Exploration,
     other: &Exploration,
-) -> Result<(), RunFault> {
+) -> Result<(), Memory> {
     let shared = shared_with(found, other);
     let outcomes = found.outcomes.len();
     let interleavings = found.interleavings;

@@ -3,7 +3,7 @@ ghost use Rattle.std.specs.Prelude.{All, IfErr, IfOk};
 ghost use Rattle.interleavings.specs.Explorations.{IsExplored, IsOutcomeOf};
 ghost use Rattle.interleavings.specs.Faults.{IsScriptFault, IsTextFault};
 
-use crate::outcomes::Exploration;
+use crate::outcomes::{Exploration, outcome_of};
 use crate::paths::Path;
 use crate::print::print_exploration;
 use crate::programs::programs_of;
@@ -67,7 +67,8 @@ pub fn explore_script<P: ExploreProgress>(
     let mut path = Path::new(alloc, schedules);
     for run in 0..most {
         if let Some(lines) = run_along(alloc, script, programs.as_slice(), &mut path)? {
-            found.add(alloc, script, programs.as_slice(), lines)?;
+            let outcome = outcome_of(alloc, script, programs.as_slice(), lines)?;
+            found.add(outcome)?;
         }
         progress.tried(run + 1, most);
         if !path.turn()? {

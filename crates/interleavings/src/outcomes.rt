@@ -46,37 +46,12 @@ impl Exploration {
         }
     }
 
-    /// Runs the script of this header and these lines, has its run audited, and counts its outcome.
-    pub(crate) fn add(
-        &mut self,
-        alloc: Global,
-        header: &Script,
-        programs: &[Program],
-        lines: Vec<EventLine>,
-    ) -> Result<(), RunFault>
-        requires { All (IsOutcomeOf header.now) self.old.outcomes.items }
-        ensures outcomes { OnOk result (All (IsOutcomeOf header.now) self.new.outcomes.items) }
-        ensures refused { IfErr result (IsScriptFault header.now) }
-    {
-        let script = with_lines(alloc, header, lines)?;
-        let run = run_script(alloc, &script)?;
-        audit_run(alloc, &run)?;
-        let printed = print_trace(alloc, &run)?;
-        let key = key_of(alloc, programs, printed.as_slice())?;
-        self.interleavings = self.interleavings.saturating_add(1);
-        self.count(Outcome {
-            script,
-            run,
-            key,
-            count: 1,
-        })?;
-        Ok(())
-    }
-
-    fn count(&mut self, found: Outcome) -> Result<(), Memory>
+    /// One more run, with this outcome.
+    pub(crate) fn add(&mut self, found: Outcome) -> Result<(), Memory>
         ensures { OnOk result ((script : Spelled) → All (IsOutcomeOf script) self.old.outcomes.items → IsOutcomeOf script found
             → All (IsOutcomeOf script) self.new.outcomes.items) }
     {
+        self.interleavings = self.interleavings.saturating_add(1);
         match self.place_of(found.key.as_slice()) {
             Some(place) => self.outcomes[place].join(found),
             None => self.outcomes.push(found)?,
@@ -111,6 +86,29 @@ impl Outcome {
             self.run = run;
         }
     }
+}
+
+/// The outcome of the script of this header and these lines, whose run is audited.
+pub(crate) fn outcome_of(
+    alloc: Global,
+    header: &Script,
+    programs: &[Program],
+    lines: Vec<EventLine>,
+) -> Result<Outcome, RunFault>
+    ensures outcome { IfOk result (IsOutcomeOf header.now) }
+    ensures refused { IfErr result (IsScriptFault header.now) }
+{
+    let script = with_lines(alloc, header, lines)?;
+    let run = run_script(alloc, &script)?;
+    audit_run(alloc, &run)?;
+    let printed = print_trace(alloc, &run)?;
+    let key = key_of(alloc, programs, printed.as_slice())?;
+    Ok(Outcome {
+        script,
+        run,
+        key,
+        count: 1,
+    })
 }
 
 /// The script of this header and these lines.

@@ -103,8 +103,10 @@ impl<'a> Walk<'a> {
         let actor = self.course.actor(place);
         match feed(&mut self.parts, Event::Step(actor))? {
             Notice::Quiet => return Ok(()),
-            Notice::Answered(_, _) => self.course.answer()?,
-            Notice::Refused(_, _) => self.course.refuse(place)?,
+            Notice::Refused(_, refusal) if ends_transaction(&refusal) => {
+                self.course.refuse(place)?;
+            }
+            Notice::Answered(_, _) | Notice::Refused(_, _) => self.course.answer()?,
         }
         self.ask(place)
     }
@@ -131,4 +133,9 @@ impl<'a> Walk<'a> {
         let Walk { parts: _, course } = self;
         course.into_lines()
     }
+}
+
+/// Whether no transaction is open once a step has refused a request so.
+fn ends_transaction(refusal: &Refusal) -> bool {
+    !matches!(refusal, Refusal::TooLong | Refusal::NoSuch)
 }
