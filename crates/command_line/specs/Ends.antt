@@ -65,7 +65,7 @@ IsFault text fault = ⊥
 -- what a text prints where this work is asked for
 abbrev pub IsOutputOf : Work → List ℕ → List ℕ → Type 0
 IsOutputOf Step text bytes = IsOutput text bytes
-IsOutputOf (Explore most) text bytes = IsExplored text bytes
+IsOutputOf (Explore most) text bytes = IsExplored text most bytes
 IsOutputOf Vacation text bytes = outputs.IsOutput text bytes
 IsOutputOf (Served workers) text bytes = IsServedOutput workers text bytes
 

@@ -148,7 +148,7 @@ fn explored<P: Progress + ExploreProgress>(
     most: u64,
     progress: &P,
 ) -> Result<Vec<u8>, RunFault>
-    ensures output { IfOk result (λ bytes. IsExplored text.now bytes.items) }
+    ensures output { IfOk result (λ bytes. IsExplored text.now most bytes.items) }
     ensures refused { IfErr result (IsTextFault text.now) }
 {
     let explored = explore(alloc, text, most, progress);

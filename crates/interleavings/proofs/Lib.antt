@@ -1,1 +1,2 @@
+mod CountLemmas
 mod FaultLemmas

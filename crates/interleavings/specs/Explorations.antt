@@ -1,6 +1,7 @@
 -- What an exploration finds, and what is printed of it.
 use Rattle.std.specs.Prelude.{◌≡◌, ◌≤◌, ℕ, if◌then◌else◌, List, [], ◌∷◌, ◌++◌, All, codes, flat_map, length}
 use Rattle.std.specs.Fmt.{decimal}
+use Rattle.std.specs.List.{sum_by}
 use Rattle.step_world.specs.Traces.{IsSerialTrace}
 use Rattle.text_formats.specs.declared.script.Script.{Script}
 use Rattle.text_formats.specs.Scripts.{IsScriptText}
@@ -27,6 +28,14 @@ pub record IsOutcomeOf (script : Script) (outcome : Outcome) : Type 0 where
   pub serial : IsSerialTrace outcome.run.opening outcome.run.trace
   pub audited : IsAudited outcome.run
 
+-- how many runs have led to these outcomes
+abbrev pub runs_of : List Outcome → ℕ
+runs_of outcomes = sum_by (λ o. o.count) outcomes
+
+-- each interleaving is a run to one of the outcomes
+abbrev pub IsCounted : Exploration → Type 0
+IsCounted found = runs_of found.outcomes.items ≡ found.interleavings
+
 -- ---- what is printed
 
 abbrev pub title_text : ℕ → List ℕ
@@ -44,10 +53,12 @@ ending_text found =
 abbrev pub exploration_text : Exploration → List ℕ
 exploration_text found = flat_map outcome_text found.outcomes.items ++ ending_text found
 
--- The text spells a script, and what is printed are outcomes that it has, with the scripts that lead there.
-pub record IsExplored (text bytes : List ℕ) : Type 0 where
+-- The text spells a script, and what is printed are outcomes that it has, with the scripts that lead there, found by so many runs at most.
+pub record IsExplored (text : List ℕ) (most : ℕ) (bytes : List ℕ) : Type 0 where
   pub script : Script
   pub found : Exploration
   pub spelled : IsScriptText text script
   pub outcomes : All (IsOutcomeOf script) found.outcomes.items
+  pub counted : IsCounted found
+  pub few : found.interleavings ≤ most
   pub printed : bytes ≡ exploration_text found

@@ -1,6 +1,6 @@
 //! An exploration, from the text of a script to what is printed.
-ghost use Rattle.std.specs.Prelude.{All, IfErr, IfOk};
-ghost use Rattle.interleavings.specs.Explorations.{IsExplored, IsOutcomeOf};
+ghost use Rattle.std.specs.Prelude.{◌≤◌, All, IfErr, IfOk};
+ghost use Rattle.interleavings.specs.Explorations.{IsCounted, IsExplored, IsOutcomeOf};
 ghost use Rattle.interleavings.specs.Faults.{IsScriptFault, IsTextFault};
 
 use crate::outcomes::{Exploration, outcome_of};
@@ -34,7 +34,7 @@ pub fn explore<P: ExploreProgress>(
     most: u64,
     progress: &P,
 ) -> Result<Vec<u8>, RunFault>
-    ensures explored { IfOk result (λ bytes. IsExplored text.now bytes.items) }
+    ensures explored { IfOk result (λ bytes. IsExplored text.now most bytes.items) }
     ensures refused { IfErr result (IsTextFault text.now) }
 {
     let script = parse_steps(alloc, text)?;
@@ -60,6 +60,8 @@ pub fn explore_script<P: ExploreProgress>(
     progress: &P,
 ) -> Result<Exploration, RunFault>
     ensures outcomes { IfOk result (λ found. All (IsOutcomeOf script.now) found.outcomes.items) }
+    ensures counted { IfOk result IsCounted }
+    ensures few { IfOk result (λ found. found.interleavings ≤ most) }
     ensures refused { IfErr result (IsScriptFault script.now) }
 {
     let programs = programs_of(alloc, script, first_line)?;

@@ -1,7 +1,7 @@
 //! The outcomes that were found.
-ghost use Rattle.std.specs.Prelude.{◌≡◌, ◌<◌, [], All, IfErr, IfOk, IfSome, OnOk, length};
+ghost use Rattle.std.specs.Prelude.{◌≡◌, ◌<◌, ◌≤◌, ◌+◌, ◌^◌, [], All, IfErr, IfOk, IfSome, OnOk, length};
 ghost use Rattle.text_formats.specs.declared.script.Script.{Script as Spelled};
-ghost use Rattle.interleavings.specs.Explorations.{HasHeaderOf, IsOutcomeOf};
+ghost use Rattle.interleavings.specs.Explorations.{HasHeaderOf, IsCounted, IsOutcomeOf};
 ghost use Rattle.interleavings.specs.Faults.{IsScriptFault};
 
 use crate::keys::key_of;
@@ -37,7 +37,8 @@ pub struct Exploration {
 
 impl Exploration {
     pub(crate) fn new(alloc: Global) -> Exploration
-        ensures { result.outcomes.items ≡ [] }
+        ensures outcomes { result.outcomes.items ≡ [] }
+        ensures runs { result.interleavings ≡ 0 }
     {
         Exploration {
             outcomes: Vec::new(alloc),
@@ -48,7 +49,10 @@ impl Exploration {
 
     /// One more run, with this outcome.
     pub(crate) fn add(&mut self, found: Outcome) -> Result<(), Memory>
-        ensures { OnOk result ((script : Spelled) → All (IsOutcomeOf script) self.old.outcomes.items → IsOutcomeOf script found
+        requires { found.count ≡ 1 }
+        ensures runs { OnOk result (self.new.interleavings ≤ self.old.interleavings + 1) }
+        ensures counted { OnOk result (IsCounted self.old → self.old.interleavings + 1 < 2 ^ 64 → IsCounted self.new) }
+        ensures outcomes { OnOk result ((script : Spelled) → All (IsOutcomeOf script) self.old.outcomes.items → IsOutcomeOf script found
             → All (IsOutcomeOf script) self.new.outcomes.items) }
     {
         self.interleavings = self.interleavings.saturating_add(1);
@@ -72,7 +76,8 @@ impl Exploration {
 impl Outcome {
     /// The same outcome once more. The shorter script is kept.
     fn join(&mut self, other: Outcome)
-        ensures { (script : Spelled) → IsOutcomeOf script self.old → IsOutcomeOf script other → IsOutcomeOf script self.new }
+        ensures count { self.old.count + other.count < 2 ^ 64 → self.new.count ≡ self.old.count + other.count }
+        ensures outcome { (script : Spelled) → IsOutcomeOf script self.old → IsOutcomeOf script other → IsOutcomeOf script self.new }
     {
         let Outcome {
             script,
@@ -96,6 +101,7 @@ pub(crate) fn outcome_of(
     lines: Vec<EventLine>,
 ) -> Result<Outcome, RunFault>
     ensures outcome { IfOk result (IsOutcomeOf header.now) }
+    ensures one { IfOk result (λ outcome. outcome.count ≡ 1) }
     ensures refused { IfErr result (IsScriptFault header.now) }
 {
     let script = with_lines(alloc, header, lines)?;
