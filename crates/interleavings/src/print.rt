@@ -1,7 +1,7 @@
 //! What is printed of an exploration, and of a script.
 ghost use Rattle.std.specs.Prelude.{◌≡◌, ◌++◌, IfOk, OnOk, flat_map};
 ghost use Rattle.std.specs.String.{string_bytes};
-ghost use Rattle.interleavings.specs.Explorations.{ending_text, exploration_text, outcome_text, title_text};
+ghost use Rattle.interleavings.specs.Explorations.{ending_text, exploration_text, outcome_text, title_text, yes_or_no_text};
 ghost use Rattle.interleavings.specs.ScriptPrints.{call_text, clock_text, collection_text, contents_text, line_text, op_text, request_text};
 ghost use Rattle.interleavings.specs.ScriptPrints.{script_text, steps_text};
 
@@ -58,13 +58,19 @@ fn print_ending(alloc: Global, exploration: &Exploration) -> Result<String, Memo
 {
     let count = exploration.outcomes.len();
     let interleavings = exploration.interleavings;
-    let complete = if exploration.is_complete { "yes" } else { "no" };
+    let complete = yes_or_no(exploration.is_complete);
     let mut ending = String::new(alloc);
     writeln!(ending, "outcomes {count}")?;
     writeln!(ending, "interleavings {interleavings}")?;
     writeln!(ending, "audit ok")?;
     writeln!(ending, "complete {complete}")?;
     Ok(ending)
+}
+
+fn yes_or_no(holds: bool) -> &'static str
+    ensures { result.now ≡ yes_or_no_text holds }
+{
+    if holds { "yes" } else { "no" }
 }
 
 /// The text of a script.
