@@ -47,11 +47,18 @@ outcome_text outcome = title_text outcome.count ++ (run_text outcome.run ++ (cod
 abbrev pub yes_or_no_text : Bool → List ℕ
 yes_or_no_text holds = if holds then codes "yes" else codes "no"
 
+abbrev pub outcome_count_text : ℕ → List ℕ
+outcome_count_text count = codes "outcomes " ++ (decimal count ++ (10 ∷ []))
+
+abbrev pub run_count_text : ℕ → List ℕ
+run_count_text count = codes "interleavings " ++ (decimal count ++ (10 ∷ []))
+
+abbrev pub complete_text : Bool → List ℕ
+complete_text is_complete = codes "audit ok\n" ++ (codes "complete " ++ (yes_or_no_text is_complete ++ (10 ∷ [])))
+
 abbrev pub ending_text : Exploration → List ℕ
 ending_text found =
-    codes "outcomes " ++ (decimal (length found.outcomes.items) ++ (10 ∷ (codes "interleavings " ++ (decimal found.interleavings
-    ++ (10 ∷ (codes "audit ok" ++ (10 ∷ (codes "complete " ++ (yes_or_no_text found.is_complete
-    ++ (10 ∷ []))))))))))
+    outcome_count_text (length found.outcomes.items) ++ (run_count_text found.interleavings ++ complete_text found.is_complete)
 
 abbrev pub exploration_text : Exploration → List ℕ
 exploration_text found = flat_map outcome_text found.outcomes.items ++ ending_text found

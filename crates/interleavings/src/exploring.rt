@@ -3,7 +3,7 @@ ghost use Rattle.std.specs.Prelude.{◌≤◌, All, IfErr, IfOk};
 ghost use Rattle.interleavings.specs.Explorations.{IsCounted, IsExplored, IsOutcomeOf};
 ghost use Rattle.interleavings.specs.Faults.{IsScriptFault, IsTextFault};
 
-use crate::outcomes::{Exploration, outcome_of};
+use crate::outcomes::Exploration;
 use crate::paths::Path;
 use crate::print::print_exploration;
 use crate::programs::programs_of;
@@ -68,14 +68,12 @@ pub fn explore_script<P: ExploreProgress>(
     let mut found = Exploration::new(alloc);
     let mut path = Path::new(alloc, schedules);
     for run in 0..most {
-        if let Some(lines) = run_along(alloc, script, programs.as_slice(), &mut path)? {
-            let outcome = outcome_of(alloc, script, programs.as_slice(), lines)?;
-            found.add(outcome)?;
-        }
+        let lines = run_along(alloc, script, programs.as_slice(), &mut path)?;
+        found.count(alloc, script, programs.as_slice(), lines)?;
         progress.tried(run + 1, most);
         if !path.turn()? {
             found.is_complete = true;
-            break;
+            return Ok(found);
         }
     }
     Ok(found)

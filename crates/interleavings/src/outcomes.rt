@@ -47,8 +47,8 @@ impl Exploration {
         }
     }
 
-    /// One more run, with this outcome.
-    pub(crate) fn add(&mut self, found: Outcome) -> Result<(), Memory>
+    /// One more run came to this outcome.
+    fn add(&mut self, found: Outcome) -> Result<(), Memory>
         requires { found.count ≡ 1 }
         ensures runs { OnOk result (self.new.interleavings ≤ self.old.interleavings + 1) }
         ensures counted { OnOk result (IsCounted self.old → self.old.interleavings + 1 < 2 ^ 64 → IsCounted self.new) }
@@ -60,6 +60,28 @@ impl Exploration {
             Some(place) => self.outcomes[place].join(found),
             None => self.outcomes.push(found)?,
         }
+        Ok(())
+    }
+
+    /// One more run, which came to its end by these lines, or was broken off.
+    pub(crate) fn count(
+        &mut self,
+        alloc: Global,
+        header: &Script,
+        programs: &[Program],
+        lines: Option<Vec<EventLine>>,
+    ) -> Result<(), RunFault>
+        ensures runs { OnOk result (self.new.interleavings ≤ self.old.interleavings + 1) }
+        ensures counted { OnOk result (IsCounted self.old → self.old.interleavings + 1 < 2 ^ 64 → IsCounted self.new) }
+        ensures outcomes { OnOk result (All (IsOutcomeOf header.now) self.old.outcomes.items
+            → All (IsOutcomeOf header.now) self.new.outcomes.items) }
+        ensures refused { IfErr result (IsScriptFault header.now) }
+    {
+        let Some(lines) = lines else {
+            return Ok(());
+        };
+        let outcome = outcome_of(alloc, header, programs, lines)?;
+        self.add(outcome)?;
         Ok(())
     }
 
@@ -94,7 +116,7 @@ impl Outcome {
 }
 
 /// The outcome of the script of this header and these lines, whose run is audited.
-pub(crate) fn outcome_of(
+fn outcome_of(
     alloc: Global,
     header: &Script,
     programs: &[Program],
