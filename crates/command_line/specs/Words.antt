@@ -43,7 +43,8 @@ bare_app = record (new_app (codes "proust_tool")) {
 
 abbrev pub tool_app : App
 tool_app =
-    with_subcommand (with_subcommand (with_subcommand (with_subcommand bare_app step_app.top) explore_app.top) vacation_app.top) bench_app.top
+    with_subcommand (with_subcommand (with_subcommand (with_subcommand bare_app step_app.top) explore_app.top) vacation_app.top)
+    bench_app.top
 
 -- what is wrong with the form that they ask the times in
 abbrev pub faults_of_forms : Option (Text × List Row) → Kinds

@@ -20,5 +20,5 @@ returns-clause-world c = has_world c.open.result _ _ _ c.open.ensures.world c.op
 
 pub returns-clause-refused : goal.returns-clause-refused
 returns-clause-refused c =
-    refused_as c.args.script.now c.in_ok-opening.opening _ _ c.open.result c.in_ok-opening.ensures.opening (c.in_ok-opening.ensures.within refl)
-    c.in_ok-shape.ensures.stripes c.in_ok-shape.ensures.clock c.open.ensures.refused
+    refused_as c.args.script.now c.in_ok-opening.opening _ _ c.open.result c.in_ok-opening.ensures.opening
+    (c.in_ok-opening.ensures.within refl) c.in_ok-shape.ensures.stripes c.in_ok-shape.ensures.clock c.open.ensures.refused

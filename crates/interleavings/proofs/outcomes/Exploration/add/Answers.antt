@@ -7,7 +7,8 @@ pub returns-in-Some-clause-outcomes : goal.returns-in-Some-clause-outcomes
 returns-in-Some-clause-outcomes c = λ script all more.
     let known = subst (λ o. IsOutcomeOf script o) (sym c.index_mut.ensures.value)
     (All-get_or (IsOutcomeOf script) c.args.self.now.outcomes.items c.in-Some.place c.index_mut.result.now c.in-Some.ensures all) in
-    All-set (IsOutcomeOf script) c.args.self.now.outcomes.items c.in-Some.place c.join.new.self (c.join.ensures.outcome script known more) all
+    All-set (IsOutcomeOf script) c.args.self.now.outcomes.items c.in-Some.place c.join.new.self
+    (c.join.ensures.outcome script known more) all
 
 pub returns-in_ok-push-in-None-clause-outcomes : goal.returns-in_ok-push-in-None-clause-outcomes
 returns-in_ok-push-in-None-clause-outcomes c = λ script all more.
