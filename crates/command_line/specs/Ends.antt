@@ -18,6 +18,8 @@ use Rattle.session_text.specs.declared.fault.RunFault.{RunFault}
 use Rattle.session_text.specs.declared.fault.RunFault.TheVariants.{Audit, NotBalanced, Refused}
 use Rattle.session_text.specs.Faults as faults
 use Rattle.session_text.specs.Outputs as outputs
+use Rattle.interleavings.specs.Explorations.{IsExplored}
+use Rattle.interleavings.specs.Faults.{IsTextFault}
 use Rattle.served_runs.specs.Drawn.{IsDrawable, IsDrawnOutput}
 use Rattle.served_runs.specs.Runs.{IsServedOutput, IsWantOfMemory}
 use Rattle.command_line.specs.declared.tool.TheConstants.{AUDIT_FAULT, MEMORY, REFUSED}
@@ -29,7 +31,7 @@ use Rattle.command_line.specs.declared.work.Task.TheVariants.{OnDrawn, OnFile}
 use Rattle.command_line.specs.declared.work.TimesForm.{TimesForm}
 use Rattle.command_line.specs.declared.work.TimesForm.TheVariants.{Unasked}
 use Rattle.command_line.specs.declared.work.Work.{Work}
-use Rattle.command_line.specs.declared.work.Work.TheVariants.{Served, Step, Vacation}
+use Rattle.command_line.specs.declared.work.Work.TheVariants.{Explore, Served, Step, Vacation}
 use Rattle.command_line.specs.Words.{AreTaken, AskForInformation, task_named}
 
 -- ---- what is printed of a text
@@ -63,12 +65,14 @@ IsFault text fault = ⊥
 -- what a text prints where this work is asked for
 abbrev pub IsOutputOf : Work → List ℕ → List ℕ → Type 0
 IsOutputOf Step text bytes = IsOutput text bytes
+IsOutputOf (Explore most) text bytes = IsExplored text most bytes
 IsOutputOf Vacation text bytes = outputs.IsOutput text bytes
 IsOutputOf (Served workers) text bytes = IsServedOutput workers text bytes
 
 -- why it has no output
 abbrev pub IsFaultOf : Work → List ℕ → RunFault → Type 0
 IsFaultOf Step text fault = IsFault text fault
+IsFaultOf (Explore most) text fault = IsTextFault text fault
 IsFaultOf Vacation text fault = faults.IsFault text fault
 IsFaultOf (Served workers) text fault = faults.IsFault text fault
 
@@ -77,6 +81,7 @@ IsFaultOf (Served workers) text fault = faults.IsFault text fault
 -- its workers are as many as there may be, and what is drawn is within its limits
 abbrev pub IsDoable : Task → Type 0
 IsDoable (OnFile Step) = ⊤
+IsDoable (OnFile (Explore most)) = ⊤
 IsDoable (OnFile Vacation) = ⊤
 IsDoable (OnFile (Served workers)) = (1 ≤ workers) × (workers ≤ ACTOR_LIMIT)
 IsDoable (OnDrawn drawn times) = IsDrawable drawn

@@ -2,6 +2,8 @@
 ghost use Rattle.std.specs.Prelude.{◌≡◌, ◌≤◌, ◌⊎◌, [], IsOk, IfOk, IfErr, IfSome};
 ghost use Rattle.std.specs.String.{string_bytes};
 ghost use Rattle.std.specs.Vec.{vec_len};
+ghost use Rattle.interleavings.specs.Explorations.{IsExplored};
+ghost use Rattle.interleavings.specs.Faults.{IsTextFault};
 ghost use Rattle.served_runs.specs.Drawn.{IsDrawable, IsDrawnOutput};
 ghost use Rattle.served_runs.specs.Runs.{IsWantOfMemory};
 ghost use Rattle.command_line.specs.declared.work.Cause.TheVariants.{Ended};
@@ -12,6 +14,7 @@ ghost use Rattle.seq_model.specs.declared.refusal.Refusal.TheVariants.{Memory as
 ghost use Rattle.session_text.specs.declared.fault.RunFault.TheVariants.{Refused};
 
 use client_sessions::Progress;
+use interleavings::{ExploreProgress, explore};
 use seq_model::{Memory, Refusal};
 use served_runs::{Drawn, Times, print_drawn, print_times, print_times_as_values, run_drawn};
 use session_text::{RunFault, audit_run, print_trace, run_script};
@@ -30,6 +33,8 @@ pub const FILE_LIMIT: usize = 16_777_216;
 pub(crate) enum Work {
     /// A step script is run.
     Step,
+    /// The requests of a step script are run under every schedule, with at most so many runs.
+    Explore(u64),
     /// The sessions of a session file are run, one after another.
     Vacation,
     /// They are run by so many workers.
@@ -91,13 +96,11 @@ impl From<AllocError> for Cause {
 }
 
 /// Does this task, on the file that the reader gives or on drawn sessions.
-pub(crate) fn output_of<H: Threads + Wait + Clock + Sync, R: Read, P: Progress + Sync>(
-    rt: &H,
-    alloc: Global,
-    task: Task,
-    reader: &mut R,
-    progress: &P,
-) -> Result<Output, Cause>
+pub(crate) fn output_of<
+    H: Threads + Wait + Clock + Sync,
+    R: Read,
+    P: Progress + ExploreProgress + Sync,
+>(rt: &H, alloc: Global, task: Task, reader: &mut R, progress: &P) -> Result<Output, Cause>
     requires { IsDoable task }
     ensures within { IsOk result → IsWithin task (R.remaining reader.old) }
     ensures output { IfOk result (λ output. IsKnownOutput task (R.remaining reader.old) output.bytes.items) }
@@ -119,7 +122,7 @@ pub(crate) fn output_of<H: Threads + Wait + Clock + Sync, R: Read, P: Progress +
 }
 
 /// Does this work on a text.
-fn bytes_of<H: Threads + Wait + Sync, P: Progress + Sync>(
+fn bytes_of<H: Threads + Wait + Sync, P: Progress + ExploreProgress + Sync>(
     rt: &H,
     alloc: Global,
     work: Work,
@@ -132,9 +135,25 @@ fn bytes_of<H: Threads + Wait + Sync, P: Progress + Sync>(
 {
     match work {
         Work::Step => step(alloc, text),
+        Work::Explore(most) => explored(alloc, text, most, progress),
         Work::Vacation => session_text::output_of(alloc, text, progress),
         Work::Served(workers) => served_runs::output_of(rt, alloc, text, workers, progress),
     }
+}
+
+/// Runs the requests of a script under every schedule.
+fn explored<P: Progress + ExploreProgress>(
+    alloc: Global,
+    text: &[u8],
+    most: u64,
+    progress: &P,
+) -> Result<Vec<u8>, RunFault>
+    ensures output { IfOk result (λ bytes. IsExplored text.now most bytes.items) }
+    ensures refused { IfErr result (IsTextFault text.now) }
+{
+    let explored = explore(alloc, text, most, progress);
+    progress.end();
+    explored
 }
 
 /// Draws sessions, and has workers run them.

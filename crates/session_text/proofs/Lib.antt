@@ -1,5 +1,5 @@
 mod LeadLemmas
 mod PlayLemmas
-mod ScriptRunLemmas
+pub mod ScriptRunLemmas
 pub mod LineLemmas
 pub mod FileRunLemmas

@@ -115,7 +115,8 @@ fn print_state(text: &mut String, state: &State<u64>) -> Result<(), Memory>
     Ok(())
 }
 
-fn print_words(text: &mut String, words: &[u64]) -> Result<(), Memory>
+/// Adds the line of words, where there are some.
+pub fn print_words(text: &mut String, words: &[u64]) -> Result<(), Memory>
     ensures { OnOk result (string_bytes text.new ≡ string_bytes text.old ++ words_text words.now) }
 {
     if !words.is_empty() {
@@ -152,7 +153,8 @@ fn print_held(text: &mut String, held: &Held<u64>) -> Result<(), Memory>
     }
 }
 
-fn print_numbers(text: &mut String, numbers: &[u64]) -> Result<(), Memory>
+/// Adds numbers, each after a space.
+pub fn print_numbers(text: &mut String, numbers: &[u64]) -> Result<(), Memory>
     ensures { OnOk result (string_bytes text.new ≡ string_bytes text.old ++ flat_map number_text numbers.now) }
 {
     for number in numbers {
@@ -161,7 +163,8 @@ fn print_numbers(text: &mut String, numbers: &[u64]) -> Result<(), Memory>
     Ok(())
 }
 
-fn print_pairs(text: &mut String, pairs: Iter<'_, u64, u64>) -> Result<(), Memory>
+/// Adds pairs, each after a space, with a colon between key and value.
+pub fn print_pairs(text: &mut String, pairs: Iter<'_, u64, u64>) -> Result<(), Memory>
     ensures { OnOk result (string_bytes text.new ≡ string_bytes text.old ++ flat_map pair_text pairs.entry) }
 {
     for (key, value) in pairs {

@@ -61,7 +61,10 @@ fn run_from(alloc: Global, script: &Script, opening: State<u64>) -> Result<Scrip
     Ok(run)
 }
 
-fn opening_of(alloc: Global, script: &Script) -> Result<State<u64>, Refusal>
+/// The state that the script's header lays out.
+///
+/// `TooLong` where a collection is beyond a limit, and `Memory` where a growth was refused.
+pub fn opening_of(alloc: Global, script: &Script) -> Result<State<u64>, Refusal>
     ensures opening { IfOk result (IsOpeningOf script.now) }
     ensures within { IsOk result → All IsWithinLimits (opens.opening_of script.now).held }
     ensures refused { IfErr result (HasRefusedCollections script.now) }
@@ -74,7 +77,8 @@ fn opening_of(alloc: Global, script: &Script) -> Result<State<u64>, Refusal>
     State::new(words, held)
 }
 
-fn shape_of(alloc: Global, script: &Script) -> Result<Shape, Memory>
+/// How the world of the script's header is laid out.
+pub fn shape_of(alloc: Global, script: &Script) -> Result<Shape, Memory>
     ensures stripes { IfOk result (λ shape. shape.stripes ≡ map (λ c. c.stripes) script.now.collections) }
     ensures clock { IfOk result (λ shape. shape.clock ≡ script.now.clock) }
 {
