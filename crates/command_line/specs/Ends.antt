@@ -29,7 +29,7 @@ use Rattle.command_line.specs.declared.work.Task.TheVariants.{OnDrawn, OnFile}
 use Rattle.command_line.specs.declared.work.TimesForm.{TimesForm}
 use Rattle.command_line.specs.declared.work.TimesForm.TheVariants.{Unasked}
 use Rattle.command_line.specs.declared.work.Work.{Work}
-use Rattle.command_line.specs.declared.work.Work.TheVariants.{Served, Step, Vacation}
+use Rattle.command_line.specs.declared.work.Work.TheVariants.{Lanes, Served, Step, Vacation}
 use Rattle.command_line.specs.Words.{AreTaken, AskForInformation, task_named}
 
 -- ---- what is printed of a text
@@ -63,12 +63,14 @@ IsFault text fault = ⊥
 -- what a text prints where this work is asked for
 abbrev pub IsOutputOf : Work → List ℕ → List ℕ → Type 0
 IsOutputOf Step text bytes = IsOutput text bytes
+IsOutputOf Lanes text bytes = IsLanesOutput text bytes
 IsOutputOf Vacation text bytes = outputs.IsOutput text bytes
 IsOutputOf (Served workers) text bytes = IsServedOutput workers text bytes
 
 -- why it has no output
 abbrev pub IsFaultOf : Work → List ℕ → RunFault → Type 0
 IsFaultOf Step text fault = IsFault text fault
+IsFaultOf Lanes text fault = IsFault text fault
 IsFaultOf Vacation text fault = faults.IsFault text fault
 IsFaultOf (Served workers) text fault = faults.IsFault text fault
 
@@ -77,6 +79,7 @@ IsFaultOf (Served workers) text fault = faults.IsFault text fault
 -- its workers are as many as there may be, and what is drawn is within its limits
 abbrev pub IsDoable : Task → Type 0
 IsDoable (OnFile Step) = ⊤
+IsDoable (OnFile Lanes) = ⊤
 IsDoable (OnFile Vacation) = ⊤
 IsDoable (OnFile (Served workers)) = (1 ≤ workers) × (workers ≤ ACTOR_LIMIT)
 IsDoable (OnDrawn drawn times) = IsDrawable drawn

@@ -24,9 +24,9 @@ pub use fault::RunFault;
 pub use inspection::inspect;
 pub use lines::{line_of, lines_of};
 pub use output::output_of;
-pub use print::print_trace;
+pub use print::{print_answer, print_result, print_trace};
 pub use printing::{STRIPES, SessionRun, text_of, with_ending};
-pub use run::{ScriptRun, run_script};
+pub use run::{ScriptRun, run_script, run_script_with_events, shape_of};
 pub use runs::run_sessions;
 pub use text_formats::{
     Collection, EventLine, Line, Options, STEP_LIMIT, Script, generate, opening, parse_sessions,
