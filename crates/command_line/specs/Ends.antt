@@ -2,6 +2,7 @@
 use Rattle.std.specs.Prelude.{◌≡◌, ◌≢◌, ◌<◌, ◌≤◌, ◌⊎◌, ℕ, List, [], ◌∷◌, ◌++◌, codes, length, Option, IfSome, ⊤}
 use Rattle.std.specs.Io.KnownBytes.{Appends}
 use Rattle.clap.specs.Words.{Text}
+use Rattle.seq_model.specs.declared.event.Event.{Event}
 use Rattle.seq_model.specs.declared.limits.TheConstants.{ACTOR_LIMIT}
 use Rattle.seq_model.specs.declared.refusal.Refusal.{Refusal}
 use Rattle.seq_model.specs.declared.refusal.Refusal.TheVariants.{BadText, Memory as OutOfMemory}
@@ -11,13 +12,14 @@ use Rattle.text_formats.specs.declared.script.Script.{Script}
 use Rattle.text_formats.specs.Scripts.{IsBadLine, IsScriptText}
 use Rattle.session_text.specs.declared.run.ScriptRun.{ScriptRun}
 use Rattle.session_text.specs.Audits.{IsAudited}
-use Rattle.session_text.specs.Plays.{IsRunOf}
+use Rattle.session_text.specs.Plays.{IsRunBy, IsRunOf}
 use Rattle.session_text.specs.Scripts.{IsOpeningOf, IsRefusedScript}
 use Rattle.session_text.specs.TracePrints.{run_text}
 use Rattle.session_text.specs.declared.fault.RunFault.{RunFault}
 use Rattle.session_text.specs.declared.fault.RunFault.TheVariants.{Audit, NotBalanced, Refused}
 use Rattle.session_text.specs.Faults as faults
 use Rattle.session_text.specs.Outputs as outputs
+use Rattle.script_lanes.specs.Outputs.{IsLanesOf}
 use Rattle.served_runs.specs.Drawn.{IsDrawable, IsDrawnOutput}
 use Rattle.served_runs.specs.Runs.{IsServedOutput, IsWantOfMemory}
 use Rattle.command_line.specs.declared.tool.TheConstants.{AUDIT_FAULT, MEMORY, REFUSED}
@@ -48,6 +50,18 @@ pub record IsOutput (text bytes : List ℕ) : Type 0 where
   pub has : HasRun text run
   pub audited : IsAudited run
   pub printed : bytes ≡ run_text run
+
+-- what it prints as lanes
+pub record IsLanesOutput (text bytes : List ℕ) : Type 0 where
+  pub script : Script
+  pub run : ScriptRun
+  pub events : List (Event ℕ)
+  pub spelled : IsScriptText text script
+  pub opening : IsOpeningOf script run.opening
+  pub made : IsRunBy script events run
+  pub serial : IsSerialTrace run.opening run.trace
+  pub audited : IsAudited run
+  pub printed : IsLanesOf script run events bytes
 
 -- why it is refused: a line is outside the grammar, an allocation failed, or it spells a script that is refused
 abbrev pub IsRefusedText : List ℕ → Refusal → Type 0

@@ -1,6 +1,13 @@
 //! Rows, printed as lanes.
+ghost use Rattle.std.specs.Prelude.{◌≡◌, ◌++◌, IfOk, OnOk, length};
+ghost use Rattle.std.specs.String.{string_bytes};
+ghost use Rattle.session_text.specs.Scripts.{world_in};
+ghost use Rattle.script_lanes.specs.Lines.{below_text, cell_text, more_text, number_text, row_text, rows_text};
+ghost use Rattle.script_lanes.specs.Outputs.{AreLanes, IsLanesOf};
+ghost use Rattle.script_lanes.specs.Rows.{AreRowsOf, first_of};
+
 use crate::cell::{print_event, print_notice};
-use crate::layout::{Layout, actor_of, layout_of};
+use crate::layout::{Layout, actor_of, layout_of, push_times};
 use crate::rows::{Row, rows_of};
 use seq_model::{Event, Items, Memory, Refusal};
 use session_text::{ScriptRun, print_result, shape_of};
@@ -15,64 +22,110 @@ pub fn output_of_run(
     script: &Script,
     run: &ScriptRun,
     events: &[Event<u64>],
-) -> Result<Vec<u8>, Memory> {
-    match lanes_of(alloc, script, run, events) {
-        Ok(bytes) => Ok(bytes),
-        Err(_) => Err(Memory),
-    }
-}
-
-fn lanes_of(
-    alloc: Global,
-    script: &Script,
-    run: &ScriptRun,
-    events: &[Event<u64>],
-) -> Result<Vec<u8>, Refusal> {
-    let shape = shape_of(alloc, script)?;
-    let rows = rows_of(alloc, &shape, &run.opening, events)?;
-    let more = events.len().saturating_sub(rows.len());
+) -> Result<Vec<u8>, Memory>
+    ensures { IfOk result (λ bytes. IsLanesOf script.now run.now events.now bytes.items) }
+{
     let mut text = String::new(alloc);
+    let rows = rows_in(alloc, script, run, events)?;
+    let more = events.len().saturating_sub(rows.len());
     print_lanes(&mut text, rows.as_slice(), more)?;
     print_result(&mut text, &run.trace)?;
     Ok(text.into_bytes())
 }
 
+/// The world of a run has opened before, so only an allocation may fail.
+fn rows_in(
+    alloc: Global,
+    script: &Script,
+    run: &ScriptRun,
+    events: &[Event<u64>],
+) -> Result<Items<Row>, Memory>
+    ensures { IfOk result (AreRowsOf (world_in script.now run.now.opening) (first_of events.now)) }
+{
+    let shape = shape_of(alloc, script)?;
+    match rows_of(alloc, &shape, &run.opening, events) {
+        Ok(rows) => Ok(rows),
+        Err(_) => Err(Memory),
+    }
+}
+
 /// The rows as lanes, and how many events more there were.
-pub fn print_lanes(text: &mut String, rows: &[Row], more: usize) -> Result<(), Memory> {
+pub fn print_lanes(text: &mut String, rows: &[Row], more: usize) -> Result<(), Memory>
+    ensures { OnOk result (AreLanes rows.now more (string_bytes text.old) (string_bytes text.new)) }
+{
     let layout = layout_of(*text.allocator(), rows)?;
     layout.print_head(text)?;
-    let mut number = 0u64;
-    for row in rows {
-        number = number.saturating_add(1);
-        print_row(text, &layout, number, row)?;
-    }
+    print_rows(text, &layout, rows)?;
+    print_more(text, more)
+}
+
+fn print_more(text: &mut String, more: usize) -> Result<(), Memory>
+    ensures { OnOk result (string_bytes text.new ≡ string_bytes text.old ++ more_text more) }
+{
     if more > 0 {
         writeln!(text, "{more} more are left out")?;
     }
     Ok(())
 }
 
-fn print_row(text: &mut String, layout: &Layout, number: u64, row: &Row) -> Result<(), Memory> {
-    let alloc = *text.allocator();
-    let mut head = String::new(alloc);
-    write!(head, "{number}")?;
-    let mut answer = String::new(alloc);
-    print_notice(&mut answer, &row.notice)?;
-    let mut cell = String::new(alloc);
-    print_cell(&mut cell, layout, row)?;
-    let length = cell.len();
-    cell.push_str(answer.as_str())?;
-    if layout.fits(cell.as_str()) || answer.is_empty() {
-        return layout.print_line(text, head.as_str(), actor_of(row), cell.as_str());
+fn print_rows(text: &mut String, layout: &Layout, rows: &[Row]) -> Result<(), Memory>
+    ensures { OnOk result (string_bytes text.new ≡ string_bytes text.old ++ rows_text layout.now (length rows.now) rows.now) }
+{
+    let mut left = rows;
+    while let Some((row, later)) = left.split_first() {
+        let number = rows.len().saturating_sub(later.len());
+        print_row(text, layout, number, row)?;
+        left = later;
     }
-    cell.truncate(length);
-    layout.print_line(text, head.as_str(), actor_of(row), cell.as_str())?;
-    let mut below = String::new(alloc);
-    write!(below, "   {answer}")?;
-    layout.print_line(text, "", actor_of(row), below.as_str())
+    Ok(())
 }
 
-fn print_cell(cell: &mut String, layout: &Layout, row: &Row) -> Result<(), Memory> {
+/// The answer is on a line of its own, where it doesn't fit.
+fn print_row(text: &mut String, layout: &Layout, number: usize, row: &Row) -> Result<(), Memory>
+    ensures { OnOk result (string_bytes text.new ≡ string_bytes text.old ++ row_text layout.now number row.now) }
+{
+    let alloc = *text.allocator();
+    let mut head = String::new(alloc);
+    print_number(&mut head, number)?;
+    let mut cell = String::new(alloc);
+    print_cell(&mut cell, layout, row)?;
+    let mut answer = String::new(alloc);
+    print_notice(&mut answer, &row.notice)?;
+    let mut whole = String::new(alloc);
+    whole.push_str(cell.as_str())?;
+    whole.push_str(answer.as_str())?;
+    let actor = actor_of(row);
+    if answer.len() == 0 || layout.fits(whole.len()) {
+        return layout.print_line(text, head.as_str(), actor, whole.as_str());
+    }
+    layout.print_line(text, head.as_str(), actor, cell.as_str())?;
+    print_below(text, layout, actor, answer.as_str())
+}
+
+/// An answer on a line of its own.
+fn print_below(text: &mut String, layout: &Layout, actor: u32, answer: &str) -> Result<(), Memory>
+    ensures { OnOk result (string_bytes text.new ≡ string_bytes text.old ++ below_text layout.now actor answer.now) }
+{
+    let mut below = String::new(*text.allocator());
+    below.push_str("   ")?;
+    below.push_str(answer)?;
+    layout.print_line(text, "    ", actor, below.as_str())
+}
+
+/// A number in four columns.
+fn print_number(head: &mut String, number: usize) -> Result<(), Memory>
+    ensures { OnOk result (string_bytes head.new ≡ string_bytes head.old ++ number_text number) }
+{
+    let mut digits = String::new(*head.allocator());
+    write!(digits, "{number}")?;
+    push_times(head, 4usize.saturating_sub(digits.len()), " ")?;
+    head.push_str(digits.as_str())?;
+    Ok(())
+}
+
+fn print_cell(cell: &mut String, layout: &Layout, row: &Row) -> Result<(), Memory>
+    ensures { OnOk result (string_bytes cell.new ≡ string_bytes cell.old ++ cell_text layout.now row.now) }
+{
     if layout.is_narrow() {
         let actor = actor_of(row);
         write!(cell, "{actor}: ")?;

@@ -1,10 +1,17 @@
 //! The events of a run, each with what it did and what it answered.
+ghost use Rattle.std.specs.Prelude.{◌≡◌, ◌≢◌, IfErr, IfOk, length};
+ghost use Rattle.seq_model.specs.Refusals.{IsNoSuchOrTooLong};
+ghost use Rattle.step_world.specs.Feeds.{Feeds};
+ghost use Rattle.step_world.specs.Parts.{HasWorld};
+ghost use Rattle.world_table.specs.Openings.{IsWithin, world_of};
+ghost use Rattle.script_lanes.specs.Rows.{AreFed, AreRowsOf, first_of};
+
 use crate::deed::{Deed, deed_before};
 use seq_model::{Event, Items, Memory, Notice, Refusal, Shape, State};
 use std::alloc::Global;
 use step_world::Parts;
 
-/// A picture has at most so many rows.
+/// At most so many events have a row.
 pub const ROW_LIMIT: usize = 1_000;
 
 /// An event, with what it did where it is a step, and its notice.
@@ -23,25 +30,48 @@ pub fn rows_of(
     shape: &Shape,
     opening: &State<u64>,
     events: &[Event<u64>],
-) -> Result<Items<Row>, Refusal> {
+) -> Result<Items<Row>, Refusal>
+    ensures rows { IfOk result (AreRowsOf (world_of shape.now.stripes shape.now.clock opening.now) (first_of events.now)) }
+    ensures refused { IfErr result (λ refusal. IsNoSuchOrTooLong refusal (length shape.now.stripes ≢ length opening.now.held)
+        (IsWithin shape.now.stripes shape.now.clock opening.now)) }
+{
     let state = opening.try_copy(alloc)?;
     let mut parts = Parts::open(alloc, shape, state)?;
+    let rows = rows_from(alloc, &mut parts, first_of(events))?;
+    Ok(rows)
+}
+
+fn first_of(events: &[Event<u64>]) -> &[Event<u64>]
+    ensures { result.now ≡ first_of events.now }
+{
+    if events.len() > ROW_LIMIT {
+        &events[..ROW_LIMIT]
+    } else {
+        events
+    }
+}
+
+fn rows_from(
+    alloc: Global,
+    parts: &mut Parts<u64>,
+    events: &[Event<u64>],
+) -> Result<Items<Row>, Memory>
+    requires { HasWorld parts.old }
+    ensures { IfOk result (λ rows. AreFed parts.old events.now rows parts.new) }
+{
     let mut rows = Items::new(alloc);
-    for event in first_of(events) {
-        let row = row_of(&mut parts, event)?;
+    for event in events {
+        let row = row_of(parts, event)?;
         rows.push(row)?;
     }
     Ok(rows)
 }
 
-fn first_of(events: &[Event<u64>]) -> &[Event<u64>] {
-    match events.get(..ROW_LIMIT) {
-        Some(first) => first,
-        None => events,
-    }
-}
-
-fn row_of(parts: &mut Parts<u64>, event: &Event<u64>) -> Result<Row, Memory> {
+fn row_of(parts: &mut Parts<u64>, event: &Event<u64>) -> Result<Row, Memory>
+    requires { HasWorld parts.old }
+    ensures event { IfOk result (λ row. row.event ≡ event.now) }
+    ensures feeds { IfOk result (λ row. Feeds parts.old event.now parts.new row.notice) }
+{
     let deed = deed_before(parts, event);
     let kept = event.try_copy()?;
     let notice = parts.feed(event.try_copy()?)?;

@@ -1,4 +1,4 @@
-mod LeadLemmas
+pub mod LeadLemmas
 mod PlayLemmas
 mod ScriptRunLemmas
 pub mod LineLemmas

@@ -1,0 +1,6 @@
+use Rattle.std.proofs.Common.{take}
+use Rattle.script_lanes.specs.Rows.{AreFed}
+use Rattle.script_lanes.proofs.rows.rows_from.Given as goal
+
+abbrev pub invariant-loop-event : goal.invariant-loop-event
+invariant-loop-event l = AreFed l.fn.parts (take l.event-index l.events) l.rows l.parts

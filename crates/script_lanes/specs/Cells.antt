@@ -1,0 +1,86 @@
+-- What stands in a lane for an event.
+use Rattle.std.specs.Prelude.{ℕ, ◌+◌, ◌/◌, ◌%◌, ◌==◌, if◌then◌else◌, List, [], ◌∷◌, ◌++◌, codes}
+use Rattle.std.specs.Fmt.{decimal}
+use Rattle.seq_model.specs.declared.call.Op.{Op}
+use Rattle.seq_model.specs.declared.call.Op.TheVariants.{Read, Write, Get, Put, Remove, Len, Count, Add, Take, Least, Insert, TakeLeast}
+use Rattle.seq_model.specs.declared.call.Op.TheVariants.{Enqueue, Dequeue, Peek}
+use Rattle.seq_model.specs.declared.event.Event.{Event}
+use Rattle.seq_model.specs.declared.event.Event.TheVariants.{Ask, Step, Starve}
+use Rattle.seq_model.specs.declared.event.Notice.{Notice}
+use Rattle.seq_model.specs.declared.event.Notice.TheVariants.{Quiet, Answered, Refused}
+use Rattle.seq_model.specs.declared.event.Request.{Request}
+use Rattle.seq_model.specs.declared.event.Request.TheVariants as request
+use Rattle.seq_model.specs.Texts.{refusal_text}
+use Rattle.session_text.specs.TracePrints.{answer_text}
+use Rattle.script_lanes.specs.declared.deed.Deed.{Deed}
+use Rattle.script_lanes.specs.declared.deed.Deed.TheVariants as deed
+use Rattle.script_lanes.specs.declared.rows.Row.{Row}
+
+-- ---- what is asked, as a script spells it
+abbrev pub call_text : ℕ → Op ℕ → List ℕ
+call_text target Read = codes "read " ++ decimal target
+call_text target (Write value) = codes "write " ++ (decimal target ++ (codes " " ++ decimal value))
+call_text target (Get key) = codes "call " ++ (decimal target ++ (codes " get " ++ decimal key))
+call_text target (Put key value) = codes "call " ++ (decimal target ++ (codes " put " ++ (decimal key ++ (codes " " ++ decimal value))))
+call_text target (Remove key) = codes "call " ++ (decimal target ++ (codes " remove " ++ decimal key))
+call_text target Len = codes "call " ++ (decimal target ++ codes " len")
+call_text target (Count element) = codes "call " ++ (decimal target ++ (codes " count " ++ decimal element))
+call_text target (Add element) = codes "call " ++ (decimal target ++ (codes " add " ++ decimal element))
+call_text target (Take element) = codes "call " ++ (decimal target ++ (codes " take " ++ decimal element))
+call_text target Least = codes "call " ++ (decimal target ++ codes " least")
+call_text target (Insert element) = codes "call " ++ (decimal target ++ (codes " insert " ++ decimal element))
+call_text target TakeLeast = codes "call " ++ (decimal target ++ codes " take_least")
+call_text target (Enqueue item) = codes "call " ++ (decimal target ++ (codes " enqueue " ++ decimal item))
+call_text target Dequeue = codes "call " ++ (decimal target ++ codes " dequeue")
+call_text target Peek = codes "call " ++ (decimal target ++ codes " peek")
+
+abbrev pub request_text : Request ℕ → List ℕ
+request_text request.Begin = codes "begin"
+request_text request.BeginRead = codes "begin_read"
+request_text request.Commit = codes "commit"
+request_text request.Abort = codes "abort"
+request_text (request.Call call) = call_text call.target call.op
+
+-- ---- what a step does
+
+-- the version of a lock word, and whether it is locked
+abbrev pub lock_text : List ℕ → ℕ → ℕ → List ℕ
+lock_text verb location word =
+    codes "  " ++ (verb ++ (codes " lock " ++ (decimal location ++ (codes ": v" ++ (decimal (word / 2)
+    ++ (if word % 2 == 1 then codes " locked" else []))))))
+
+abbrev pub at_text : List ℕ → ℕ → ℕ → List ℕ
+at_text what location value = what ++ (decimal location ++ (codes ": " ++ decimal value))
+
+abbrev pub gate_text : ℕ → List ℕ → List ℕ
+gate_text collection how = codes "  store gate " ++ (decimal collection ++ how)
+
+abbrev pub deed_text : Deed → List ℕ
+deed_text deed.Nothing = codes "  no step"
+deed_text (deed.LoadClock clock) = codes "  load clock: " ++ decimal clock
+deed_text (deed.AddClock clock) = codes "  add 1 to clock: " ++ decimal clock
+deed_text (deed.LoadLock location word) = lock_text (codes "load") location word
+deed_text (deed.TakeLock location word takes) = lock_text (codes "take") location word ++ (if takes then [] else codes ", failed")
+deed_text (deed.StoreLock location word) = lock_text (codes "store") location word
+deed_text (deed.LoadWord location value) = at_text (codes "  load word ") location value
+deed_text (deed.StoreWord location value) = at_text (codes "  store word ") location value
+deed_text (deed.LoadEdition location value) = at_text (codes "  load edition ") location value
+deed_text (deed.StoreEdition location value) = at_text (codes "  store edition ") location value
+deed_text (deed.TryGate collection holder) =
+    codes "  try gate " ++ (decimal collection ++ (codes ": " ++ (if holder == 0 then codes "free" else codes "held by " ++ decimal holder)))
+deed_text (deed.CopyAtGate collection) = gate_text collection (codes ": copied")
+deed_text (deed.ChangeAtGate collection) = gate_text collection (codes ": changed")
+deed_text (deed.PutGate collection) = gate_text collection (codes ": unchanged")
+
+-- ---- an event
+
+abbrev pub event_text : Event ℕ → Deed → List ℕ
+event_text (Ask actor r) d = request_text r
+event_text (Step actor) d = deed_text d
+event_text (Starve actor) d = codes "  out of memory"
+
+-- what is answered, after an arrow
+abbrev pub answered_text : Notice ℕ → List ℕ
+answered_text Quiet = []
+answered_text (Answered actor answer) = codes " -> " ++ answer_text answer
+answered_text (Refused actor refusal) = codes " -> " ++ refusal_text refusal
