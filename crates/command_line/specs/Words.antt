@@ -65,11 +65,11 @@ abbrev pub vacation_work : ℕ → Work
 vacation_work n = if n == 0 then Vacation else Served n
 
 -- a script's run is printed as lanes, where that is asked for
-abbrev pub step_work_named : Text → Work
-step_work_named word = if bytes_eq word (codes "true") then Lanes else Step
+abbrev pub step_work_by : Text → Work
+step_work_by word = if bytes_eq word (codes "true") then Lanes else Step
 
 abbrev pub step_work : List Row → Work
-step_work rows = option_map_or step_work_named (first_of (codes "lanes") rows) Step
+step_work rows = option_map_or step_work_by (first_of (codes "lanes") rows) Step
 
 -- the task of the subcommand of this name: of three, what is neither the second nor the third is the first
 abbrev pub task_by : Text → List Row → Task

@@ -7,7 +7,7 @@ ghost use Rattle.clap.specs.declared.builder.command.Command.TheViews.{out-Comma
 ghost use Rattle.command_line.specs.declared.work.Task.TheVariants.{OnFile};
 ghost use Rattle.command_line.specs.Ends.{IsDoable};
 ghost use Rattle.command_line.specs.Words.{faults, file_word, named_file, not_dash, tool_app, step_app, vacation_app, file_rule, task_by};
-ghost use Rattle.command_line.specs.Words.{faults_of_forms, lanes_rule, step_work, task_of, vacation_work};
+ghost use Rattle.command_line.specs.Words.{faults_of_forms, lanes_rule, step_work, step_work_by, task_of, vacation_work};
 ghost use Rattle.clap.specs.declared.error.kind.ErrorKind.TheVariants.{InvalidValue};
 
 use crate::bench::{bench_command, drawn_in, form_fault, form_in, unknown_form};
@@ -166,8 +166,19 @@ fn work_on_script(words: &ArgMatches<'_>) -> Work
     ensures doable { IsDoable (OnFile result) }
 {
     match words.get_str("lanes") {
-        Some("true") => Work::Lanes,
-        _ => Work::Step,
+        Some(word) => work_by_flag(word),
+        None => Work::Step,
+    }
+}
+
+fn work_by_flag(word: &str) -> Work
+    ensures work { result ≡ step_work_by word.now }
+    ensures doable { IsDoable (OnFile result) }
+{
+    if word == "true" {
+        Work::Lanes
+    } else {
+        Work::Step
     }
 }
 

@@ -216,7 +216,7 @@ fn lanes(alloc: Global, text: &[u8]) -> Result<Vec<u8>, RunFault>
     ensures refused { IfErr result (IsFault text.now) }
 {
     let script = parse_steps(alloc, text)?;
-    let (run, events) = run_script_with_events(alloc, &script)?;
-    audit_run(alloc, &run)?;
-    Ok(output_of_run(alloc, &script, &run, events.as_slice())?)
+    let (made, events) = run_script_with_events(alloc, &script)?;
+    audit_run(alloc, &made)?;
+    Ok(output_of_run(alloc, &script, &made, events.as_slice())?)
 }

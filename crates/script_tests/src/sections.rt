@@ -206,14 +206,23 @@ fn print_output(text: &mut String, lines: &str, shown: Shown) -> Result<(), Allo
 }
 
 fn print_last(text: &mut String, lines: &str) -> Result<(), AllocError> {
-    let count = lines.split_inclusive('\n').count();
-    for line in lines
-        .split_inclusive('\n')
-        .skip(count.saturating_sub(LAST))
-    {
-        text.push_str(line)?;
+    let count = count_of(lines);
+    let mut place = 0usize;
+    for line in lines.split_inclusive('\n') {
+        if place.saturating_add(LAST) >= count {
+            text.push_str(line)?;
+        }
+        place = place.saturating_add(1);
     }
     Ok(())
+}
+
+fn count_of(lines: &str) -> usize {
+    let mut count = 0usize;
+    for _line in lines.split_inclusive('\n') {
+        count = count.saturating_add(1);
+    }
+    count
 }
 
 fn print_raced(text: &mut String, lines: &str) -> Result<(), AllocError> {

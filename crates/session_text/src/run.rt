@@ -37,8 +37,7 @@ pub fn run_script(alloc: Global, script: &Script) -> Result<ScriptRun, Refusal>
     ensures run { IfOk result (IsRunOf script.now) }
     ensures refused { IfErr result (IsRefusedScript script.now) }
 {
-    let opening = opening_of(alloc, script)?;
-    let (made, _events) = run_from(alloc, script, opening, false)?;
+    let (made, _events) = run_kept(alloc, script, false)?;
     Ok(made)
 }
 
@@ -52,12 +51,25 @@ pub fn run_script_with_events(
     ensures run { IfOk result (λ made. IsRunBy script.now made.1 made.0) }
     ensures refused { IfErr result (IsRefusedScript script.now) }
 {
-    let opening = opening_of(alloc, script)?;
-    let made = run_from(alloc, script, opening, true)?;
+    let made = run_kept(alloc, script, true)?;
     Ok(made)
 }
 
 // The events are kept only where they are asked for.
+fn run_kept(
+    alloc: Global,
+    script: &Script,
+    keeps: bool,
+) -> Result<(ScriptRun, Items<Event<u64>>), Refusal>
+    ensures opening { IfOk result (λ made. IsOpeningOf script.now made.0.opening) }
+    ensures serial { IfOk result (λ made. IsSerialTrace made.0.opening made.0.trace) }
+    ensures run { IfOk result (IsKeptRun script.now keeps) }
+    ensures refused { IfErr result (IsRefusedScript script.now) }
+{
+    let opening = opening_of(alloc, script)?;
+    run_from(alloc, script, opening, keeps)
+}
+
 fn run_from(
     alloc: Global,
     script: &Script,
