@@ -38,7 +38,7 @@ gap layout = spaces (layout.width - 1) ++ codes "|"
 -- how many lanes are before that of the actor
 abbrev pub lane_in : List ℕ → ℕ → ℕ
 lane_in [] actor = 0
-lane_in (a ∷ as) actor = if nat_lt a actor then suc (lane_in as actor) else 0
+lane_in (a ∷ more) actor = if nat_lt a actor then suc (lane_in more actor) else 0
 
 -- ---- the first line
 abbrev pub actor_text : Layout → ℕ → List ℕ

@@ -20,3 +20,7 @@ pub record AreRowsOf (w : World ℕ) (es : List (Event ℕ)) (rows : List Row) :
 pub record AreFed (c : Parts ℕ) (es : List (Event ℕ)) (rows : List Row) (d : Parts ℕ) : Type 0 where
   pub events : map (λ row. row.event) rows ≡ es
   pub leads : Leads c es (map (λ row. row.notice) rows) d
+
+-- they led to some
+abbrev pub AreFedBy : Parts ℕ → List (Event ℕ) → List Row → Type 0
+AreFedBy c es rows = (d : Parts ℕ) × AreFed c es rows d

@@ -1,15 +1,13 @@
 //! Rows, printed as lanes.
 ghost use Rattle.std.specs.Prelude.{◌≡◌, ◌++◌, IfOk, OnOk, length};
 ghost use Rattle.std.specs.String.{string_bytes};
-ghost use Rattle.session_text.specs.Scripts.{world_in};
 ghost use Rattle.script_lanes.specs.Lines.{below_text, cell_text, more_text, number_text, row_text, rows_text};
 ghost use Rattle.script_lanes.specs.Outputs.{AreLanes, IsLanesOf};
-ghost use Rattle.script_lanes.specs.Rows.{AreRowsOf, first_of};
 
 use crate::cell::{print_event, print_notice};
 use crate::layout::{Layout, actor_of, layout_of, push_times};
 use crate::rows::{Row, rows_of};
-use seq_model::{Event, Items, Memory, Refusal};
+use seq_model::{Event, Memory};
 use session_text::{ScriptRun, print_result, shape_of};
 use std::alloc::Global;
 use std::fmt::Write;
@@ -25,28 +23,13 @@ pub fn output_of_run(
 ) -> Result<Vec<u8>, Memory>
     ensures { IfOk result (λ bytes. IsLanesOf script.now run.now events.now bytes.items) }
 {
-    let mut text = String::new(alloc);
-    let rows = rows_in(alloc, script, run, events)?;
+    let shape = shape_of(alloc, script)?;
+    let rows = rows_of(alloc, &shape, &run.opening, events)?;
     let more = events.len().saturating_sub(rows.len());
+    let mut text = String::new(alloc);
     print_lanes(&mut text, rows.as_slice(), more)?;
     print_result(&mut text, &run.trace)?;
     Ok(text.into_bytes())
-}
-
-/// The world of a run has opened before, so only an allocation may fail.
-fn rows_in(
-    alloc: Global,
-    script: &Script,
-    run: &ScriptRun,
-    events: &[Event<u64>],
-) -> Result<Items<Row>, Memory>
-    ensures { IfOk result (AreRowsOf (world_in script.now run.now.opening) (first_of events.now)) }
-{
-    let shape = shape_of(alloc, script)?;
-    match rows_of(alloc, &shape, &run.opening, events) {
-        Ok(rows) => Ok(rows),
-        Err(_) => Err(Memory),
-    }
 }
 
 /// The rows as lanes, and how many events more there were.

@@ -63,7 +63,7 @@ fn width_of(count: usize) -> usize {
 pub fn push_times(text: &mut String, count: usize, piece: &str) -> Result<(), Memory>
     ensures { OnOk result (string_bytes text.new ≡ string_bytes text.old ++ times count piece.now) }
 {
-    for _piece in 0..count {
+    for _time in 0..count {
         text.push_str(piece)?;
     }
     Ok(())
@@ -152,7 +152,7 @@ impl Layout {
         let mut lane = 0;
         let mut left = self.actors.as_slice();
         while let Some((other, later)) = left.split_first() {
-            if *other >= actor {
+            if actor <= *other {
                 return lane;
             }
             lane += 1;

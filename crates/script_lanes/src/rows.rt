@@ -1,13 +1,12 @@
 //! The events of a run, each with what it did and what it answered.
-ghost use Rattle.std.specs.Prelude.{◌≡◌, ◌≢◌, IfErr, IfOk, length};
-ghost use Rattle.seq_model.specs.Refusals.{IsNoSuchOrTooLong};
+ghost use Rattle.std.specs.Prelude.{◌≡◌, IfOk};
 ghost use Rattle.step_world.specs.Feeds.{Feeds};
 ghost use Rattle.step_world.specs.Parts.{HasWorld};
-ghost use Rattle.world_table.specs.Openings.{IsWithin, world_of};
-ghost use Rattle.script_lanes.specs.Rows.{AreFed, AreRowsOf, first_of};
+ghost use Rattle.world_table.specs.Openings.{world_of};
+ghost use Rattle.script_lanes.specs.Rows.{AreFed, AreFedBy, AreRowsOf, first_of};
 
 use crate::deed::{Deed, deed_before};
-use seq_model::{Event, Items, Memory, Notice, Refusal, Shape, State};
+use seq_model::{Event, Items, Memory, Notice, Shape, State};
 use std::alloc::Global;
 use step_world::Parts;
 
@@ -22,22 +21,34 @@ pub struct Row {
     pub notice: Notice<u64>,
 }
 
-/// The rows of the first 1,000 of these events, in a world of this shape that opens on this state.
+/// The rows of the first 1,000 of these events, in a world of this shape that opens on this state, as it has opened before.
 ///
-/// Refused as `Parts::open`, and `Memory` where a growth was refused.
+/// `Memory` where a growth was refused.
 pub fn rows_of(
     alloc: Global,
     shape: &Shape,
     opening: &State<u64>,
     events: &[Event<u64>],
-) -> Result<Items<Row>, Refusal>
-    ensures rows { IfOk result (AreRowsOf (world_of shape.now.stripes shape.now.clock opening.now) (first_of events.now)) }
-    ensures refused { IfErr result (λ refusal. IsNoSuchOrTooLong refusal (length shape.now.stripes ≢ length opening.now.held)
-        (IsWithin shape.now.stripes shape.now.clock opening.now)) }
+) -> Result<Items<Row>, Memory>
+    ensures { IfOk result (AreRowsOf (world_of shape.now.stripes shape.now.clock opening.now) (first_of events.now)) }
 {
     let state = opening.try_copy(alloc)?;
-    let mut parts = Parts::open(alloc, shape, state)?;
-    let rows = rows_from(alloc, &mut parts, first_of(events))?;
+    match Parts::open(alloc, shape, state) {
+        Ok(parts) => rows_in(alloc, parts, first_of(events)),
+        Err(_) => Err(Memory),
+    }
+}
+
+fn rows_in(
+    alloc: Global,
+    parts: Parts<u64>,
+    events: &[Event<u64>],
+) -> Result<Items<Row>, Memory>
+    requires { HasWorld parts }
+    ensures { IfOk result (AreFedBy parts events.now) }
+{
+    let mut parts = parts;
+    let rows = rows_from(alloc, &mut parts, events)?;
     Ok(rows)
 }
 

@@ -3,5 +3,5 @@ use Rattle.std.specs.String.{string_bytes}
 use Rattle.script_lanes.specs.Lines.{times}
 use Rattle.script_lanes.proofs.layout.push_times.Given as goal
 
-abbrev pub invariant-loop-piece : goal.invariant-loop-piece
-invariant-loop-piece l = string_bytes l.text ≡ string_bytes l.fn.text ++ times l._piece l.piece
+abbrev pub invariant-loop-time : goal.invariant-loop-time
+invariant-loop-time l = string_bytes l.text ≡ string_bytes l.fn.text ++ times l._time l.piece
