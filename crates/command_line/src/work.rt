@@ -12,9 +12,9 @@ ghost use Rattle.seq_model.specs.declared.refusal.Refusal.TheVariants.{Memory as
 ghost use Rattle.session_text.specs.declared.fault.RunFault.TheVariants.{Refused};
 
 use client_sessions::Progress;
+use script_lanes::output_of_run;
 use seq_model::{Memory, Refusal};
 use served_runs::{Drawn, Times, print_drawn, print_times, print_times_as_values, run_drawn};
-use script_lanes::output_of_run;
 use session_text::{RunFault, audit_run, print_trace, run_script, run_script_with_events};
 use std::alloc::{AllocError, Global};
 use std::io::Read;

@@ -39,11 +39,7 @@ pub fn rows_of(
     }
 }
 
-fn rows_in(
-    alloc: Global,
-    parts: Parts<u64>,
-    events: &[Event<u64>],
-) -> Result<Items<Row>, Memory>
+fn rows_in(alloc: Global, parts: Parts<u64>, events: &[Event<u64>]) -> Result<Items<Row>, Memory>
     requires { HasWorld parts }
     ensures { IfOk result (AreFedBy parts events.now) }
 {
