@@ -5,13 +5,14 @@ use Rattle.std.specs.Str.{bytes_eq}
 use Rattle.clap.specs.Words.{App, IsAmong, Kinds, Row, Rule, Text, fault_of, first_of, kind_of, new_app, new_rule, subcommand_of, with_rule}
 use Rattle.clap.specs.Kinds.{or_else}
 use Rattle.clap.specs.Words.{with_subcommand}
-use Rattle.clap.specs.declared.builder.action.ArgAction.TheVariants.{Set}
+use Rattle.std.specs.Option.{option_map_or}
+use Rattle.clap.specs.declared.builder.action.ArgAction.TheVariants.{Set, SetTrue}
 use Rattle.clap.specs.declared.error.Error.{Error}
 use Rattle.clap.specs.declared.error.kind.ErrorKind.TheVariants as kind
 use Rattle.command_line.specs.declared.work.Task.{Task}
 use Rattle.command_line.specs.declared.work.Task.TheVariants.{OnDrawn, OnFile}
 use Rattle.command_line.specs.declared.work.Work.{Work}
-use Rattle.command_line.specs.declared.work.Work.TheVariants.{Explore, Served, Step, Vacation}
+use Rattle.command_line.specs.declared.work.Work.TheVariants.{Explore, Lanes, Served, Step, Vacation}
 use Rattle.command_line.specs.Bench.{bench_app, drawn_of, form_of, word_faults}
 use Rattle.command_line.specs.Numbers.{Numbered, number_of, rule_of_number}
 
@@ -22,12 +23,15 @@ file_rule = record (new_rule (codes "FILE")) { action = Some Set; required = tru
 abbrev pub workers : Numbered
 workers = record { name = codes "workers"; low = 0; high = 64 }
 
+-- `--lanes`
+abbrev pub lanes_rule : Rule
+lanes_rule = record (new_rule (codes "lanes")) { long = Some (codes "lanes"); action = Some SetTrue }
 -- `--most N`
 abbrev pub most : Numbered
 most = record { name = codes "most"; low = 1; high = 1000000000 }
 
 abbrev pub step_app : App
-step_app = with_rule (new_app (codes "step")) file_rule
+step_app = with_rule (with_rule (new_app (codes "step")) lanes_rule) file_rule
 
 abbrev pub explore_app : App
 explore_app = with_rule (with_rule (new_app (codes "explore")) (rule_of_number most (codes "100000"))) file_rule
@@ -69,12 +73,19 @@ AskForInformation words = IsAmong kind.DisplayHelp (faults words) ⊎ IsAmong ki
 abbrev pub vacation_work : ℕ → Work
 vacation_work n = if n == 0 then Vacation else Served n
 
+-- a script's run is printed as lanes, where that is asked for
+abbrev pub step_work_by : Text → Work
+step_work_by word = if bytes_eq word (codes "true") then Lanes else Step
+
+abbrev pub step_work : List Row → Work
+step_work rows = option_map_or step_work_by (first_of (codes "lanes") rows) Step
+
 -- the task of the subcommand of this name: of four, what is none of the last three is the first
 abbrev pub task_by : Text → List Row → Task
 task_by name rows =
     if bytes_eq name (codes "vacation") then OnFile (vacation_work (number_of workers rows))
     else (if bytes_eq name (codes "bench") then OnDrawn (drawn_of rows) (form_of rows)
-    else (if bytes_eq name (codes "explore") then OnFile (Explore (number_of most rows)) else OnFile Step))
+    else (if bytes_eq name (codes "explore") then OnFile (Explore (number_of most rows)) else OnFile (step_work rows)))
 
 abbrev pub task_of : Option (Text × List Row) → Task
 task_of None = OnFile Step

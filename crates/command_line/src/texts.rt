@@ -40,8 +40,13 @@ It prints each answer, the committed transactions, and what the words and collec
 docs/formats.md has all lines of a script; examples/first.steps, examples/words and examples/collections have
 scripts, beside what they print.
 
-Example:
-  proust_tool step examples/first.steps";
+Examples:
+  proust_tool step examples/first.steps
+  proust_tool step --lanes examples/words/write_skew.steps";
+
+pub(crate) const LANES: &str =
+    "Prints the events as lanes, an actor a column: what is asked, what each step does and finds, and what is
+answered. After 1000 events the number of the others stands there";
 
 pub(crate) const EXPLORE: &str =
     "Runs the transactions of a step script under every schedule, and says what they can answer";

@@ -7,7 +7,7 @@ ghost use Rattle.clap.specs.declared.builder.command.Command.TheViews.{out-Comma
 ghost use Rattle.command_line.specs.declared.work.Task.TheVariants.{OnFile};
 ghost use Rattle.command_line.specs.Ends.{IsDoable};
 ghost use Rattle.command_line.specs.Words.{explore_app, faults, file_word, named_file, not_dash, tool_app, step_app, vacation_app, file_rule, task_by};
-ghost use Rattle.command_line.specs.Words.{faults_of_forms, task_of, vacation_work};
+ghost use Rattle.command_line.specs.Words.{faults_of_forms, lanes_rule, step_work, step_work_by, task_of, vacation_work};
 ghost use Rattle.clap.specs.declared.error.kind.ErrorKind.TheVariants.{InvalidValue};
 
 use crate::bench::{bench_command, drawn_in, form_fault, form_in, unknown_form};
@@ -62,7 +62,19 @@ fn step_command<'a>(alloc: Global) -> Result<Command<'a>, AllocError>
     ensures app { IfOk result (λ command. app_of command ≡ step_app) }
     ensures local { IfOk result (λ command. (fields_of command).has_globals ≡ false) }
 {
-    explained(Command::new(alloc, "step"), texts::STEP, texts::STEP_ENDING).arg(file(alloc))
+    let named = explained(Command::new(alloc, "step"), texts::STEP, texts::STEP_ENDING);
+    let with_lanes = named.arg(lanes(alloc))?;
+    with_lanes.arg(file(alloc))
+}
+
+fn lanes<'a>(alloc: Global) -> Arg<'a>
+    ensures rule { rule_of result ≡ lanes_rule }
+    ensures local { result.global ≡ false }
+{
+    Arg::new(alloc, "lanes")
+        .long("lanes")
+        .help(texts::LANES)
+        .action(ArgAction::SetTrue)
 }
 
 fn explore_command<'a>(alloc: Global) -> Result<Command<'a>, AllocError>
@@ -162,7 +174,28 @@ fn task_of_words(name: &str, words: &ArgMatches<'_>) -> Task
     } else if name == "explore" {
         Task::OnFile(Work::Explore(number_in(words, MOST)))
     } else {
-        Task::OnFile(Work::Step)
+        Task::OnFile(work_on_script(words))
+    }
+}
+
+fn work_on_script(words: &ArgMatches<'_>) -> Work
+    ensures work { result ≡ step_work (rows_of (found_of words.now)) }
+    ensures doable { IsDoable (OnFile result) }
+{
+    match words.get_str("lanes") {
+        Some(word) => work_by_flag(word),
+        None => Work::Step,
+    }
+}
+
+fn work_by_flag(word: &str) -> Work
+    ensures work { result ≡ step_work_by word.now }
+    ensures doable { IsDoable (OnFile result) }
+{
+    if word == "true" {
+        Work::Lanes
+    } else {
+        Work::Step
     }
 }
 

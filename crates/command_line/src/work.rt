@@ -8,7 +8,7 @@ ghost use Rattle.served_runs.specs.Drawn.{IsDrawable, IsDrawnOutput};
 ghost use Rattle.served_runs.specs.Runs.{IsWantOfMemory};
 ghost use Rattle.command_line.specs.declared.work.Cause.TheVariants.{Ended};
 ghost use Rattle.command_line.specs.declared.work.Task.TheVariants.{OnFile};
-ghost use Rattle.command_line.specs.Ends.{AsksForTimes, IsAsked, IsCause, IsDoable, IsFault, IsFaultOf, IsKnownOutput, IsOnDrawn};
+ghost use Rattle.command_line.specs.Ends.{AsksForTimes, IsAsked, IsCause, IsDoable, IsFault, IsFaultOf, IsKnownOutput, IsLanesOutput, IsOnDrawn};
 ghost use Rattle.command_line.specs.Ends.{IsOutput, IsOutputOf, IsWithin};
 ghost use Rattle.seq_model.specs.declared.refusal.Refusal.TheVariants.{Memory as OutOfMemory};
 ghost use Rattle.session_text.specs.declared.fault.RunFault.TheVariants.{Refused};
@@ -17,7 +17,9 @@ use client_sessions::Progress;
 use interleavings::{ExploreProgress, explore};
 use seq_model::{Memory, Refusal};
 use served_runs::{Drawn, Times, print_drawn, print_times, print_times_as_values, run_drawn};
-use session_text::{RunFault, audit_run, print_trace, run_script};
+use session_text::{
+    RunFault, audit_run, print_lanes, print_trace, run_script, run_script_with_events,
+};
 use std::alloc::{AllocError, Global};
 use std::io::Read;
 use std::sync::Wait;
@@ -33,6 +35,8 @@ pub const FILE_LIMIT: usize = 16_777_216;
 pub(crate) enum Work {
     /// A step script is run.
     Step,
+    /// A step script is run, and printed as lanes.
+    Lanes,
     /// The requests of a step script are run under every schedule, with at most so many runs.
     Explore(u64),
     /// The sessions of a session file are run, one after another.
@@ -135,6 +139,7 @@ fn bytes_of<H: Threads + Wait + Sync, P: Progress + ExploreProgress + Sync>(
 {
     match work {
         Work::Step => step(alloc, text),
+        Work::Lanes => lanes(alloc, text),
         Work::Explore(most) => explored(alloc, text, most, progress),
         Work::Vacation => session_text::output_of(alloc, text, progress),
         Work::Served(workers) => served_runs::output_of(rt, alloc, text, workers, progress),
@@ -223,4 +228,15 @@ fn step(alloc: Global, text: &[u8]) -> Result<Vec<u8>, RunFault>
     let run = run_script(alloc, &script)?;
     audit_run(alloc, &run)?;
     Ok(print_trace(alloc, &run)?)
+}
+
+/// The same, printed as lanes.
+fn lanes(alloc: Global, text: &[u8]) -> Result<Vec<u8>, RunFault>
+    ensures output { IfOk result (λ bytes. IsLanesOutput text.now bytes.items) }
+    ensures refused { IfErr result (IsFault text.now) }
+{
+    let script = parse_steps(alloc, text)?;
+    let (made, events) = run_script_with_events(alloc, &script)?;
+    audit_run(alloc, &made)?;
+    Ok(print_lanes(alloc, &script, &made, events.as_slice())?)
 }

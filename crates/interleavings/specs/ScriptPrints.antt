@@ -2,26 +2,6 @@
 use Rattle.std.specs.Prelude.{◌==◌, ℕ, if◌then◌else◌, nat_lt, List, [], ◌∷◌, ◌++◌, codes, flat_map}
 use Rattle.std.specs.Fmt.{decimal}
 use Rattle.std.specs.FinMap as map
-use Rattle.seq_model.specs.declared.call.Op.{Op}
-use Rattle.seq_model.specs.declared.call.Op.TheVariants.{
-  Read,
-  Write,
-  Get,
-  Put,
-  Remove,
-  Len,
-  Count,
-  Add,
-  Take,
-  Least,
-  Insert,
-  TakeLeast,
-  Enqueue,
-  Dequeue,
-  Peek,
-}
-use Rattle.seq_model.specs.declared.event.Request.{Request}
-use Rattle.seq_model.specs.declared.event.Request.TheVariants as request
 use Rattle.seq_model.specs.declared.held.Held.{Held}
 use Rattle.seq_model.specs.declared.held.Held.TheVariants.{Map, Bag, Pq, Queue}
 use Rattle.text_formats.specs.declared.script.Collection.{Collection}
@@ -29,6 +9,7 @@ use Rattle.text_formats.specs.declared.script.EventLine.{EventLine}
 use Rattle.text_formats.specs.declared.script.EventLine.TheVariants.{Ask, Do, Steps, Starve, Alternate}
 use Rattle.text_formats.specs.declared.script.Script.{Script}
 use Rattle.text_formats.specs.declared.script.TheConstants.{STEP_LIMIT}
+use Rattle.session_text.specs.RequestPrints.{request_text}
 use Rattle.session_text.specs.TracePrints.{number_text, pair_text, words_text}
 
 -- ---- its header
@@ -47,35 +28,6 @@ abbrev pub collection_text : Collection → List ℕ
 collection_text c = contents_text c.stripes c.held ++ (10 ∷ [])
 
 -- ---- its events
-
-abbrev pub op_text : Op ℕ → List ℕ
-op_text (Get key) = codes "get " ++ decimal key
-op_text (Put key value) = codes "put " ++ (decimal key ++ (codes " " ++ decimal value))
-op_text (Remove key) = codes "remove " ++ decimal key
-op_text Len = codes "len"
-op_text (Count element) = codes "count " ++ decimal element
-op_text (Add element) = codes "add " ++ decimal element
-op_text (Take element) = codes "take " ++ decimal element
-op_text Least = codes "least"
-op_text (Insert element) = codes "insert " ++ decimal element
-op_text TakeLeast = codes "take_least"
-op_text (Enqueue item) = codes "enqueue " ++ decimal item
-op_text Dequeue = codes "dequeue"
-op_text Peek = codes "peek"
-op_text Read = []
-op_text (Write value) = []
-
-abbrev pub call_text : ℕ → Op ℕ → List ℕ
-call_text target Read = codes "read " ++ decimal target
-call_text target (Write value) = codes "write " ++ (decimal target ++ (codes " " ++ decimal value))
-call_text target op = codes "call " ++ (decimal target ++ (codes " " ++ op_text op))
-
-abbrev pub request_text : Request ℕ → List ℕ
-request_text request.Begin = codes "begin"
-request_text request.BeginRead = codes "begin_read"
-request_text request.Commit = codes "commit"
-request_text request.Abort = codes "abort"
-request_text (request.Call call) = call_text call.target call.op
 
 abbrev pub steps_text : ℕ → List ℕ
 steps_text n =

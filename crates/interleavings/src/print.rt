@@ -3,12 +3,11 @@ ghost use Rattle.std.specs.Prelude.{◌≡◌, ◌++◌, IfOk, OnOk, flat_map};
 ghost use Rattle.std.specs.String.{string_bytes};
 ghost use Rattle.interleavings.specs.Explorations.{complete_text, ending_text, exploration_text, outcome_count_text, outcome_text};
 ghost use Rattle.interleavings.specs.Explorations.{run_count_text, title_text, yes_or_no_text};
-ghost use Rattle.interleavings.specs.ScriptPrints.{call_text, clock_text, collection_text, contents_text, line_text, op_text, request_text};
-ghost use Rattle.interleavings.specs.ScriptPrints.{script_text, steps_text};
+ghost use Rattle.interleavings.specs.ScriptPrints.{clock_text, collection_text, contents_text, line_text, script_text, steps_text};
 
 use crate::outcomes::{Exploration, Outcome};
-use seq_model::{Call, Held, Memory, Op, Request};
-use session_text::{print_numbers, print_pairs, print_trace, print_words};
+use seq_model::{Held, Memory};
+use session_text::{print_numbers, print_pairs, print_request, print_trace, print_words};
 use std::alloc::Global;
 use std::fmt::Write;
 use text_formats::{Collection, EventLine, STEP_LIMIT, Script};
@@ -197,56 +196,6 @@ fn print_steps(text: &mut String, count: u64) -> Result<(), Memory>
         text.push_str(" go")?;
     } else {
         write!(text, " step {count}")?;
-    }
-    Ok(())
-}
-
-fn print_request(text: &mut String, request: &Request<u64>) -> Result<(), Memory>
-    ensures { OnOk result (string_bytes text.new ≡ string_bytes text.old ++ request_text request.now) }
-{
-    match request {
-        Request::Begin => text.push_str("begin")?,
-        Request::BeginRead => text.push_str("begin_read")?,
-        Request::Commit => text.push_str("commit")?,
-        Request::Abort => text.push_str("abort")?,
-        Request::Call(call) => print_call(text, call)?,
-    }
-    Ok(())
-}
-
-fn print_call(text: &mut String, call: &Call<u64>) -> Result<(), Memory>
-    ensures { OnOk result (string_bytes text.new ≡ string_bytes text.old ++ call_text call.now.target call.now.op) }
-{
-    let target = call.target;
-    match &call.op {
-        Op::Read => write!(text, "read {target}")?,
-        Op::Write(value) => write!(text, "write {target} {value}")?,
-        op => {
-            write!(text, "call {target} ")?;
-            print_op(text, op)?;
-        }
-    }
-    Ok(())
-}
-
-fn print_op(text: &mut String, op: &Op<u64>) -> Result<(), Memory>
-    ensures { OnOk result (string_bytes text.new ≡ string_bytes text.old ++ op_text op.now) }
-{
-    match op {
-        Op::Get(key) => write!(text, "get {key}")?,
-        Op::Put(key, value) => write!(text, "put {key} {value}")?,
-        Op::Remove(key) => write!(text, "remove {key}")?,
-        Op::Len => text.push_str("len")?,
-        Op::Count(element) => write!(text, "count {element}")?,
-        Op::Add(element) => write!(text, "add {element}")?,
-        Op::Take(element) => write!(text, "take {element}")?,
-        Op::Least => text.push_str("least")?,
-        Op::Insert(element) => write!(text, "insert {element}")?,
-        Op::TakeLeast => text.push_str("take_least")?,
-        Op::Enqueue(item) => write!(text, "enqueue {item}")?,
-        Op::Dequeue => text.push_str("dequeue")?,
-        Op::Peek => text.push_str("peek")?,
-        Op::Read | Op::Write(_) => {}
     }
     Ok(())
 }

@@ -7,8 +7,9 @@ use crate::actors::Actors;
 use crate::course::Course;
 use crate::opening::{feed, open};
 use crate::programs::Program;
-use crate::touches::{Touch, has_step, is_waiting, touch_of};
+use crate::touches::{are_apart, is_waiting};
 use seq_model::{Event, Memory, Notice, Refusal};
+use session_text::{Deed, deed_of};
 use std::alloc::Global;
 use step_world::Parts;
 use text_formats::{EventLine, Script};
@@ -54,7 +55,7 @@ impl<'a> Walk<'a> {
     pub(crate) fn ready(&self) -> Actors {
         let mut ready = Actors::none();
         for place in 0..self.course.actor_count() {
-            if has_step(&self.parts, self.course.actor(place)) {
+            if !matches!(self.deed(place), Deed::Nothing) {
                 ready.add(place);
             }
         }
@@ -63,18 +64,19 @@ impl<'a> Walk<'a> {
 
     /// Those of these actors whose next step is apart from that of the actor at this place.
     pub(crate) fn apart_from(&self, place: usize, actors: &Actors) -> Actors {
-        let touch = self.touch(place);
+        let deed = self.deed(place);
         let mut apart = Actors::none();
         for other in 0..self.course.actor_count() {
-            if other != place && actors.has(other) && touch.is_apart(self.touch(other)) {
+            if other != place && actors.has(other) && are_apart(deed, self.deed(other)) {
                 apart.add(other);
             }
         }
         apart
     }
 
-    fn touch(&self, place: usize) -> Touch {
-        touch_of(&self.parts, self.course.actor(place))
+    /// What the next step of the actor at this place is going to do.
+    fn deed(&self, place: usize) -> Deed {
+        deed_of(&self.parts, self.course.actor(place))
     }
 
     /// The next step of the actor at this place; all its tries of a gate that another holds.
@@ -82,13 +84,12 @@ impl<'a> Walk<'a> {
         requires { HasWorld self.old.parts }
         ensures { OnOk result (HasWorld self.new.parts) }
     {
-        let actor = self.course.actor(place);
-        if !is_waiting(&self.parts, actor) {
+        if !is_waiting(self.deed(place)) {
             return self.step(place);
         }
         for _try in 0..TRIES {
             self.step(place)?;
-            if !is_waiting(&self.parts, actor) {
+            if !is_waiting(self.deed(place)) {
                 return Ok(());
             }
         }

@@ -18,10 +18,23 @@ const ROOM: usize = 65_536;
 /// How often a line is printed that comes so often, at most.
 const TIMES: u64 = 99;
 
+/// How many lines of an end are shown.
+const LAST: usize = 3;
+
+/// What is shown of what a run printed.
+#[derive(Clone, Copy)]
+enum Shown {
+    All,
+    /// All, but how many sessions were missed.
+    Raced,
+    /// The last lines.
+    End,
+}
+
 /// The sections, each by its name and what came of it. What is made of one stands at the end of its name.
 ///
 /// - After ` | ` stand the words by which the program is run over the text, and `step -` where nothing stands there. With ` > full` it
-///   writes to what takes nothing; with ` > races`, where workers race for the same items, how many sessions were missed isn't shown. What
+///   writes to what takes nothing; with ` > end` only the last three lines are shown; with ` > races`, where workers race for the same items, how many sessions were missed isn't shown. What
 ///   it printed is shown, a line that came more than 99 times with its number; then its fault, its status where that is not 0, and of what
 ///   a run took the first word and the last line, or the names of its values. In the text `\xff` is a byte, and a line after
 ///   `\times 9 ` stands so many times; a text that ends with `\fails` can't be read further, and one with `\endless` has no end.
@@ -131,7 +144,7 @@ fn run_words<H: Threads + Wait + Clock + Sync>(
     let alloc = *text.allocator();
     let (_, asked) = name.split_once(" |").unwrap_or((name, "step -"));
     let (asked, is_full) = without(asked, " > full");
-    let (asked, races) = without(asked, " > races");
+    let (asked, shown) = shown_of(asked);
     let (file, end) = ending_of(file);
     let words = words_of(alloc, asked)?;
     let bytes = bytes_of(alloc, file)?;
@@ -140,7 +153,17 @@ fn run_words<H: Threads + Wait + Clock + Sync>(
         rest: bytes.as_slice(),
         end,
     };
-    run_over(rt, text, words.as_slice(), &mut input, &mut out, races)
+    run_over(rt, text, words.as_slice(), &mut input, &mut out, shown)
+}
+
+fn shown_of(asked: &str) -> (&str, Shown) {
+    if let (asked, true) = without(asked, " > races") {
+        return (asked, Shown::Raced);
+    }
+    match without(asked, " > end") {
+        (asked, true) => (asked, Shown::End),
+        (asked, false) => (asked, Shown::All),
+    }
 }
 
 // The words without this ending, and whether they have it.
@@ -162,7 +185,7 @@ fn run_over<H: Threads + Wait + Clock + Sync>(
     words: &[String],
     input: &mut Input<'_>,
     out: &mut Output,
-    races: bool,
+    shown: Shown,
 ) -> Result<(), AllocError> {
     let alloc = *text.allocator();
     let mut err = output(alloc, false)?;
@@ -170,16 +193,36 @@ fn run_over<H: Threads + Wait + Clock + Sync>(
     if status == MEMORY {
         return Err(AllocError);
     }
-    print_output(text, text_of(out.bytes.as_slice()), races)?;
+    print_output(text, text_of(out.bytes.as_slice()), shown)?;
     print_end(text, status, err.bytes.as_slice())
 }
 
-fn print_output(text: &mut String, lines: &str, races: bool) -> Result<(), AllocError> {
-    if races {
-        print_raced(text, lines)
-    } else {
-        print_lines(text, lines)
+fn print_output(text: &mut String, lines: &str, shown: Shown) -> Result<(), AllocError> {
+    match shown {
+        Shown::All => print_lines(text, lines),
+        Shown::Raced => print_raced(text, lines),
+        Shown::End => print_last(text, lines),
     }
+}
+
+fn print_last(text: &mut String, lines: &str) -> Result<(), AllocError> {
+    let count = count_of(lines);
+    let mut place = 0usize;
+    for line in lines.split_inclusive('\n') {
+        if place.saturating_add(LAST) >= count {
+            text.push_str(line)?;
+        }
+        place = place.saturating_add(1);
+    }
+    Ok(())
+}
+
+fn count_of(lines: &str) -> usize {
+    let mut count = 0usize;
+    for _line in lines.split_inclusive('\n') {
+        count = count.saturating_add(1);
+    }
+    count
 }
 
 fn print_raced(text: &mut String, lines: &str) -> Result<(), AllocError> {
