@@ -26,6 +26,7 @@ workers = record { name = codes "workers"; low = 0; high = 64 }
 -- `--lanes`
 abbrev pub lanes_rule : Rule
 lanes_rule = record (new_rule (codes "lanes")) { long = Some (codes "lanes"); action = Some SetTrue }
+
 -- `--most N`
 abbrev pub most : Numbered
 most = record { name = codes "most"; low = 1; high = 1000000000 }

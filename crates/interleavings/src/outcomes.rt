@@ -12,7 +12,6 @@ use std::alloc::Global;
 use text_formats::{Collection, EventLine, Script};
 
 /// An outcome.
-#[derive(Drop)]
 pub struct Outcome {
     /// The shortest script that was run and has led to it.
     pub script: Script,
@@ -24,8 +23,18 @@ pub struct Outcome {
     pub count: u64,
 }
 
+impl Drop for Outcome {
+    fn drop(self) {
+        let Outcome {
+            script: _,
+            run: _,
+            key: _,
+            count: _,
+        } = self;
+    }
+}
+
 /// What was found.
-#[derive(Drop)]
 pub struct Exploration {
     /// The outcomes, as they were found.
     pub outcomes: Vec<Outcome>,
@@ -33,6 +42,16 @@ pub struct Exploration {
     pub interleavings: u64,
     /// Whether no run was left to make.
     pub is_complete: bool,
+}
+
+impl Drop for Exploration {
+    fn drop(self) {
+        let Exploration {
+            outcomes: _,
+            interleavings: _,
+            is_complete: _,
+        } = self;
+    }
 }
 
 impl Exploration {

@@ -20,11 +20,20 @@ enum Phase {
 
 /// The requests of an actor, in their order. They begin a transaction, make calls in it and end it, one after another; the last may be
 /// left open.
-#[derive(Drop)]
 pub(crate) struct Program {
     pub actor: u32,
     pub requests: Vec<Request<u64>>,
     phase: Phase,
+}
+
+impl Drop for Program {
+    fn drop(self) {
+        let Program {
+            actor: _,
+            requests: _,
+            phase: _,
+        } = self;
+    }
 }
 
 /// The programs of a script's actors, in the order in which they first ask.

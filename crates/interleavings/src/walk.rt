@@ -18,10 +18,18 @@ use text_formats::{EventLine, Script};
 const TRIES: u64 = 64;
 
 /// A run under way.
-#[derive(Drop)]
 pub(crate) struct Walk<'a> {
     parts: Parts<u64>,
     course: Course<'a>,
+}
+
+impl<'a> Drop for Walk<'a> {
+    fn drop(self) {
+        let Walk {
+            parts: _,
+            course: _,
+        } = self;
+    }
 }
 
 impl<'a> Walk<'a> {

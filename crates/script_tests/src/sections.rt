@@ -1,4 +1,5 @@
 //! The sections, and what is made of each.
+use crate::explorations::{print_beside_all, print_replayed};
 use crate::files::{Input, Output, bytes_of, ending_of};
 use crate::laid_out::print_laid_out;
 use crate::reading::print_script;
@@ -6,6 +7,7 @@ use crate::times::{print_missed, print_paces};
 use crate::worlds::print_worlds;
 use command_line::{DONE, MEMORY, file_of, run_tool};
 use seq_model::{Memory, Refusal};
+use session_text::RunFault;
 use std::alloc::{AllocError, Global};
 use std::fmt::Write;
 use std::sync::Wait;
@@ -34,10 +36,13 @@ enum Shown {
 /// The sections, each by its name and what came of it. What is made of one stands at the end of its name.
 ///
 /// - After ` | ` stand the words by which the program is run over the text, and `step -` where nothing stands there. With ` > full` it
-///   writes to what takes nothing; with ` > end` only the last three lines are shown; with ` > races`, where workers race for the same items, how many sessions were missed isn't shown. What
-///   it printed is shown, a line that came more than 99 times with its number; then its fault, its status where that is not 0, and of what
-///   a run took the first word and the last line, or the names of its values. In the text `\xff` is a byte, and a line after
-///   `\times 9 ` stands so many times; a text that ends with `\fails` can't be read further, and one with `\endless` has no end.
+///   writes to what takes nothing; with ` > end` only the last three lines are shown; with ` > races`, where workers race for the same
+///   items, how many sessions were missed isn't shown. What it printed is shown, a line that came more than 99 times with its number; then
+///   its fault, its status where that is not 0, and of what a run took the first word and the last line, or the names of its values. In
+///   the text `\xff` is a byte, and a line after `\times 9 ` stands so many times; a text that ends with `\fails` can't be read further,
+///   and one with `\endless` has no end.
+/// - ` = replayed`: the script is explored, and of each outcome the script beside it is run.
+/// - ` = schedules`: the script is explored, and once more under all schedules.
 /// - ` = script`: the text is a script, of which each line is printed as it was read.
 /// - ` = world`: the text is a script, whose events are fed to a world, as `worlds` reads it. What came of them is printed.
 /// - ` = trace`: the text lays out a trace, line by line, as `laid_out` reads it. What is printed of it is shown.
@@ -91,6 +96,14 @@ fn run_section<H: Threads + Wait + Clock + Sync>(
             let outcome = print_laid_out(text, file);
             told(text, outcome)
         }
+        Some((_, "replayed")) => {
+            let outcome = print_replayed(text, file);
+            told_fault(text, outcome)
+        }
+        Some((_, "schedules")) => {
+            let outcome = print_beside_all(text, file);
+            told_fault(text, outcome)
+        }
         Some((_, "files")) => print_files(text, file),
         Some((_, "times")) => print_missed(text),
         Some((_, "paces")) => print_paces(text),
@@ -104,6 +117,14 @@ fn told(text: &mut String, outcome: Result<(), Refusal>) -> Result<(), AllocErro
         Ok(()) => Ok(()),
         Err(Refusal::Memory) => Err(AllocError),
         Err(refusal) => writeln!(text, "refused: {refusal}"),
+    }
+}
+
+fn told_fault(text: &mut String, outcome: Result<(), RunFault>) -> Result<(), AllocError> {
+    match outcome {
+        Ok(()) => Ok(()),
+        Err(RunFault::Refused(refusal)) => told(text, Err(refusal)),
+        Err(fault) => writeln!(text, "fault: {fault}"),
     }
 }
 

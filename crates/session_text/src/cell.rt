@@ -4,10 +4,10 @@ ghost use Rattle.std.specs.String.{string_bytes};
 ghost use Rattle.session_text.specs.Cells.{answered_text, at_text, deed_text, event_text, gate_text, lock_text};
 
 use crate::deed::Deed;
-use crate::rows::Row;
-use crate::request_print::print_request;
-use seq_model::{Event, Memory, Notice};
 use crate::print::print_answer;
+use crate::request_print::print_request;
+use crate::rows::Row;
+use seq_model::{Event, Memory, Notice};
 use std::fmt::Write;
 
 /// What is asked, or what a step does and finds.

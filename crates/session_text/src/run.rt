@@ -19,12 +19,21 @@ use step_world::{Trace, World};
 use text_formats::{EventLine, STEP_LIMIT, Script};
 
 /// The result of a script.
-#[derive(Drop)]
 pub struct ScriptRun {
     /// The notices other than `Quiet`, in their order.
     pub notices: Items<Notice<u64>>,
     pub opening: State<u64>,
     pub trace: Trace<u64>,
+}
+
+impl Drop for ScriptRun {
+    fn drop(self) {
+        let ScriptRun {
+            notices: _,
+            opening: _,
+            trace: _,
+        } = self;
+    }
 }
 
 /// Opens the script's world, and feeds it the script's events.
