@@ -26,7 +26,15 @@ rows_on layout all number row left later then new whole at is told has =
     ∙ ap (λ (k : ℕ). then ++ (row_text layout k row ++ rows_text layout all later)) is
     ∙ ap (λ (rows : List Row). then ++ rows_text layout all rows) (sym at) ∙ has
 
-pub rows_end : (layout : Layout) (all : ℕ) (left : List Row) (then whole : List ℕ) → left ≡ [] → then ++ rows_text layout all left ≡ whole
-    → then ≡ whole
-rows_end layout all left then whole none has =
-    sym (append-nil then) ∙ ap (λ (rows : List Row). then ++ rows_text layout all rows) (sym none) ∙ has
+-- no row is left
+pub rows_end : (layout : Layout) (all : ℕ) (left : List Row) (then whole : List ℕ) → length left ≡ 0
+    → then ++ rows_text layout all left ≡ whole → then ≡ whole
+rows_end layout all [] then whole none has = sym (append-nil then) ∙ has
+rows_end layout all (row ∷ rows) then whole none has = cc
+
+-- the head, the rows and what is left out, one after another
+pub drawn : (first second third last head rows more : List ℕ) → second ≡ first ++ head → third ≡ second ++ rows → last ≡ third ++ more
+    → last ≡ first ++ (head ++ (rows ++ more))
+drawn first second third last head rows more one two three =
+    three ∙ ap (λ (z : List ℕ). z ++ more) two ∙ ap (λ (z : List ℕ). (z ++ rows) ++ more) one
+    ∙ append_assoc (first ++ head) rows more ∙ append_assoc first head (rows ++ more)

@@ -43,7 +43,8 @@ fn print_drawn(text: &mut String, rows: &[Row], more: usize) -> Result<(), Memor
     let layout = layout_of(*text.allocator(), rows)?;
     layout.print_head(text)?;
     print_rows(text, &layout, rows)?;
-    print_more(text, more)
+    print_more(text, more)?;
+    Ok(())
 }
 
 fn print_more(text: &mut String, more: usize) -> Result<(), Memory>

@@ -9,7 +9,7 @@ returns-clause-output g c = record {
   actions = c.in_ok-tables.actions.items;
   run = c.in_ok-run.run';
   spelled = c.in_ok-tables.ensures.sessions;
-  made = subst (λ (actions : List Action). IsSessionRun c.in_ok-tables.tables actions c.in_ok-run.run') c.as_slice.ensures
+  made = subst (λ (actions : List Action). IsSessionRun c.in_ok-tables.tables actions c.in_ok-run.run') c.as_slice.ensures.value
       c.in_ok-run.ensures.run;
   written = c.in_ok-text_of.ensures;
 }

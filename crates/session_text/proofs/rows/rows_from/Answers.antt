@@ -6,7 +6,7 @@ use Rattle.session_text.proofs.RowLemmas.{fed_item, fed_none}
 use Rattle.session_text.proofs.rows.rows_from.Goals as goal
 
 pub loop-event-init : goal.loop-event-init
-loop-event-init c = rw c.new.ensures (record { fed = fed_none c.args.parts.now; world = c.requires })
+loop-event-init c = rw c.new-rows.ensures (record { fed = fed_none c.args.parts.now; world = c.requires })
 
 pub loop-event-preserved : goal.loop-event-preserved
 loop-event-preserved c =
