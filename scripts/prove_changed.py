@@ -130,7 +130,8 @@ class Run:
             if idle <= 0 or self.running and memory < BYTES_TO_LEAVE:
                 return
             memory -= BYTES_FOR_ONE
-            jobs = max(1, min(4, idle // (len(ready) - at)))
+            # the row of crates that all others wait for gets most of what is idle
+            jobs = min(3, idle) if at == 0 else max(1, min(4, idle // (len(ready) - at)))
             self.left.remove(it)
             self.running[it.name] = jobs
             threading.Thread(target=self.prove, args=(it, jobs), daemon=True).start()

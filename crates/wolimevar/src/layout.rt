@@ -33,7 +33,12 @@ pub struct Layout<V> {
 
 impl<V: Drop> Drop for Layout<V> {
     fn drop(self) {
-        let Layout { alloc: _, store: _, words: _, collections: _ } = self;
+        let Layout {
+            alloc: _,
+            store: _,
+            words: _,
+            collections: _,
+        } = self;
     }
 }
 
