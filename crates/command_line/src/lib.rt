@@ -15,6 +15,7 @@ mod words;
 mod work;
 
 pub use client_sessions::{NoProgress, Progress};
+pub use interleavings::{ExploreProgress, Speed};
 pub use served_runs::Pace;
 pub use tool::{
     AUDIT_FAULT, DONE, MEMORY, REFUSED, fault, refuse_memory, run_file, run_tool, run_tool_with,
