@@ -1,9 +1,7 @@
 //! What a step does.
 use actor_parts::{Blocks, Next};
-use seq_model::Event;
 use step_core::{Actor, Cells, Place};
 use step_world::Parts;
-use tx_actor::TxActor;
 
 /// What a step does, and what it finds. A lock word stands as it is: twice the version, and one more where it is locked.
 #[derive(Clone, Copy, Debug)]
@@ -38,47 +36,23 @@ pub enum Deed {
     PutGate(u32),
 }
 
-/// What the event is going to do, where it is a step.
-pub(crate) fn deed_before(parts: &Parts<u64>, event: &Event<u64>) -> Deed {
-    match event {
-        Event::Step(actor) => deed_of(parts, *actor),
-        Event::Ask(_, _) | Event::Starve(_) => Deed::Nothing,
-    }
-}
-
 /// What the next step of the actor of this number is going to do.
 pub fn deed_of(parts: &Parts<u64>, actor: u32) -> Deed {
-    match running(parts, actor) {
-        Some(running) => next_deed(parts, running),
-        None => Deed::Nothing,
-    }
-}
-
-fn running(parts: &Parts<u64>, actor: u32) -> Option<&TxActor<u64>> {
-    let place = actor.checked_sub(1)?;
-    parts.actors.get(place as usize)
-}
-
-fn next_deed(parts: &Parts<u64>, running: &TxActor<u64>) -> Deed {
+    let place = (actor as usize).wrapping_sub(1);
+    let Some(running) = parts.actors.get(place) else {
+        return Deed::Nothing;
+    };
     match running.next() {
         Next::Nothing => Deed::Nothing,
         Next::Word => word_deed(&parts.table.cells, &parts.blocks, &running.words),
         Next::FirstStore => store_deed(&parts.blocks, &running.words, 0),
-        Next::TryGate(collection) => Deed::TryGate(collection, holder(parts, collection)),
+        Next::TryGate(collection) => {
+            let holder = parts.table.gates.get(collection as usize);
+            Deed::TryGate(collection, holder.copied().unwrap_or(0))
+        }
         Next::Copy(collection) => Deed::CopyAtGate(collection),
         Next::GoHome(collection) => Deed::ChangeAtGate(collection),
         Next::PutGate(collection) => Deed::PutGate(collection),
-    }
-}
-
-fn holder(parts: &Parts<u64>, collection: u32) -> u32 {
-    number_at(parts.table.gates.get(collection as usize))
-}
-
-fn number_at(found: Option<&u32>) -> u32 {
-    match found {
-        Some(number) => *number,
-        None => 0,
     }
 }
 
@@ -91,21 +65,23 @@ fn word_deed(cells: &Cells, blocks: &Blocks, actor: &Actor) -> Deed {
             Some(entry) => lock_load(cells, entry.0),
             None => Deed::AddClock(cells.clock),
         },
-        Place::Take(location, version, _) => take_deed(cells, location, version),
-        Place::Check(i) => check_deed(cells, actor, i),
+        Place::Take(location, version, _) => {
+            let word = word_at(&cells.locks, location);
+            Deed::TakeLock(location, word, word == version.saturating_mul(2))
+        }
+        Place::Check(i) => match actor.reads.in_order().get(i) {
+            Some(entry) => lock_load(cells, entry.0),
+            None => Deed::Nothing,
+        },
         Place::First => store_deed(blocks, actor, 0),
         Place::Store(i) => store_deed(blocks, actor, i),
-        Place::Release => release_deed(actor),
-        Place::Undo => undo_deed(actor),
+        Place::Release | Place::Undo => unlock_deed(actor),
         Place::Idle | Place::Open | Place::Broken => Deed::Nothing,
     }
 }
 
 fn word_at(words: &[u64], location: u32) -> u64 {
-    match words.get(location as usize) {
-        Some(word) => *word,
-        None => 0,
-    }
+    words.get(location as usize).copied().unwrap_or(0)
 }
 
 fn lock_load(cells: &Cells, location: u32) -> Deed {
@@ -120,42 +96,24 @@ fn value_load(cells: &Cells, blocks: &Blocks, location: u32) -> Deed {
     }
 }
 
-fn take_deed(cells: &Cells, location: u32, version: u64) -> Deed {
-    let word = word_at(&cells.locks, location);
-    Deed::TakeLock(location, word, word == version.saturating_mul(2))
-}
-
-fn check_deed(cells: &Cells, actor: &Actor, i: usize) -> Deed {
-    match actor.reads.in_order().get(i) {
-        Some(entry) => lock_load(cells, entry.0),
-        None => Deed::Nothing,
-    }
-}
-
 fn store_deed(blocks: &Blocks, actor: &Actor, i: usize) -> Deed {
-    match actor.writes.in_order().get(i) {
-        Some(entry) => value_store(blocks, entry.0, entry.1),
-        None => Deed::Nothing,
+    let Some(entry) = actor.writes.in_order().get(i) else {
+        return Deed::Nothing;
+    };
+    match blocks.home_of(entry.0) {
+        Some(_) => Deed::StoreEdition(entry.0, entry.1),
+        None => Deed::StoreWord(entry.0, entry.1),
     }
 }
 
-fn value_store(blocks: &Blocks, location: u32, value: u64) -> Deed {
-    match blocks.home_of(location) {
-        Some(_) => Deed::StoreEdition(location, value),
-        None => Deed::StoreWord(location, value),
-    }
-}
-
-fn release_deed(actor: &Actor) -> Deed {
-    match actor.held.front() {
-        Some(entry) => Deed::StoreLock(entry.0, actor.wv.saturating_mul(2)),
-        None => Deed::Nothing,
-    }
-}
-
-fn undo_deed(actor: &Actor) -> Deed {
-    match actor.held.front() {
-        Some(entry) => Deed::StoreLock(entry.0, entry.1.saturating_mul(2)),
-        None => Deed::Nothing,
-    }
+/// The first lock that is held gets the commit's number, or the version that it had.
+fn unlock_deed(actor: &Actor) -> Deed {
+    let Some(entry) = actor.held.front() else {
+        return Deed::Nothing;
+    };
+    let version = match actor.place {
+        Place::Release => actor.wv,
+        _ => entry.1,
+    };
+    Deed::StoreLock(entry.0, version.saturating_mul(2))
 }

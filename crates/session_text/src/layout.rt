@@ -32,24 +32,17 @@ pub(crate) struct Layout {
 
 /// A lane for each actor of an event of these rows.
 pub(crate) fn layout_of(alloc: Global, rows: &[Row]) -> Result<Layout, Memory> {
-    let actors = actors_in(alloc, rows)?;
-    let width = width_of(actors.len());
-    Ok(Layout { actors, width })
-}
-
-fn actors_in(alloc: Global, rows: &[Row]) -> Result<Vec<u32>, Memory> {
     let mut actors = Vec::new(alloc);
     for actor in 1..=ACTOR_LIMIT as u32 {
         if rows.iter().any(|row| whose(&row.event) == actor) {
             actors.push(actor)?;
         }
     }
-    Ok(actors)
-}
-
-fn width_of(count: usize) -> usize {
-    let width = ROOM / count.max(1);
-    width.max(NARROWEST).min(WIDEST)
+    let width = ROOM / actors.len().max(1);
+    Ok(Layout {
+        actors,
+        width: width.max(NARROWEST).min(WIDEST),
+    })
 }
 
 pub(crate) fn push_times(text: &mut String, count: usize, piece: &str) -> Result<(), Memory>

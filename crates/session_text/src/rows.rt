@@ -5,7 +5,7 @@ ghost use Rattle.step_world.specs.Parts.{HasWorld};
 ghost use Rattle.world_table.specs.Openings.{world_of};
 ghost use Rattle.session_text.specs.Rows.{AreFed, AreFedBy, AreRowsOf, first_of};
 
-use crate::deed::{Deed, deed_before};
+use crate::deed::{Deed, deed_of};
 use seq_model::{Event, Items, Memory, Notice, Shape, State};
 use std::alloc::Global;
 use step_world::Parts;
@@ -79,7 +79,10 @@ fn row_of(parts: &mut Parts<u64>, event: &Event<u64>) -> Result<Row, Memory>
     ensures event { IfOk result (λ row. row.event ≡ event.now) }
     ensures feeds { IfOk result (λ row. Feeds parts.old event.now parts.new row.notice) }
 {
-    let deed = deed_before(parts, event);
+    let deed = match event {
+        Event::Step(actor) => deed_of(parts, *actor),
+        Event::Ask(_, _) | Event::Starve(_) => Deed::Nothing,
+    };
     let kept = event.try_copy()?;
     let notice = parts.feed(event.try_copy()?)?;
     Ok(Row {
