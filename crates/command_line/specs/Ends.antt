@@ -22,8 +22,8 @@ use Rattle.session_text.specs.Outputs as outputs
 use Rattle.session_text.specs.LaneOutputs.{IsLanesOf}
 use Rattle.interleavings.specs.Explorations.{IsExplored}
 use Rattle.interleavings.specs.Faults.{IsTextFault}
-use Rattle.served_runs.specs.Drawn.{IsDrawable, IsDrawnOutput}
-use Rattle.served_runs.specs.Runs.{IsServedOutput, IsWantOfMemory}
+use Rattle.command_line.specs.Drawn.{IsDrawable, IsDrawnOutput}
+use Rattle.command_line.specs.Runs.{IsServedOutput, IsWantOfMemory}
 use Rattle.command_line.specs.declared.tool.TheConstants.{AUDIT_FAULT, MEMORY, REFUSED}
 use Rattle.command_line.specs.declared.work.TheConstants.{FILE_LIMIT}
 use Rattle.command_line.specs.declared.work.Cause.{Cause}

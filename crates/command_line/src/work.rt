@@ -4,8 +4,8 @@ ghost use Rattle.std.specs.String.{string_bytes};
 ghost use Rattle.std.specs.Vec.{vec_len};
 ghost use Rattle.interleavings.specs.Explorations.{IsExplored};
 ghost use Rattle.interleavings.specs.Faults.{IsTextFault};
-ghost use Rattle.served_runs.specs.Drawn.{IsDrawable, IsDrawnOutput};
-ghost use Rattle.served_runs.specs.Runs.{IsWantOfMemory};
+ghost use Rattle.command_line.specs.Drawn.{IsDrawable, IsDrawnOutput};
+ghost use Rattle.command_line.specs.Runs.{IsWantOfMemory};
 ghost use Rattle.command_line.specs.declared.work.Cause.TheVariants.{Ended};
 ghost use Rattle.command_line.specs.declared.work.Task.TheVariants.{OnFile};
 ghost use Rattle.command_line.specs.Ends.{AsksForTimes, IsAsked, IsCause, IsDoable, IsFault, IsFaultOf, IsKnownOutput, IsLanesOutput, IsOnDrawn};
@@ -13,10 +13,12 @@ ghost use Rattle.command_line.specs.Ends.{IsOutput, IsOutputOf, IsWithin};
 ghost use Rattle.seq_model.specs.declared.refusal.Refusal.TheVariants.{Memory as OutOfMemory};
 ghost use Rattle.session_text.specs.declared.fault.RunFault.TheVariants.{Refused};
 
+use crate::drawn::{Drawn, print_drawn, run_drawn};
+use crate::file;
+use crate::tally::{Times, print_times, print_times_as_values};
 use client_sessions::Progress;
 use interleavings::{ExploreProgress, explore};
 use seq_model::{Memory, Refusal};
-use served_runs::{Drawn, Times, print_drawn, print_times, print_times_as_values, run_drawn};
 use session_text::{
     RunFault, audit_run, print_lanes, print_trace, run_script, run_script_with_events,
 };
@@ -142,7 +144,7 @@ fn bytes_of<H: Threads + Wait + Sync, P: Progress + ExploreProgress + Sync>(
         Work::Lanes => lanes(alloc, text),
         Work::Explore(most) => explored(alloc, text, most, progress),
         Work::Vacation => session_text::output_of(alloc, text, progress),
-        Work::Served(workers) => served_runs::output_of(rt, alloc, text, workers, progress),
+        Work::Served(workers) => file::output_of(rt, alloc, text, workers, progress),
     }
 }
 

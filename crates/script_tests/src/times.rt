@@ -1,7 +1,6 @@
 //! What is printed of the times of a run, and of how far one has come.
-use command_line::Speed;
+use command_line::{Pace, Speed, Times, print_times, print_times_as_values};
 use seq_model::Memory;
-use served_runs::{Pace, Times, print_times, print_times_as_values};
 use std::alloc::{AllocError, Global};
 use std::fmt::Write;
 use std::time::Duration;
