@@ -86,21 +86,17 @@ fn add_request(
     if programs.len() >= ACTOR_LIMIT {
         return Ok(false);
     }
-    let mut program = Program::new(*programs.allocator(), actor);
+    let mut program = Program {
+        actor,
+        requests: Vec::new(*programs.allocator()),
+        phase: Phase::Outside,
+    };
     let fits = program.add(script, request)?;
     programs.push(program)?;
     Ok(fits)
 }
 
 impl Program {
-    fn new(alloc: Global, actor: u32) -> Program {
-        Program {
-            actor,
-            requests: Vec::new(alloc),
-            phase: Phase::Outside,
-        }
-    }
-
     /// Whether it has an answer where it stands; then it is added.
     fn add(&mut self, script: &Script, request: &Request<u64>) -> Result<bool, Memory> {
         let Some(phase) = phase_after(self.phase, script, request) else {

@@ -12,17 +12,11 @@ enum Object {
     Gate(u32),
 }
 
-/// What a step touches, and whether it may change it.
-#[derive(Clone, Copy)]
-struct Touch {
-    object: Object,
-    changes: bool,
-}
-
 /// Whether two steps that do this leave the same in either order.
 pub(crate) fn are_apart(first: Deed, second: Deed) -> bool {
-    let (first, second) = (touch_of(first), touch_of(second));
-    first.object != second.object || !(first.changes || second.changes)
+    let (first_object, first_changes) = touch_of(first);
+    let (second_object, second_changes) = touch_of(second);
+    first_object != second_object || !(first_changes || second_changes)
 }
 
 /// Whether it is a try of a gate that another holds.
@@ -30,39 +24,24 @@ pub(crate) fn is_waiting(deed: Deed) -> bool {
     matches!(deed, Deed::TryGate(_, holder) if holder != 0)
 }
 
-fn touch_of(deed: Deed) -> Touch {
+/// What a step touches, and whether it may change it.
+fn touch_of(deed: Deed) -> (Object, bool) {
     match deed {
-        Deed::Nothing => load_of(Object::Nothing),
-        Deed::LoadClock(_) => load_of(Object::Clock),
-        Deed::AddClock(_) => change_of(Object::Clock),
-        Deed::LoadLock(location, _) => load_of(Object::Lock(location)),
+        Deed::Nothing => (Object::Nothing, false),
+        Deed::LoadClock(_) => (Object::Clock, false),
+        Deed::AddClock(_) => (Object::Clock, true),
+        Deed::LoadLock(location, _) => (Object::Lock(location), false),
         Deed::TakeLock(location, _, _) | Deed::StoreLock(location, _) => {
-            change_of(Object::Lock(location))
+            (Object::Lock(location), true)
         }
         Deed::LoadWord(location, _) | Deed::LoadEdition(location, _) => {
-            load_of(Object::Value(location))
+            (Object::Value(location), false)
         }
         Deed::StoreWord(location, _) | Deed::StoreEdition(location, _) => {
-            change_of(Object::Value(location))
+            (Object::Value(location), true)
         }
-        Deed::TryGate(collection, _) if is_waiting(deed) => load_of(Object::Gate(collection)),
-        Deed::TryGate(collection, _)
-        | Deed::CopyAtGate(collection)
-        | Deed::ChangeAtGate(collection)
-        | Deed::PutGate(collection) => change_of(Object::Gate(collection)),
-    }
-}
-
-fn load_of(object: Object) -> Touch {
-    Touch {
-        object,
-        changes: false,
-    }
-}
-
-fn change_of(object: Object) -> Touch {
-    Touch {
-        object,
-        changes: true,
+        Deed::TryGate(collection, holder) => (Object::Gate(collection), holder == 0),
+        Deed::CopyAtGate(collection) | Deed::ChangeAtGate(collection) | Deed::PutGate(collection) =>
+            (Object::Gate(collection), true),
     }
 }
