@@ -28,14 +28,14 @@ fed_more c d u es rows row e fed is feeds = record {
       (leads_on c d u es (e ∷ []) (map (λ (r : Row). r.notice) rows) (row.notice ∷ []) fed.leads (leads_one d u e row.notice feeds));
 }
 
-pub fed_item : (c d u : Parts ℕ) (es : List (Event ℕ)) (i : ℕ) (rows : List Row) (row : Row) (e : Event ℕ) → i < length es
-    → e ≡ get_or es i e → AreFed c (take i es) rows d → row.event ≡ e → Feeds d e u row.notice
+pub fed_item : (c d u : Parts ℕ) (es : List (Event ℕ)) (i : ℕ) (z : Event ℕ) (rows : List Row) (row : Row) → i < length es
+    → AreFed c (take i es) rows d → row.event ≡ get_or es i z → Feeds d (get_or es i z) u row.notice
     → AreFed c (take (i + 1) es) (rows ++ row ∷ []) u
-fed_item c d u es i rows row e lt at fed is feeds =
+fed_item c d u es i z rows row lt fed is feeds =
     let add_one : suc i ≡ i + 1 = omega arith in
     subst (λ (ds : List (Event ℕ)). AreFed c ds (rows ++ row ∷ []) u)
-    (sym (take-suc es i e lt ∙ ap (λ (x : Event ℕ). take i es ++ x ∷ []) (sym at)) ∙ ap (λ (m : ℕ). take m es) add_one)
-    (fed_more c d u (take i es) rows row e fed is feeds)
+    (sym (take-suc es i z lt) ∙ ap (λ (m : ℕ). take m es) add_one)
+    (fed_more c d u (take i es) rows row (get_or es i z) fed is feeds)
 
 -- the rows of parts that a world opened with
 pub rows_as : (o : Contents ℕ) (w : World ℕ) (c : Parts ℕ) (es : List (Event ℕ)) (rows : List Row) → IsReached o w → IsWorld c w
