@@ -1,5 +1,5 @@
 -- What an exploration finds, and what is printed of it.
-use Rattle.std.specs.Prelude.{◌≡◌, ◌≤◌, ℕ, if◌then◌else◌, List, [], ◌∷◌, ◌++◌, All, codes, flat_map, length}
+use Rattle.std.specs.Prelude.{◌≡◌, ◌≤◌, ℕ, Bool, if◌then◌else◌, List, [], ◌∷◌, ◌++◌, All, codes, flat_map, length}
 use Rattle.std.specs.Fmt.{decimal}
 use Rattle.std.specs.List.{sum_by}
 use Rattle.step_world.specs.Traces.{IsSerialTrace}
@@ -44,10 +44,21 @@ title_text count = codes "outcome of " ++ (decimal count ++ (codes " interleavin
 abbrev pub outcome_text : Outcome → List ℕ
 outcome_text outcome = title_text outcome.count ++ (run_text outcome.run ++ (codes "script\n" ++ script_text outcome.script))
 
+abbrev pub yes_or_no_text : Bool → List ℕ
+yes_or_no_text holds = if holds then codes "yes" else codes "no"
+
+abbrev pub outcome_count_text : ℕ → List ℕ
+outcome_count_text count = codes "outcomes " ++ (decimal count ++ (10 ∷ []))
+
+abbrev pub run_count_text : ℕ → List ℕ
+run_count_text count = codes "interleavings " ++ (decimal count ++ (10 ∷ []))
+
+abbrev pub complete_text : Bool → List ℕ
+complete_text is_complete = codes "audit ok\n" ++ (codes "complete " ++ (yes_or_no_text is_complete ++ (10 ∷ [])))
+
 abbrev pub ending_text : Exploration → List ℕ
 ending_text found =
-    codes "outcomes " ++ (decimal (length found.outcomes.items) ++ ((10 ∷ []) ++ (codes "interleavings " ++ (decimal found.interleavings
-    ++ ((10 ∷ []) ++ (codes "audit ok\ncomplete " ++ ((if found.is_complete then codes "yes" else codes "no") ++ (10 ∷ []))))))))
+    outcome_count_text (length found.outcomes.items) ++ (run_count_text found.interleavings ++ complete_text found.is_complete)
 
 abbrev pub exploration_text : Exploration → List ℕ
 exploration_text found = flat_map outcome_text found.outcomes.items ++ ending_text found

@@ -1,7 +1,8 @@
 //! What is printed of an exploration, and of a script.
 ghost use Rattle.std.specs.Prelude.{◌≡◌, ◌++◌, IfOk, OnOk, flat_map};
 ghost use Rattle.std.specs.String.{string_bytes};
-ghost use Rattle.interleavings.specs.Explorations.{ending_text, exploration_text, outcome_text, title_text};
+ghost use Rattle.interleavings.specs.Explorations.{complete_text, ending_text, exploration_text, outcome_count_text, outcome_text};
+ghost use Rattle.interleavings.specs.Explorations.{run_count_text, title_text, yes_or_no_text};
 ghost use Rattle.interleavings.specs.ScriptPrints.{clock_text, collection_text, contents_text, line_text, script_text, steps_text};
 
 use crate::outcomes::{Exploration, Outcome};
@@ -56,13 +57,39 @@ fn print_ending(alloc: Global, exploration: &Exploration) -> Result<String, Memo
     ensures { IfOk result (λ ending. string_bytes ending ≡ ending_text exploration.now) }
 {
     let mut ending = String::new(alloc);
-    let outcomes = exploration.outcomes.len();
-    let runs = exploration.interleavings;
-    writeln!(ending, "outcomes {outcomes}")?;
-    writeln!(ending, "interleavings {runs}")?;
-    let complete = if exploration.is_complete { "yes" } else { "no" };
-    writeln!(ending, "audit ok\ncomplete {complete}")?;
+    print_outcome_count(&mut ending, exploration.outcomes.len())?;
+    print_run_count(&mut ending, exploration.interleavings)?;
+    print_complete(&mut ending, exploration.is_complete)?;
     Ok(ending)
+}
+
+fn print_outcome_count(text: &mut String, count: usize) -> Result<(), Memory>
+    ensures { OnOk result (string_bytes text.new ≡ string_bytes text.old ++ outcome_count_text count) }
+{
+    writeln!(text, "outcomes {count}")?;
+    Ok(())
+}
+
+fn print_run_count(text: &mut String, count: u64) -> Result<(), Memory>
+    ensures { OnOk result (string_bytes text.new ≡ string_bytes text.old ++ run_count_text count) }
+{
+    writeln!(text, "interleavings {count}")?;
+    Ok(())
+}
+
+fn print_complete(text: &mut String, is_complete: bool) -> Result<(), Memory>
+    ensures { OnOk result (string_bytes text.new ≡ string_bytes text.old ++ complete_text is_complete) }
+{
+    text.push_str("audit ok\n")?;
+    let complete = yes_or_no(is_complete);
+    writeln!(text, "complete {complete}")?;
+    Ok(())
+}
+
+fn yes_or_no(holds: bool) -> &'static str
+    ensures { result.now ≡ yes_or_no_text holds }
+{
+    if holds { "yes" } else { "no" }
 }
 
 /// The text of a script.

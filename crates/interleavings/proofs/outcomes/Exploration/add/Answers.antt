@@ -13,8 +13,8 @@ returns-in-Some-clause-outcomes c = λ script all more.
 
 pub returns-in-Some-clause-counted : goal.returns-in-Some-clause-counted
 returns-in-Some-clause-counted c = λ counted room.
-    let more : c.saturating_add.result ≡ c.args.self.now.interleavings + 1 = search rules in
-    runs-joined c.args.self.now.outcomes.items c.in-Some.place c.args.self.now.interleavings c.saturating_add.result
+    let more : c.saturating_add-self.result ≡ c.args.self.now.interleavings + 1 = search rules in
+    runs-joined c.args.self.now.outcomes.items c.in-Some.place c.args.self.now.interleavings c.saturating_add-self.result
     c.index_mut.result.now c.join.new.self c.args.found c.in-Some.ensures c.index_mut.ensures.value c.requires c.join.ensures.count counted
     room more
 
@@ -24,6 +24,6 @@ returns-in_ok-push-in-None-clause-outcomes c = λ script all more.
 
 pub returns-in_ok-push-in-None-clause-counted : goal.returns-in_ok-push-in-None-clause-counted
 returns-in_ok-push-in-None-clause-counted c = λ counted room.
-    let more : c.saturating_add.result ≡ c.args.self.now.interleavings + 1 = search rules in
+    let more : c.saturating_add-self.result ≡ c.args.self.now.interleavings + 1 = search rules in
     rw c.in_ok-push-in-None.ensures.items
-    (runs-pushed c.args.self.now.outcomes.items c.args.self.now.interleavings c.saturating_add.result c.args.found c.requires counted more)
+    (runs-pushed c.args.self.now.outcomes.items c.args.self.now.interleavings c.saturating_add-self.result c.args.found c.requires counted more)
