@@ -3,7 +3,8 @@
 #
 #     scripts/run_examples.sh
 #
-# NAME.steps is run by `./proust step`, NAME.sessions by `./proust vacation`; each must print NAME.out with status 0.
+# NAME.steps is run by `./proust step`, in examples/explore by `./proust explore`, and NAME.sessions by `./proust vacation`; each must print
+# NAME.out with status 0.
 set -u
 
 cd "$(dirname "$0")/.." || exit 2
@@ -14,6 +15,7 @@ for file in $(find examples -name '*.steps' -o -name '*.sessions' | sort); do
     [ -f "$wanted" ] || continue
     case $file in
     *.sessions) command=vacation ;;
+    examples/explore/*) command=explore ;;
     *) command=step ;;
     esac
     count=$((count + 1))

@@ -1,3 +1,5 @@
+mod LineLemmas
+mod RunLemmas
 mod FormLemmas
 pub mod NumberLemmas
 mod ReadLemmas

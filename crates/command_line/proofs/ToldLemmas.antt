@@ -11,7 +11,7 @@ use Rattle.session_text.specs.declared.fault.RunFault.TheVariants.{Refused}
 use Rattle.command_line.specs.declared.work.Cause.TheVariants.{Ended}
 use Rattle.command_line.specs.declared.work.Task.TheVariants.{OnFile}
 use Rattle.command_line.specs.declared.work.Work.{Work}
-use Rattle.command_line.specs.declared.work.Work.TheVariants.{Served, Step, Vacation}
+use Rattle.command_line.specs.declared.work.Work.TheVariants.{Explore, Lanes, Served, Step, Vacation}
 use Rattle.command_line.specs.Ends.{HasBegun, HasBrokenOff, IsCause, IsFaultOf, IsTextOf, line_of}
 
 pub written_on : (old now new : Option (List ℕ)) (w n : ℕ) (bytes : List ℕ)
@@ -58,6 +58,8 @@ text_of (Some bytes) = (bytes, refl)
 
 memory_refuses : (work : Work) (text : List ℕ) → IsFaultOf work text (Refused OutOfMemory)
 memory_refuses Step text = tt
+memory_refuses Lanes text = tt
+memory_refuses (Explore most) text = tt
 memory_refuses Vacation text = tt
 memory_refuses (Served workers) text = tt
 

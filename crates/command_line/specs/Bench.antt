@@ -7,7 +7,7 @@ use Rattle.clap.specs.declared.builder.action.ArgAction.TheVariants.{Set}
 use Rattle.clap.specs.declared.error.kind.ErrorKind.TheVariants as kind
 use Rattle.command_line.specs.declared.work.TimesForm.{TimesForm}
 use Rattle.command_line.specs.declared.work.TimesForm.TheVariants.{Prose, Unasked, Values}
-use Rattle.served_runs.specs.declared.drawn.Drawn.{Drawn}
+use Rattle.command_line.specs.declared.drawn.Drawn.{Drawn}
 use Rattle.command_line.specs.Numbers.{Numbered, number_of, rule_of_number}
 
 abbrev pub clients : Numbered

@@ -2,6 +2,7 @@
 use Rattle.std.specs.Prelude.{◌≡◌, ◌≢◌, ◌<◌, ◌≤◌, ◌⊎◌, ℕ, List, [], ◌∷◌, ◌++◌, codes, length, Option, IfSome, ⊤}
 use Rattle.std.specs.Io.KnownBytes.{Appends}
 use Rattle.clap.specs.Words.{Text}
+use Rattle.seq_model.specs.declared.event.Event.{Event}
 use Rattle.seq_model.specs.declared.limits.TheConstants.{ACTOR_LIMIT}
 use Rattle.seq_model.specs.declared.refusal.Refusal.{Refusal}
 use Rattle.seq_model.specs.declared.refusal.Refusal.TheVariants.{BadText, Memory as OutOfMemory}
@@ -11,15 +12,18 @@ use Rattle.text_formats.specs.declared.script.Script.{Script}
 use Rattle.text_formats.specs.Scripts.{IsBadLine, IsScriptText}
 use Rattle.session_text.specs.declared.run.ScriptRun.{ScriptRun}
 use Rattle.session_text.specs.Audits.{IsAudited}
-use Rattle.session_text.specs.Plays.{IsRunOf}
+use Rattle.session_text.specs.Plays.{IsRunBy, IsRunOf}
 use Rattle.session_text.specs.Scripts.{IsOpeningOf, IsRefusedScript}
 use Rattle.session_text.specs.TracePrints.{run_text}
 use Rattle.session_text.specs.declared.fault.RunFault.{RunFault}
 use Rattle.session_text.specs.declared.fault.RunFault.TheVariants.{Audit, NotBalanced, Refused}
 use Rattle.session_text.specs.Faults as faults
 use Rattle.session_text.specs.Outputs as outputs
-use Rattle.served_runs.specs.Drawn.{IsDrawable, IsDrawnOutput}
-use Rattle.served_runs.specs.Runs.{IsServedOutput, IsWantOfMemory}
+use Rattle.session_text.specs.LaneOutputs.{IsLanesOf}
+use Rattle.interleavings.specs.Explorations.{IsExplored}
+use Rattle.interleavings.specs.Faults.{IsTextFault}
+use Rattle.command_line.specs.Drawn.{IsDrawable, IsDrawnOutput}
+use Rattle.command_line.specs.Runs.{IsServedOutput, IsWantOfMemory}
 use Rattle.command_line.specs.declared.tool.TheConstants.{AUDIT_FAULT, MEMORY, REFUSED}
 use Rattle.command_line.specs.declared.work.TheConstants.{FILE_LIMIT}
 use Rattle.command_line.specs.declared.work.Cause.{Cause}
@@ -29,7 +33,7 @@ use Rattle.command_line.specs.declared.work.Task.TheVariants.{OnDrawn, OnFile}
 use Rattle.command_line.specs.declared.work.TimesForm.{TimesForm}
 use Rattle.command_line.specs.declared.work.TimesForm.TheVariants.{Unasked}
 use Rattle.command_line.specs.declared.work.Work.{Work}
-use Rattle.command_line.specs.declared.work.Work.TheVariants.{Served, Step, Vacation}
+use Rattle.command_line.specs.declared.work.Work.TheVariants.{Explore, Lanes, Served, Step, Vacation}
 use Rattle.command_line.specs.Words.{AreTaken, AskForInformation, task_named}
 
 -- ---- what is printed of a text
@@ -49,6 +53,18 @@ pub record IsOutput (text bytes : List ℕ) : Type 0 where
   pub audited : IsAudited run
   pub printed : bytes ≡ run_text run
 
+-- what it prints as lanes
+pub record IsLanesOutput (text bytes : List ℕ) : Type 0 where
+  pub script : Script
+  pub run : ScriptRun
+  pub events : List (Event ℕ)
+  pub spelled : IsScriptText text script
+  pub opening : IsOpeningOf script run.opening
+  pub made : IsRunBy script events run
+  pub serial : IsSerialTrace run.opening run.trace
+  pub audited : IsAudited run
+  pub printed : IsLanesOf script run events bytes
+
 -- why it is refused: a line is outside the grammar, an allocation failed, or it spells a script that is refused
 abbrev pub IsRefusedText : List ℕ → Refusal → Type 0
 IsRefusedText text (BadText line) = IsBadLine text line
@@ -63,12 +79,16 @@ IsFault text fault = ⊥
 -- what a text prints where this work is asked for
 abbrev pub IsOutputOf : Work → List ℕ → List ℕ → Type 0
 IsOutputOf Step text bytes = IsOutput text bytes
+IsOutputOf Lanes text bytes = IsLanesOutput text bytes
+IsOutputOf (Explore most) text bytes = IsExplored text most bytes
 IsOutputOf Vacation text bytes = outputs.IsOutput text bytes
 IsOutputOf (Served workers) text bytes = IsServedOutput workers text bytes
 
 -- why it has no output
 abbrev pub IsFaultOf : Work → List ℕ → RunFault → Type 0
 IsFaultOf Step text fault = IsFault text fault
+IsFaultOf Lanes text fault = IsFault text fault
+IsFaultOf (Explore most) text fault = IsTextFault text fault
 IsFaultOf Vacation text fault = faults.IsFault text fault
 IsFaultOf (Served workers) text fault = faults.IsFault text fault
 
@@ -77,6 +97,8 @@ IsFaultOf (Served workers) text fault = faults.IsFault text fault
 -- its workers are as many as there may be, and what is drawn is within its limits
 abbrev pub IsDoable : Task → Type 0
 IsDoable (OnFile Step) = ⊤
+IsDoable (OnFile Lanes) = ⊤
+IsDoable (OnFile (Explore most)) = ⊤
 IsDoable (OnFile Vacation) = ⊤
 IsDoable (OnFile (Served workers)) = (1 ≤ workers) × (workers ≤ ACTOR_LIMIT)
 IsDoable (OnDrawn drawn times) = IsDrawable drawn

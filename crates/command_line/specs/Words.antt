@@ -1,16 +1,18 @@
--- The words that the program takes: `step FILE`, `vacation FILE` and `bench`, the latter two with options, and `--help` and `--version`.
+-- The words that the program takes: `step FILE`, `explore FILE`, `vacation FILE` and `bench`, the latter three with options, and `--help`
+-- and `--version`.
 use Rattle.std.specs.Prelude.{◌≡◌, ◌⊎◌, ◌==◌, ℕ, true, List, [], ◌∷◌, Option, Some, None, codes, option_and_then, option_map, if◌then◌else◌}
 use Rattle.std.specs.Str.{bytes_eq}
 use Rattle.clap.specs.Words.{App, IsAmong, Kinds, Row, Rule, Text, fault_of, first_of, kind_of, new_app, new_rule, subcommand_of, with_rule}
 use Rattle.clap.specs.Kinds.{or_else}
 use Rattle.clap.specs.Words.{with_subcommand}
-use Rattle.clap.specs.declared.builder.action.ArgAction.TheVariants.{Set}
+use Rattle.std.specs.Option.{option_map_or}
+use Rattle.clap.specs.declared.builder.action.ArgAction.TheVariants.{Set, SetTrue}
 use Rattle.clap.specs.declared.error.Error.{Error}
 use Rattle.clap.specs.declared.error.kind.ErrorKind.TheVariants as kind
 use Rattle.command_line.specs.declared.work.Task.{Task}
 use Rattle.command_line.specs.declared.work.Task.TheVariants.{OnDrawn, OnFile}
 use Rattle.command_line.specs.declared.work.Work.{Work}
-use Rattle.command_line.specs.declared.work.Work.TheVariants.{Served, Step, Vacation}
+use Rattle.command_line.specs.declared.work.Work.TheVariants.{Explore, Lanes, Served, Step, Vacation}
 use Rattle.command_line.specs.Bench.{bench_app, drawn_of, form_of, word_faults}
 use Rattle.command_line.specs.Numbers.{Numbered, number_of, rule_of_number}
 
@@ -21,8 +23,19 @@ file_rule = record (new_rule (codes "FILE")) { action = Some Set; required = tru
 abbrev pub workers : Numbered
 workers = record { name = codes "workers"; low = 0; high = 64 }
 
+-- `--lanes`
+abbrev pub lanes_rule : Rule
+lanes_rule = record (new_rule (codes "lanes")) { long = Some (codes "lanes"); action = Some SetTrue }
+
+-- `--most N`
+abbrev pub most : Numbered
+most = record { name = codes "most"; low = 1; high = 1000000000 }
+
 abbrev pub step_app : App
-step_app = with_rule (new_app (codes "step")) file_rule
+step_app = with_rule (with_rule (new_app (codes "step")) lanes_rule) file_rule
+
+abbrev pub explore_app : App
+explore_app = with_rule (with_rule (new_app (codes "explore")) (rule_of_number most (codes "100000"))) file_rule
 
 abbrev pub vacation_app : App
 vacation_app = with_rule (with_rule (new_app (codes "vacation")) (rule_of_number workers (codes "0"))) file_rule
@@ -34,7 +47,9 @@ bare_app = record (new_app (codes "proust_tool")) {
 }
 
 abbrev pub tool_app : App
-tool_app = with_subcommand (with_subcommand (with_subcommand bare_app step_app.top) vacation_app.top) bench_app.top
+tool_app =
+    with_subcommand (with_subcommand (with_subcommand (with_subcommand bare_app step_app.top) explore_app.top) vacation_app.top)
+    bench_app.top
 
 -- what is wrong with the form that they ask the times in
 abbrev pub faults_of_forms : Option (Text × List Row) → Kinds
@@ -59,11 +74,19 @@ AskForInformation words = IsAmong kind.DisplayHelp (faults words) ⊎ IsAmong ki
 abbrev pub vacation_work : ℕ → Work
 vacation_work n = if n == 0 then Vacation else Served n
 
--- the task of the subcommand of this name: of three, what is neither the second nor the third is the first
+-- a script's run is printed as lanes, where that is asked for
+abbrev pub step_work_by : Text → Work
+step_work_by word = if bytes_eq word (codes "true") then Lanes else Step
+
+abbrev pub step_work : List Row → Work
+step_work rows = option_map_or step_work_by (first_of (codes "lanes") rows) Step
+
+-- the task of the subcommand of this name: of four, what is none of the last three is the first
 abbrev pub task_by : Text → List Row → Task
 task_by name rows =
     if bytes_eq name (codes "vacation") then OnFile (vacation_work (number_of workers rows))
-    else (if bytes_eq name (codes "bench") then OnDrawn (drawn_of rows) (form_of rows) else OnFile Step)
+    else (if bytes_eq name (codes "bench") then OnDrawn (drawn_of rows) (form_of rows)
+    else (if bytes_eq name (codes "explore") then OnFile (Explore (number_of most rows)) else OnFile (step_work rows)))
 
 abbrev pub task_of : Option (Text × List Row) → Task
 task_of None = OnFile Step

@@ -4,10 +4,11 @@ ghost use Rattle.std.specs.Option.{option_map_or};
 ghost use Rattle.clap.specs.Words.{app_of, found_of, kind_of, rows_of, rule_of};
 ghost use Rattle.clap.specs.declared.error.kind.ErrorKind.TheVariants.{InvalidValue};
 ghost use Rattle.clap.specs.declared.builder.command.Command.TheViews.{out-Command as fields_of};
-ghost use Rattle.served_runs.specs.Drawn.{IsDrawable};
+ghost use Rattle.command_line.specs.Drawn.{IsDrawable};
 ghost use Rattle.command_line.specs.Bench.{bench_app, drawn_of, form_faults, form_of, times_rule, with_optional, word_faults};
 ghost use Rattle.command_line.specs.Bench.{form_named as spec_form_named};
 
+use crate::drawn::Drawn;
 use crate::numbers::{number_in, with_number};
 use crate::options::{
     CLIENTS, PERCENT_QUERIED, PERCENT_USER, QUERIES, RELATIONS, SEED, TRANSACTIONS, TRIES,
@@ -17,7 +18,6 @@ use crate::words::explained;
 use crate::work::TimesForm;
 use clap::error::ErrorKind;
 use clap::{Arg, ArgAction, ArgMatches, Command, Error};
-use served_runs::Drawn;
 use std::alloc::{AllocError, Global};
 use std::fmt::Write;
 use text_formats::Options;

@@ -8,6 +8,13 @@ pub(crate) const WORKERS: Number = Number {
     high: 64,
 };
 
+/// Runs of an exploration.
+pub(crate) const MOST: Number = Number {
+    name: "most",
+    low: 1,
+    high: 1_000_000_000,
+};
+
 /// Workers that run drawn sessions.
 pub(crate) const CLIENTS: Number = Number {
     name: "clients",

@@ -7,11 +7,12 @@ pub(crate) const NAME: &str = "proust_tool";
 pub(crate) const VERSION: &str = "0.1.0";
 
 pub(crate) const TOOL: &str =
-    "Runs transactions of Wolimevar, a software transactional memory: step by step as a script says, reservations of a
-file, or drawn reservations as a benchmark.";
+    "Runs transactions of Wolimevar, a software transactional memory: step by step as a script says, under every schedule of
+their steps, reservations of a file, or drawn reservations as a benchmark.";
 
 pub(crate) const TOOL_ENDING: &str = "Examples:
   proust_tool step examples/first.steps
+  proust_tool explore examples/explore/write_skew.steps
   proust_tool vacation examples/reservations/a_wait_is_served.sessions
   proust_tool bench --clients 4 --times
 
@@ -39,8 +40,40 @@ It prints each answer, the committed transactions, and what the words and collec
 docs/formats.md has all lines of a script; examples/first.steps, examples/words and examples/collections have
 scripts, beside what they print.
 
+Examples:
+  proust_tool step examples/first.steps
+  proust_tool step --lanes examples/words/write_skew.steps";
+
+pub(crate) const LANES: &str =
+    "Prints the events as lanes, an actor a column: what is asked, what each step does and finds, and what is
+answered. After 1000 events the number of the others stands there";
+
+pub(crate) const EXPLORE: &str =
+    "Runs the transactions of a step script under every schedule, and says what they can answer";
+
+pub(crate) const EXPLORE_ENDING: &str =
+    "The script has requests alone, of at most eight actors; when steps are taken is left open. One in which two actors add one
+to the same word:
+
+    words 0
+    1 do begin
+    1 do read 0
+    1 do write 0 1
+    1 do commit
+    2 do begin
+    2 do read 0
+    2 do write 0 1
+    2 do commit
+
+Each outcome, which is the answers of each actor, the committed transactions, and what words and collections hold, is
+printed once: how many schedules gave it, what it is, and the shortest script with steps that leads there. Schedules
+that differ only by the order of steps that touch nothing in common are run once.
+docs/formats.md says more; examples/explore has scripts, beside what they print.
+
 Example:
-  proust_tool step examples/first.steps";
+  proust_tool explore examples/explore/write_skew.steps";
+
+pub(crate) const MOST: &str = "At most so many runs are made: 1 to 1000000000";
 
 pub(crate) const VACATION: &str = "Runs a session file: reservations of cars, flights and rooms";
 

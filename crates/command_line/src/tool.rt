@@ -14,6 +14,7 @@ use crate::work::{Cause, Output, output_of};
 use clap::Error;
 use clap::error::ErrorKind;
 use client_sessions::{NoProgress, Progress};
+use interleavings::ExploreProgress;
 use seq_model::Refusal;
 use session_text::RunFault;
 use std::alloc::Global;
@@ -100,7 +101,7 @@ pub fn run_file<
     R: Read + Drop,
     W: Write,
     E: Write,
-    P: Progress + Sync,
+    P: Progress + ExploreProgress + Sync,
 >(
     rt: &H,
     alloc: Global,
@@ -185,7 +186,7 @@ pub fn run_tool_with<
     R: Read,
     W: Write,
     E: Write,
-    P: Progress + Sync,
+    P: Progress + ExploreProgress + Sync,
 >(
     rt: &H,
     alloc: Global,

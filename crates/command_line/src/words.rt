@@ -6,13 +6,13 @@ ghost use Rattle.clap.specs.Words.{FailsBy, app_of, found_of, kind_of, rows_of, 
 ghost use Rattle.clap.specs.declared.builder.command.Command.TheViews.{out-Command as fields_of};
 ghost use Rattle.command_line.specs.declared.work.Task.TheVariants.{OnFile};
 ghost use Rattle.command_line.specs.Ends.{IsDoable};
-ghost use Rattle.command_line.specs.Words.{faults, file_word, named_file, not_dash, tool_app, step_app, vacation_app, file_rule, task_by};
-ghost use Rattle.command_line.specs.Words.{faults_of_forms, task_of, vacation_work};
+ghost use Rattle.command_line.specs.Words.{explore_app, faults, file_word, named_file, not_dash, tool_app, step_app, vacation_app, file_rule, task_by};
+ghost use Rattle.command_line.specs.Words.{faults_of_forms, lanes_rule, step_work, step_work_by, task_of, vacation_work};
 ghost use Rattle.clap.specs.declared.error.kind.ErrorKind.TheVariants.{InvalidValue};
 
 use crate::bench::{bench_command, drawn_in, form_fault, form_in, unknown_form};
 use crate::numbers::{number_in, with_number};
-use crate::options::WORKERS;
+use crate::options::{MOST, WORKERS};
 use crate::texts;
 use crate::texts::{NAME, VERSION};
 use crate::work::{Task, Work};
@@ -25,6 +25,7 @@ fn command<'a>(alloc: Global) -> Result<Command<'a>, AllocError>
     ensures { IfOk result (λ command. app_of command ≡ tool_app) }
 {
     let step = step_command(alloc)?;
+    let explore = explore_command(alloc)?;
     let vacation = vacation_command(alloc)?;
     let bench = bench_command(alloc)?;
     let bare = Command::new(alloc, NAME)
@@ -33,7 +34,8 @@ fn command<'a>(alloc: Global) -> Result<Command<'a>, AllocError>
         .subcommand_required(true);
     let described = with_name(explained(bare, texts::TOOL, texts::TOOL_ENDING))?;
     let with_step = described.subcommand(step)?;
-    let with_vacation = with_step.subcommand(vacation)?;
+    let with_explore = with_step.subcommand(explore)?;
+    let with_vacation = with_explore.subcommand(vacation)?;
     with_vacation.subcommand(bench)
 }
 
@@ -60,7 +62,32 @@ fn step_command<'a>(alloc: Global) -> Result<Command<'a>, AllocError>
     ensures app { IfOk result (λ command. app_of command ≡ step_app) }
     ensures local { IfOk result (λ command. (fields_of command).has_globals ≡ false) }
 {
-    explained(Command::new(alloc, "step"), texts::STEP, texts::STEP_ENDING).arg(file(alloc))
+    let named = explained(Command::new(alloc, "step"), texts::STEP, texts::STEP_ENDING);
+    let with_lanes = named.arg(lanes(alloc))?;
+    with_lanes.arg(file(alloc))
+}
+
+fn lanes<'a>(alloc: Global) -> Arg<'a>
+    ensures rule { rule_of result ≡ lanes_rule }
+    ensures local { result.global ≡ false }
+{
+    Arg::new(alloc, "lanes")
+        .long("lanes")
+        .help(texts::LANES)
+        .action(ArgAction::SetTrue)
+}
+
+fn explore_command<'a>(alloc: Global) -> Result<Command<'a>, AllocError>
+    ensures app { IfOk result (λ command. app_of command ≡ explore_app) }
+    ensures local { IfOk result (λ command. (fields_of command).has_globals ≡ false) }
+{
+    let named = explained(
+        Command::new(alloc, "explore"),
+        texts::EXPLORE,
+        texts::EXPLORE_ENDING,
+    );
+    let with_most = with_number(alloc, named, MOST, "100000", texts::MOST)?;
+    with_most.arg(file(alloc))
 }
 
 fn vacation_command<'a>(alloc: Global) -> Result<Command<'a>, AllocError>
@@ -144,8 +171,31 @@ fn task_of_words(name: &str, words: &ArgMatches<'_>) -> Task
         Task::OnFile(work_on_sessions(number_in(words, WORKERS)))
     } else if name == "bench" {
         Task::OnDrawn(drawn_in(words), form_in(words))
+    } else if name == "explore" {
+        Task::OnFile(Work::Explore(number_in(words, MOST)))
     } else {
-        Task::OnFile(Work::Step)
+        Task::OnFile(work_on_script(words))
+    }
+}
+
+fn work_on_script(words: &ArgMatches<'_>) -> Work
+    ensures work { result ≡ step_work (rows_of (found_of words.now)) }
+    ensures doable { IsDoable (OnFile result) }
+{
+    match words.get_str("lanes") {
+        Some(word) => work_by_flag(word),
+        None => Work::Step,
+    }
+}
+
+fn work_by_flag(word: &str) -> Work
+    ensures work { result ≡ step_work_by word.now }
+    ensures doable { IsDoable (OnFile result) }
+{
+    if word == "true" {
+        Work::Lanes
+    } else {
+        Work::Step
     }
 }
 

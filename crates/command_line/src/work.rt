@@ -2,19 +2,26 @@
 ghost use Rattle.std.specs.Prelude.{◌≡◌, ◌≤◌, ◌⊎◌, [], IsOk, IfOk, IfErr, IfSome};
 ghost use Rattle.std.specs.String.{string_bytes};
 ghost use Rattle.std.specs.Vec.{vec_len};
-ghost use Rattle.served_runs.specs.Drawn.{IsDrawable, IsDrawnOutput};
-ghost use Rattle.served_runs.specs.Runs.{IsWantOfMemory};
+ghost use Rattle.interleavings.specs.Explorations.{IsExplored};
+ghost use Rattle.interleavings.specs.Faults.{IsTextFault};
+ghost use Rattle.command_line.specs.Drawn.{IsDrawable, IsDrawnOutput};
+ghost use Rattle.command_line.specs.Runs.{IsWantOfMemory};
 ghost use Rattle.command_line.specs.declared.work.Cause.TheVariants.{Ended};
 ghost use Rattle.command_line.specs.declared.work.Task.TheVariants.{OnFile};
-ghost use Rattle.command_line.specs.Ends.{AsksForTimes, IsAsked, IsCause, IsDoable, IsFault, IsFaultOf, IsKnownOutput, IsOnDrawn};
+ghost use Rattle.command_line.specs.Ends.{AsksForTimes, IsAsked, IsCause, IsDoable, IsFault, IsFaultOf, IsKnownOutput, IsLanesOutput, IsOnDrawn};
 ghost use Rattle.command_line.specs.Ends.{IsOutput, IsOutputOf, IsWithin};
 ghost use Rattle.seq_model.specs.declared.refusal.Refusal.TheVariants.{Memory as OutOfMemory};
 ghost use Rattle.session_text.specs.declared.fault.RunFault.TheVariants.{Refused};
 
+use crate::drawn::{Drawn, print_drawn, run_drawn};
+use crate::file;
+use crate::tally::{Times, print_times, print_times_as_values};
 use client_sessions::Progress;
+use interleavings::{ExploreProgress, explore};
 use seq_model::{Memory, Refusal};
-use served_runs::{Drawn, Times, print_drawn, print_times, print_times_as_values, run_drawn};
-use session_text::{RunFault, audit_run, print_trace, run_script};
+use session_text::{
+    RunFault, audit_run, print_lanes, print_trace, run_script, run_script_with_events,
+};
 use std::alloc::{AllocError, Global};
 use std::io::Read;
 use std::sync::Wait;
@@ -30,6 +37,10 @@ pub const FILE_LIMIT: usize = 16_777_216;
 pub(crate) enum Work {
     /// A step script is run.
     Step,
+    /// A step script is run, and printed as lanes.
+    Lanes,
+    /// The requests of a step script are run under every schedule, with at most so many runs.
+    Explore(u64),
     /// The sessions of a session file are run, one after another.
     Vacation,
     /// They are run by so many workers.
@@ -91,13 +102,11 @@ impl From<AllocError> for Cause {
 }
 
 /// Does this task, on the file that the reader gives or on drawn sessions.
-pub(crate) fn output_of<H: Threads + Wait + Clock + Sync, R: Read, P: Progress + Sync>(
-    rt: &H,
-    alloc: Global,
-    task: Task,
-    reader: &mut R,
-    progress: &P,
-) -> Result<Output, Cause>
+pub(crate) fn output_of<
+    H: Threads + Wait + Clock + Sync,
+    R: Read,
+    P: Progress + ExploreProgress + Sync,
+>(rt: &H, alloc: Global, task: Task, reader: &mut R, progress: &P) -> Result<Output, Cause>
     requires { IsDoable task }
     ensures within { IsOk result → IsWithin task (R.remaining reader.old) }
     ensures output { IfOk result (λ output. IsKnownOutput task (R.remaining reader.old) output.bytes.items) }
@@ -119,7 +128,7 @@ pub(crate) fn output_of<H: Threads + Wait + Clock + Sync, R: Read, P: Progress +
 }
 
 /// Does this work on a text.
-fn bytes_of<H: Threads + Wait + Sync, P: Progress + Sync>(
+fn bytes_of<H: Threads + Wait + Sync, P: Progress + ExploreProgress + Sync>(
     rt: &H,
     alloc: Global,
     work: Work,
@@ -132,9 +141,26 @@ fn bytes_of<H: Threads + Wait + Sync, P: Progress + Sync>(
 {
     match work {
         Work::Step => step(alloc, text),
+        Work::Lanes => lanes(alloc, text),
+        Work::Explore(most) => explored(alloc, text, most, progress),
         Work::Vacation => session_text::output_of(alloc, text, progress),
-        Work::Served(workers) => served_runs::output_of(rt, alloc, text, workers, progress),
+        Work::Served(workers) => file::output_of(rt, alloc, text, workers, progress),
     }
+}
+
+/// Runs the requests of a script under every schedule.
+fn explored<P: Progress + ExploreProgress>(
+    alloc: Global,
+    text: &[u8],
+    most: u64,
+    progress: &P,
+) -> Result<Vec<u8>, RunFault>
+    ensures output { IfOk result (λ bytes. IsExplored text.now most bytes.items) }
+    ensures refused { IfErr result (IsTextFault text.now) }
+{
+    let explored = explore(alloc, text, most, progress);
+    progress.end();
+    explored
 }
 
 /// Draws sessions, and has workers run them.
@@ -204,4 +230,15 @@ fn step(alloc: Global, text: &[u8]) -> Result<Vec<u8>, RunFault>
     let run = run_script(alloc, &script)?;
     audit_run(alloc, &run)?;
     Ok(print_trace(alloc, &run)?)
+}
+
+/// The same, printed as lanes.
+fn lanes(alloc: Global, text: &[u8]) -> Result<Vec<u8>, RunFault>
+    ensures output { IfOk result (λ bytes. IsLanesOutput text.now bytes.items) }
+    ensures refused { IfErr result (IsFault text.now) }
+{
+    let script = parse_steps(alloc, text)?;
+    let (made, events) = run_script_with_events(alloc, &script)?;
+    audit_run(alloc, &made)?;
+    Ok(print_lanes(alloc, &script, &made, events.as_slice())?)
 }

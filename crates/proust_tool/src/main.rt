@@ -5,7 +5,8 @@
 #![tactic(auto)]
 
 use command_line::{
-    Pace, Progress, REFUSED, fault, file_of, refuse_memory, run_file, run_tool_with,
+    ExploreProgress, Pace, Progress, REFUSED, Speed, fault, file_of, refuse_memory, run_file,
+    run_tool_with,
 };
 use std::io::{IsTerminal, Write};
 use std::process::ExitCode;
@@ -47,12 +48,26 @@ impl Terminal<'_> {
                 .is_ok()
     }
 
+    /// The milliseconds since the first session or run.
+    fn since(&self) -> u64 {
+        now(self.rt).saturating_sub(self.begun.load(Ordering::SeqCst))
+    }
+
     fn write(&self, count: u64, all: u64) {
-        let since = now(self.rt).saturating_sub(self.begun.load(Ordering::SeqCst));
+        let since = self.since();
         if self.is_due(since) {
             let time = Duration::from_millis(since);
             let pace = Pace { count, all, time };
             let _ = write!(self.rt.stderr(), "\r{pace}    ");
+        }
+    }
+
+    fn write_runs(&self, count: u64, most: u64) {
+        let since = self.since();
+        if self.is_due(since) {
+            let time = Duration::from_millis(since);
+            let speed = Speed { count, most, time };
+            let _ = write!(self.rt.stderr(), "\r{speed}    ");
         }
     }
 }
@@ -73,6 +88,20 @@ impl Progress for Terminal<'_> {
     fn end(&self) {
         if self.told.load(Ordering::SeqCst) > 0 {
             let _ = write!(self.rt.stderr(), "\r{BLANK}\r");
+        }
+    }
+}
+
+impl ExploreProgress for Terminal<'_> {
+    fn tried(&self, count: u64, most: u64) {
+        if !self.is_there {
+            return;
+        }
+        if count == 1 {
+            self.begun.store(now(self.rt), Ordering::SeqCst);
+        }
+        if count % LOOK == 0 {
+            self.write_runs(count, most);
         }
     }
 }

@@ -7,6 +7,7 @@
 //! What a section may say stands at [`sections::run_all`].
 #![tactic(auto)]
 
+mod explorations;
 mod files;
 mod laid_out;
 mod notices;

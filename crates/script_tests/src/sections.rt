@@ -1,4 +1,5 @@
 //! The sections, and what is made of each.
+use crate::explorations::{print_beside_all, print_replayed};
 use crate::files::{Input, Output, bytes_of, ending_of};
 use crate::laid_out::print_laid_out;
 use crate::reading::print_script;
@@ -6,6 +7,7 @@ use crate::times::{print_missed, print_paces};
 use crate::worlds::print_worlds;
 use command_line::{DONE, MEMORY, file_of, run_tool};
 use seq_model::{Memory, Refusal};
+use session_text::RunFault;
 use std::alloc::{AllocError, Global};
 use std::fmt::Write;
 use std::sync::Wait;
@@ -18,13 +20,29 @@ const ROOM: usize = 65_536;
 /// How often a line is printed that comes so often, at most.
 const TIMES: u64 = 99;
 
+/// How many lines of an end are shown.
+const LAST: usize = 3;
+
+/// What is shown of what a run printed.
+#[derive(Clone, Copy)]
+enum Shown {
+    All,
+    /// All, but how many sessions were missed.
+    Raced,
+    /// The last lines.
+    End,
+}
+
 /// The sections, each by its name and what came of it. What is made of one stands at the end of its name.
 ///
 /// - After ` | ` stand the words by which the program is run over the text, and `step -` where nothing stands there. With ` > full` it
-///   writes to what takes nothing; with ` > races`, where workers race for the same items, how many sessions were missed isn't shown. What
-///   it printed is shown, a line that came more than 99 times with its number; then its fault, its status where that is not 0, and of what
-///   a run took the first word and the last line, or the names of its values. In the text `\xff` is a byte, and a line after
-///   `\times 9 ` stands so many times; a text that ends with `\fails` can't be read further, and one with `\endless` has no end.
+///   writes to what takes nothing; with ` > end` only the last three lines are shown; with ` > races`, where workers race for the same
+///   items, how many sessions were missed isn't shown. What it printed is shown, a line that came more than 99 times with its number; then
+///   its fault, its status where that is not 0, and of what a run took the first word and the last line, or the names of its values. In
+///   the text `\xff` is a byte, and a line after `\times 9 ` stands so many times; a text that ends with `\fails` can't be read further,
+///   and one with `\endless` has no end.
+/// - ` = replayed`: the script is explored, and of each outcome the script beside it is run.
+/// - ` = schedules`: the script is explored, and once more under all schedules.
 /// - ` = script`: the text is a script, of which each line is printed as it was read.
 /// - ` = world`: the text is a script, whose events are fed to a world, as `worlds` reads it. What came of them is printed.
 /// - ` = trace`: the text lays out a trace, line by line, as `laid_out` reads it. What is printed of it is shown.
@@ -78,6 +96,14 @@ fn run_section<H: Threads + Wait + Clock + Sync>(
             let outcome = print_laid_out(text, file);
             told(text, outcome)
         }
+        Some((_, "replayed")) => {
+            let outcome = print_replayed(text, file);
+            told_fault(text, outcome)
+        }
+        Some((_, "schedules")) => {
+            let outcome = print_beside_all(text, file);
+            told_fault(text, outcome)
+        }
         Some((_, "files")) => print_files(text, file),
         Some((_, "times")) => print_missed(text),
         Some((_, "paces")) => print_paces(text),
@@ -91,6 +117,14 @@ fn told(text: &mut String, outcome: Result<(), Refusal>) -> Result<(), AllocErro
         Ok(()) => Ok(()),
         Err(Refusal::Memory) => Err(AllocError),
         Err(refusal) => writeln!(text, "refused: {refusal}"),
+    }
+}
+
+fn told_fault(text: &mut String, outcome: Result<(), RunFault>) -> Result<(), AllocError> {
+    match outcome {
+        Ok(()) => Ok(()),
+        Err(RunFault::Refused(refusal)) => told(text, Err(refusal)),
+        Err(fault) => writeln!(text, "fault: {fault}"),
     }
 }
 
@@ -131,7 +165,7 @@ fn run_words<H: Threads + Wait + Clock + Sync>(
     let alloc = *text.allocator();
     let (_, asked) = name.split_once(" |").unwrap_or((name, "step -"));
     let (asked, is_full) = without(asked, " > full");
-    let (asked, races) = without(asked, " > races");
+    let (asked, shown) = shown_of(asked);
     let (file, end) = ending_of(file);
     let words = words_of(alloc, asked)?;
     let bytes = bytes_of(alloc, file)?;
@@ -140,7 +174,17 @@ fn run_words<H: Threads + Wait + Clock + Sync>(
         rest: bytes.as_slice(),
         end,
     };
-    run_over(rt, text, words.as_slice(), &mut input, &mut out, races)
+    run_over(rt, text, words.as_slice(), &mut input, &mut out, shown)
+}
+
+fn shown_of(asked: &str) -> (&str, Shown) {
+    if let (asked, true) = without(asked, " > races") {
+        return (asked, Shown::Raced);
+    }
+    match without(asked, " > end") {
+        (asked, true) => (asked, Shown::End),
+        (asked, false) => (asked, Shown::All),
+    }
 }
 
 // The words without this ending, and whether they have it.
@@ -162,7 +206,7 @@ fn run_over<H: Threads + Wait + Clock + Sync>(
     words: &[String],
     input: &mut Input<'_>,
     out: &mut Output,
-    races: bool,
+    shown: Shown,
 ) -> Result<(), AllocError> {
     let alloc = *text.allocator();
     let mut err = output(alloc, false)?;
@@ -170,16 +214,36 @@ fn run_over<H: Threads + Wait + Clock + Sync>(
     if status == MEMORY && out.bytes.is_empty() {
         return Err(AllocError);
     }
-    print_output(text, text_of(out.bytes.as_slice()), races)?;
+    print_output(text, text_of(out.bytes.as_slice()), shown)?;
     print_end(text, status, err.bytes.as_slice())
 }
 
-fn print_output(text: &mut String, lines: &str, races: bool) -> Result<(), AllocError> {
-    if races {
-        print_raced(text, lines)
-    } else {
-        print_lines(text, lines)
+fn print_output(text: &mut String, lines: &str, shown: Shown) -> Result<(), AllocError> {
+    match shown {
+        Shown::All => print_lines(text, lines),
+        Shown::Raced => print_raced(text, lines),
+        Shown::End => print_last(text, lines),
     }
+}
+
+fn print_last(text: &mut String, lines: &str) -> Result<(), AllocError> {
+    let count = count_of(lines);
+    let mut place = 0usize;
+    for line in lines.split_inclusive('\n') {
+        if place.saturating_add(LAST) >= count {
+            text.push_str(line)?;
+        }
+        place = place.saturating_add(1);
+    }
+    Ok(())
+}
+
+fn count_of(lines: &str) -> usize {
+    let mut count = 0usize;
+    for _line in lines.split_inclusive('\n') {
+        count = count.saturating_add(1);
+    }
+    count
 }
 
 fn print_raced(text: &mut String, lines: &str) -> Result<(), AllocError> {

@@ -1,6 +1,6 @@
 //! What is printed of the times of a run, and of how far one has come.
+use command_line::{Pace, Speed, Times, print_times, print_times_as_values};
 use seq_model::Memory;
-use served_runs::{Pace, Times, print_times, print_times_as_values};
 use std::alloc::{AllocError, Global};
 use std::fmt::Write;
 use std::time::Duration;
@@ -33,12 +33,18 @@ fn times_of(alloc: Global) -> Result<Times, AllocError> {
     })
 }
 
-/// How far runs have come: none, one, the first of many, and all.
+/// How far runs of sessions have come: none, one, the first of many, and all; and an exploration.
 pub(crate) fn print_paces(text: &mut String) -> Result<(), AllocError> {
     print_pace(text, 0, 10, 0)?;
     print_pace(text, 1, 3, 1_000)?;
     print_pace(text, 4_096, 100_000, 2_500)?;
-    print_pace(text, 3, 3, 700)
+    print_pace(text, 3, 3, 700)?;
+    let speed = Speed {
+        count: 12_034,
+        most: 100_000,
+        time: Duration::from_millis(1_167),
+    };
+    writeln!(text, "{speed}")
 }
 
 fn print_pace(text: &mut String, count: u64, all: u64, millis: u64) -> Result<(), AllocError> {

@@ -1,5 +1,7 @@
 mod LeadLemmas
 mod PlayLemmas
-mod ScriptRunLemmas
+pub mod ScriptRunLemmas
 pub mod LineLemmas
 pub mod FileRunLemmas
+mod RowLemmas
+mod LaneLemmas

@@ -12,7 +12,8 @@ use Rattle.text_formats.specs.declared.script.EventLine.{EventLine}
 use Rattle.text_formats.specs.declared.script.TheConstants.{STEP_LIMIT}
 use Rattle.step_world.specs.declared.parts.Parts.{Parts}
 use Rattle.step_world.specs.Feeds.{Feeds}
-use Rattle.session_text.specs.Plays.{ArePlays, AreSteps, AreTurns, HasPlayed, IsDone, IsOne, IsPlay, IsStepOf, Keeps, heard, telling}
+use Rattle.session_text.specs.declared.run.Transcript.{Transcript}
+use Rattle.session_text.specs.Plays.{ArePlays, AreSteps, AreTurns, HasPlayed, IsDone, IsOne, IsPlay, IsStepOf, Keeps, heard, kept_of, telling}
 use Rattle.session_text.specs.Plays.{tells_nothing, waiting_after, waiting_then, waits}
 use Rattle.session_text.proofs.LeadLemmas.{leads_none, leads_on, leads_one}
 
@@ -24,8 +25,16 @@ after_append ws [] ys (m ∷ ms) ns paired = cc
 after_append ws (x ∷ xs) ys [] ns paired = cc
 after_append ws (x ∷ xs) ys (m ∷ ms) ns paired = after_append (waiting_then ws x (tells_nothing m)) xs ys ms ns (omega arith)
 
+kept_append : (keeps : Bool) (xs ys : List (Event ℕ)) → kept_of keeps (xs ++ ys) ≡ kept_of keeps xs ++ kept_of keeps ys
+kept_append true xs ys = refl
+kept_append false xs ys = refl
+
+kept_none : (keeps : Bool) → kept_of keeps [] ≡ []
+kept_none true = refl
+kept_none false = refl
+
 -- events of one kind, and after them events of another
-pub played_on : {P Q R : List (Event ℕ) → List (Notice ℕ) → Type 0} {c d u : Parts ℕ} {before then after : List (Notice ℕ)}
+pub played_on : {P Q R : List (Event ℕ) → List (Notice ℕ) → Type 0} {c d u : Parts ℕ} {before then after : Transcript}
     {ws vs us : List Bool}
     → ((xs ys : List (Event ℕ)) (ms ns : List (Notice ℕ)) → length ms ≡ length xs → length ns ≡ length ys → vs ≡ waiting_after ws xs ms
     → P xs ms → Q ys ns → R (xs ++ ys) (ms ++ ns))
@@ -45,11 +54,16 @@ played_on {c = c} {d = d} {u = u} {before = before} {ws = ws} join first second 
       leads = leads_on c d u xs ys ms ns first.leads second.leads;
       heard-of =
           second.heard-of ∙ ap (λ (z : List (Notice ℕ)). z ++ heard ns) first.heard-of
-          ∙ append_assoc before (heard ms) (heard ns)
-          ∙ ap (λ (z : List (Notice ℕ)). before ++ z) (sym (flat_map-append telling ms ns));
+          ∙ append_assoc before.notices (heard ms) (heard ns)
+          ∙ ap (λ (z : List (Notice ℕ)). before.notices ++ z) (sym (flat_map-append telling ms ns));
+      kept =
+          second.kept ∙ ap₂ (λ (z : List (Event ℕ)) (k : Bool). z ++ kept_of k ys) first.kept first.keeps
+          ∙ append_assoc before.events (kept_of before.keeps xs) (kept_of before.keeps ys)
+          ∙ ap (λ (z : List (Event ℕ)). before.events ++ z) (sym (kept_append before.keeps xs ys));
+      keeps = second.keeps ∙ first.keeps;
     }
 
-pub played_as : {P Q : List (Event ℕ) → List (Notice ℕ) → Type 0} {c d : Parts ℕ} {before after : List (Notice ℕ)}
+pub played_as : {P Q : List (Event ℕ) → List (Notice ℕ) → Type 0} {c d : Parts ℕ} {before after : Transcript}
     → ((xs : List (Event ℕ)) (ms : List (Notice ℕ)) → P xs ms → Q xs ms) → HasPlayed P c before d after → HasPlayed Q c before d after
 played_as turn has = record {
   events = has.events;
@@ -57,33 +71,40 @@ played_as turn has = record {
   kind = turn has.events has.told has.kind;
   leads = has.leads;
   heard-of = has.heard-of;
+  kept = has.kept;
+  keeps = has.keeps;
 }
 
-pub kept_as : {P Q : List (Event ℕ) → List (Notice ℕ) → Type 0} {c d : Parts ℕ} {before after : List (Notice ℕ)} {ws vs : List Bool}
+pub kept_as : {P Q : List (Event ℕ) → List (Notice ℕ) → Type 0} {c d : Parts ℕ} {before after : Transcript} {ws vs : List Bool}
     → ((xs : List (Event ℕ)) (ms : List (Notice ℕ)) → vs ≡ waiting_after ws xs ms → P xs ms → Q xs ms)
     → HasPlayed (Keeps P ws vs) c before d after → HasPlayed (Keeps Q ws vs) c before d after
 kept_as turn has = played_as (λ xs ms kept. (turn xs ms kept.1 kept.0, kept.1)) has
 
-pub played_none : (P : List (Event ℕ) → List (Notice ℕ) → Type 0) (c : Parts ℕ) (before : List (Notice ℕ)) (ws : List Bool)
+pub played_none : (P : List (Event ℕ) → List (Notice ℕ) → Type 0) (c : Parts ℕ) (before : Transcript) (ws : List Bool)
     → P [] [] → HasPlayed (Keeps P ws ws) c before c before
 played_none P c before ws kind = record {
   events = [];
   told = [];
   kind = (kind, refl);
   leads = leads_none c;
-  heard-of = sym (append-nil before);
+  heard-of = sym (append-nil before.notices);
+  kept = sym (ap (λ (z : List (Event ℕ)). before.events ++ z) (kept_none before.keeps) ∙ append-nil before.events);
+  keeps = refl;
 }
 
 -- one event
-pub played_one : (c d : Parts ℕ) (before after : List (Notice ℕ)) (e : Event ℕ) (notice : Notice ℕ) (quiet : Bool) (ws vs : List Bool)
-    → Feeds c e d notice → after ≡ before ++ telling notice → quiet ≡ tells_nothing notice → vs ≡ waiting_then ws e quiet
+pub played_one : (c d : Parts ℕ) (before after : Transcript) (e : Event ℕ) (notice : Notice ℕ) (quiet : Bool) (ws vs : List Bool)
+    → Feeds c e d notice → after.notices ≡ before.notices ++ telling notice → after.events ≡ before.events ++ kept_of before.keeps (e ∷ [])
+    → after.keeps ≡ before.keeps → quiet ≡ tells_nothing notice → vs ≡ waiting_then ws e quiet
     → HasPlayed (Keeps (IsOne e quiet) ws vs) c before d after
-played_one c d before after e notice quiet ws vs feeds added is_quiet waiting = record {
+played_one c d before after e notice quiet ws vs feeds added kept keeps is_quiet waiting = record {
   events = e ∷ [];
   told = notice ∷ [];
   kind = ((notice, (refl, (refl, is_quiet))), waiting ∙ ap (waiting_then ws e) is_quiet);
   leads = leads_one c d e notice feeds;
-  heard-of = added ∙ ap (λ (z : List (Notice ℕ)). before ++ z) (sym (append-nil (telling notice)));
+  heard-of = added ∙ ap (λ (z : List (Notice ℕ)). before.notices ++ z) (sym (append-nil (telling notice)));
+  kept = kept;
+  keeps = keeps;
 }
 
 pub one_is : (e : Event ℕ) (quiet : Bool) (xs : List (Event ℕ)) (ms : List (Notice ℕ)) → IsOne e quiet xs ms → xs ≡ e ∷ []

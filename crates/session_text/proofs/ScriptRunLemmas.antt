@@ -1,6 +1,7 @@
 -- A run of a script: the parts that its world opened with are those of the world that the script's header opens in the definitions. So what
 -- was answered is what the events answer there, and the trace is that of the world which they lead to.
 use Rattle.std.proofs.Common.{◌≡◌, ◌≢◌, ◌∙◌, refl, sym, ap, ap₂, subst, ℕ, suc, Bool, List, [], ◌∷◌, length, map, inr, All}
+use Rattle.seq_model.specs.declared.event.Event.{Event}
 use Rattle.std.specs.Prelude.{IfErr, OnOk, Result, Ok, Err}
 use Rattle.seq_model.specs.declared.event.Notice.{Notice}
 use Rattle.seq_model.specs.declared.refusal.Refusal.{Refusal}
@@ -19,7 +20,8 @@ use Rattle.step_world.specs.Traces.{IsSerialTrace, IsTraceOf}
 use Rattle.text_formats.specs.declared.script.Collection.{Collection}
 use Rattle.text_formats.specs.declared.script.Script.{Script}
 use Rattle.session_text.specs.declared.run.ScriptRun.{ScriptRun}
-use Rattle.session_text.specs.Plays.{ArePlays, HasPlayed, IsRunOf, Keeps, heard, nobody}
+use Rattle.session_text.specs.declared.run.Transcript.{Transcript}
+use Rattle.session_text.specs.Plays.{ArePlays, HasPlayed, IsKeptRun, Keeps, heard, kept_of, nobody, nothing_heard}
 use Rattle.session_text.specs.Scripts.{IsOpeningOf, IsRefusedScript, opening_of, stripes_of, world_in}
 use Rattle.session_text.specs.Worlds.{told_by}
 use Rattle.world_table.specs.Openings.{IsWithin, world_of}
@@ -77,9 +79,9 @@ held_where X H (Ok u) h = λ _. h
 held_where X H (Err e) h = tt
 
 -- ---- runs
-module _ (script : Script) (opening : Contents ℕ) (c d : Parts ℕ) (notices : List (Notice ℕ)) (vs : List Bool)
+module _ (script : Script) (opening : Contents ℕ) (c d : Parts ℕ) (keeps : Bool) (after : Transcript) (vs : List Bool)
     (reached : IsReached opening (world_in script opening)) (opened : IsWorld c (world_in script opening))
-    (has : HasPlayed (Keeps (ArePlays nobody script.lines) nobody vs) c [] d notices) where
+    (has : HasPlayed (Keeps (ArePlays nobody script.lines) nobody vs) c (nothing_heard keeps) d after) where
   told_as : has.told ≡ told_by (world_in script opening) has.events
   told_as = has.leads.told opening (world_in script opening) reached opened
 
@@ -90,18 +92,23 @@ module _ (script : Script) (opening : Contents ℕ) (c d : Parts ℕ) (notices :
     parts = has.leads.parts opening (world_in script opening) reached opened;
   }
 
-  module _ (made : ScriptRun) (same : made.opening ≡ opening) where
-    pub is_run : made.notices ≡ notices → ((o : Contents ℕ) (w : World ℕ) → IsReached o w → IsWorld d w → IsTraceOf w made.trace)
-        → IsRunOf script made
+  module _ (made : ScriptRun × List (Event ℕ)) (same : made.0.opening ≡ opening) where
+    pub is_run : made.0.notices ≡ after.notices → made.1 ≡ after.events
+        → ((o : Contents ℕ) (w : World ℕ) → IsReached o w → IsWorld d w → IsTraceOf w made.0.trace) → IsKeptRun script keeps made
     unfolding from_opening
-    is_run told of = record {
-      events = has.events;
-      plays = subst (λ o. ArePlays nobody script.lines has.events (told_by (world_in script o) has.events)) (sym same)
-          (subst (λ ns. ArePlays nobody script.lines has.events ns) told_as has.kind.0);
-      notices = told ∙ (has.heard-of ∙ (ap heard told_as ∙ ap (λ o. heard (told_by (world_in script o) has.events)) (sym same)));
-      trace = subst (λ o. IsTraceOf (fed_all (world_in script o) has.events) made.trace) (sym same)
-          (of opening (fed_all (world_in script opening) has.events) from_opening.reached from_opening.parts);
-    }
+    is_run told events of = (
+      has.events,
+      (
+        record {
+          plays = subst (λ o. ArePlays nobody script.lines has.events (told_by (world_in script o) has.events)) (sym same)
+              (subst (λ ns. ArePlays nobody script.lines has.events ns) told_as has.kind.0);
+          notices = told ∙ (has.heard-of ∙ (ap heard told_as ∙ ap (λ o. heard (told_by (world_in script o) has.events)) (sym same)));
+          trace = subst (λ o. IsTraceOf (fed_all (world_in script o) has.events) made.0.trace) (sym same)
+              (of opening (fed_all (world_in script opening) has.events) from_opening.reached from_opening.parts);
+        },
+        λ kept. events ∙ (has.kept ∙ ap (λ (k : Bool). kept_of k has.events) kept),
+      ),
+    )
 
-    pub is_serial : ((o : Contents ℕ) → IsFrom o d → IsSerialTrace o made.trace) → IsSerialTrace made.opening made.trace
-    is_serial of = subst (λ o. IsSerialTrace o made.trace) (sym same) (of opening from_opening)
+    pub is_serial : ((o : Contents ℕ) → IsFrom o d → IsSerialTrace o made.0.trace) → IsSerialTrace made.0.opening made.0.trace
+    is_serial of = subst (λ o. IsSerialTrace o made.0.trace) (sym same) (of opening from_opening)

@@ -17,3 +17,8 @@ pub use Rattle.text_formats.specs.Drawing as DrawnSessions
 pub mod Receipts
 pub mod Outputs
 pub mod Runs
+pub mod RequestPrints
+pub mod Rows
+pub mod Cells
+pub mod Lanes
+pub mod LaneOutputs

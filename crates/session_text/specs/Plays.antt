@@ -10,6 +10,7 @@ use Rattle.text_formats.specs.declared.script.EventLine.TheVariants.{Ask, Do, St
 use Rattle.text_formats.specs.declared.script.Script.{Script}
 use Rattle.text_formats.specs.declared.script.TheConstants.{STEP_LIMIT}
 use Rattle.session_text.specs.declared.run.ScriptRun.{ScriptRun}
+use Rattle.session_text.specs.declared.run.Transcript.{Transcript}
 use Rattle.step_world.specs.declared.parts.Parts.{Parts}
 use Rattle.step_world.specs.Feeds.{fed_all}
 use Rattle.step_world.specs.Traces.{IsTraceOf}
@@ -29,6 +30,17 @@ telling notice = notice ∷ []
 -- the notices other than Quiet
 abbrev pub heard : List (Notice ℕ) → List (Notice ℕ)
 heard notices = flat_map telling notices
+
+-- events, where they are kept
+abbrev pub kept_of : Bool → List (Event ℕ) → List (Event ℕ)
+kept_of true es = es
+kept_of false es = []
+
+abbrev pub nothing_heard : Bool → Transcript
+nothing_heard keeps = record { notices = []; events = []; keeps = keeps }
+
+abbrev pub with_event : Transcript → Event ℕ → Transcript
+with_event t e = record { notices = t.notices; events = t.events ++ kept_of t.keeps (e ∷ []); keeps = t.keeps }
 
 -- ---- which actors have an unanswered request, by actor; the first place is no actor's
 
@@ -114,14 +126,17 @@ ArePlays waiting (line ∷ lines) es told =
 
 -- ---- in a world
 
--- events of a kind have led from parts of a world to others, and what was heard of them was added to what was heard before
-pub record HasPlayed (IsKind : List (Event ℕ) → List (Notice ℕ) → Type 0) (c : Parts ℕ) (before : List (Notice ℕ)) (d : Parts ℕ)
-    (after : List (Notice ℕ)) : Type 0 where
+-- events of a kind have led from parts of a world to others, what was heard of them was added to what was heard before, and so were they,
+-- where they are kept
+pub record HasPlayed (IsKind : List (Event ℕ) → List (Notice ℕ) → Type 0) (c : Parts ℕ) (before : Transcript) (d : Parts ℕ)
+    (after : Transcript) : Type 0 where
   pub events : List (Event ℕ)
   pub told : List (Notice ℕ)
   pub kind : IsKind events told
   pub leads : Leads c events told d
-  pub heard-of : after ≡ before ++ heard told
+  pub heard-of : after.notices ≡ before.notices ++ heard told
+  pub kept : after.events ≡ before.events ++ kept_of before.keeps events
+  pub keeps : after.keeps ≡ before.keeps
 
 -- events of a kind, and who has an unanswered request before and after them
 abbrev pub Keeps : (List (Event ℕ) → List (Notice ℕ) → Type 0) → List Bool → List Bool → List (Event ℕ) → List (Notice ℕ) → Type 0
@@ -131,9 +146,15 @@ Keeps IsKind before after es told = IsKind es told × (after ≡ waiting_after b
 abbrev pub IsOne : Event ℕ → Bool → List (Event ℕ) → List (Notice ℕ) → Type 0
 IsOne e quiet es told = (notice : Notice ℕ) × ((es ≡ e ∷ []) × ((told ≡ notice ∷ []) × (quiet ≡ tells_nothing notice)))
 
--- a run is the result of the events of the script's lines in the world that the script opens: all that was heard, and the trace
-pub record IsRunOf (script : Script) (made : ScriptRun) : Type 0 where
-  pub events : List (Event ℕ)
-  pub plays : ArePlays nobody script.lines events (told_by (world_in script made.opening) events)
-  pub notices : made.notices ≡ heard (told_by (world_in script made.opening) events)
-  pub trace : IsTraceOf (fed_all (world_in script made.opening) events) made.trace
+-- a run is the result of these events in the world that the script opens, and they are those of its lines: all that was heard, and the trace
+pub record IsRunBy (script : Script) (es : List (Event ℕ)) (made : ScriptRun) : Type 0 where
+  pub plays : ArePlays nobody script.lines es (told_by (world_in script made.opening) es)
+  pub notices : made.notices ≡ heard (told_by (world_in script made.opening) es)
+  pub trace : IsTraceOf (fed_all (world_in script made.opening) es) made.trace
+
+abbrev pub IsRunOf : Script → ScriptRun → Type 0
+IsRunOf script made = (es : List (Event ℕ)) × IsRunBy script es made
+
+-- a run, and the events that it is the result of, where they are kept
+abbrev pub IsKeptRun : Script → Bool → ScriptRun × List (Event ℕ) → Type 0
+IsKeptRun script keeps made = (es : List (Event ℕ)) × (IsRunBy script es made.0 × (keeps ≡ true → made.1 ≡ es))

@@ -2,13 +2,14 @@
 ghost use Rattle.std.specs.Prelude.{◌≡◌, ◌++◌, IfOk, OnOk, flat_map};
 ghost use Rattle.std.specs.String.{string_bytes};
 ghost use Rattle.session_text.specs.TracePrints.{number_text, pair_text, reply_text, answer_text, record_text, half_text, held_text, words_text};
-ghost use Rattle.session_text.specs.TracePrints.{state_text, notice_text, run_text};
+ghost use Rattle.session_text.specs.TracePrints.{state_text, notice_text, run_text, trace_text};
 
 use crate::run::ScriptRun;
 use seq_model::{Answer, Held, Memory, Notice, Record, Reply, State};
 use std::alloc::Global;
 use std::collections::btree_map::Iter;
 use std::fmt::Write;
+use step_world::Trace;
 
 /// The text of the result of a script: a line for each notice, then the records, the half-done commits, and what words
 /// and collections hold.
@@ -17,10 +18,17 @@ pub fn print_trace(alloc: Global, run: &ScriptRun) -> Result<Vec<u8>, Memory>
 {
     let mut text = String::new(alloc);
     print_notices(&mut text, run.notices.as_slice())?;
-    print_records(&mut text, run.trace.records.as_slice())?;
-    print_halves(&mut text, run.trace.half.as_slice())?;
-    print_state(&mut text, &run.trace.state)?;
+    print_result(&mut text, &run.trace)?;
     Ok(text.into_bytes())
+}
+
+/// Adds the records of a trace, the half-done commits, and what words and collections hold.
+pub(crate) fn print_result(text: &mut String, trace: &Trace<u64>) -> Result<(), Memory>
+    ensures { OnOk result (string_bytes text.new ≡ string_bytes text.old ++ trace_text trace.now) }
+{
+    print_records(text, trace.records.as_slice())?;
+    print_halves(text, trace.half.as_slice())?;
+    print_state(text, &trace.state)
 }
 
 fn print_notices(text: &mut String, notices: &[Notice<u64>]) -> Result<(), Memory>
@@ -67,7 +75,8 @@ fn print_notice(text: &mut String, notice: &Notice<u64>) -> Result<(), Memory>
     Ok(())
 }
 
-fn print_answer(text: &mut String, answer: &Answer<u64>) -> Result<(), Memory>
+/// Adds an answer.
+pub(crate) fn print_answer(text: &mut String, answer: &Answer<u64>) -> Result<(), Memory>
     ensures { OnOk result (string_bytes text.new ≡ string_bytes text.old ++ answer_text answer.now) }
 {
     match answer {
@@ -115,7 +124,8 @@ fn print_state(text: &mut String, state: &State<u64>) -> Result<(), Memory>
     Ok(())
 }
 
-fn print_words(text: &mut String, words: &[u64]) -> Result<(), Memory>
+/// Adds the line of words, where there are some.
+pub fn print_words(text: &mut String, words: &[u64]) -> Result<(), Memory>
     ensures { OnOk result (string_bytes text.new ≡ string_bytes text.old ++ words_text words.now) }
 {
     if !words.is_empty() {
@@ -152,7 +162,8 @@ fn print_held(text: &mut String, held: &Held<u64>) -> Result<(), Memory>
     }
 }
 
-fn print_numbers(text: &mut String, numbers: &[u64]) -> Result<(), Memory>
+/// Adds numbers, each after a space.
+pub fn print_numbers(text: &mut String, numbers: &[u64]) -> Result<(), Memory>
     ensures { OnOk result (string_bytes text.new ≡ string_bytes text.old ++ flat_map number_text numbers.now) }
 {
     for number in numbers {
@@ -161,7 +172,8 @@ fn print_numbers(text: &mut String, numbers: &[u64]) -> Result<(), Memory>
     Ok(())
 }
 
-fn print_pairs(text: &mut String, pairs: Iter<'_, u64, u64>) -> Result<(), Memory>
+/// Adds pairs, each after a space, with a colon between key and value.
+pub fn print_pairs(text: &mut String, pairs: Iter<'_, u64, u64>) -> Result<(), Memory>
     ensures { OnOk result (string_bytes text.new ≡ string_bytes text.old ++ flat_map pair_text pairs.entry) }
 {
     for (key, value) in pairs {

@@ -29,4 +29,4 @@ returns c =
     let start = c.args.self.now.waiting.items in
     let all = take_all c.loop-line.line-index lines (omega (arith, c.loop-line-test.false)) in
     subst (λ (ls : List EventLine). HasPlayed (Keeps (ArePlays start ls) start c.loop-line.self.waiting.items) c.args.self.now.world.parts
-    c.args.self.now.notices c.loop-line.self.world.parts c.loop-line.self.notices) all c.loop-line.invariant
+    c.args.self.now.transcript c.loop-line.self.world.parts c.loop-line.self.transcript) all c.loop-line.invariant

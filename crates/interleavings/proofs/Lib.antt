@@ -1,0 +1,3 @@
+mod CountLemmas
+mod FaultLemmas
+mod PrintLemmas

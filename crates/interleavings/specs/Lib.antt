@@ -1,0 +1,3 @@
+pub mod ScriptPrints
+pub mod Explorations
+pub mod Faults

@@ -1,0 +1,188 @@
+//! The outcomes that were found.
+ghost use Rattle.std.specs.Prelude.{◌≡◌, ◌<◌, ◌≤◌, ◌+◌, ◌^◌, [], All, IfErr, IfOk, IfSome, OnOk, length};
+ghost use Rattle.text_formats.specs.declared.script.Script.{Script as Spelled};
+ghost use Rattle.interleavings.specs.Explorations.{HasHeaderOf, IsCounted, IsOutcomeOf};
+ghost use Rattle.interleavings.specs.Faults.{IsScriptFault};
+
+use crate::keys::key_of;
+use crate::programs::Program;
+use seq_model::{Items, Memory};
+use session_text::{RunFault, ScriptRun, audit_run, print_trace, run_script};
+use std::alloc::Global;
+use text_formats::{Collection, EventLine, Script};
+
+/// An outcome.
+pub struct Outcome {
+    /// The shortest script that was run and has led to it.
+    pub script: Script,
+    /// The run of this script.
+    pub run: ScriptRun,
+    /// What distinguishes it from others: what the run prints, with the answers of each actor together.
+    pub key: Vec<u8>,
+    /// How many of the runs have led to it.
+    pub count: u64,
+}
+
+impl Drop for Outcome {
+    fn drop(self) {
+        let Outcome {
+            script: _,
+            run: _,
+            key: _,
+            count: _,
+        } = self;
+    }
+}
+
+/// What was found.
+pub struct Exploration {
+    /// The outcomes, as they were found.
+    pub outcomes: Vec<Outcome>,
+    /// How many runs came to their end.
+    pub interleavings: u64,
+    /// Whether no run was left to make.
+    pub is_complete: bool,
+}
+
+impl Drop for Exploration {
+    fn drop(self) {
+        let Exploration {
+            outcomes: _,
+            interleavings: _,
+            is_complete: _,
+        } = self;
+    }
+}
+
+impl Exploration {
+    pub(crate) fn new(alloc: Global) -> Exploration
+        ensures outcomes { result.outcomes.items ≡ [] }
+        ensures runs { result.interleavings ≡ 0 }
+    {
+        Exploration {
+            outcomes: Vec::new(alloc),
+            interleavings: 0,
+            is_complete: false,
+        }
+    }
+
+    /// One more run came to this outcome.
+    fn add(&mut self, found: Outcome) -> Result<(), Memory>
+        requires { found.count ≡ 1 }
+        ensures runs { OnOk result (self.new.interleavings ≤ self.old.interleavings + 1) }
+        ensures counted { OnOk result (IsCounted self.old → self.old.interleavings + 1 < 2 ^ 64 → IsCounted self.new) }
+        ensures outcomes { OnOk result ((script : Spelled) → All (IsOutcomeOf script) self.old.outcomes.items → IsOutcomeOf script found
+            → All (IsOutcomeOf script) self.new.outcomes.items) }
+    {
+        self.interleavings = self.interleavings.saturating_add(1);
+        match self.place_of(found.key.as_slice()) {
+            Some(place) => self.outcomes[place].join(found),
+            None => self.outcomes.push(found)?,
+        }
+        Ok(())
+    }
+
+    /// One more run, which came to its end by these lines, or was broken off.
+    pub(crate) fn count(
+        &mut self,
+        alloc: Global,
+        header: &Script,
+        programs: &[Program],
+        lines: Option<Vec<EventLine>>,
+    ) -> Result<(), RunFault>
+        ensures runs { OnOk result (self.new.interleavings ≤ self.old.interleavings + 1) }
+        ensures counted { OnOk result (IsCounted self.old → self.old.interleavings + 1 < 2 ^ 64 → IsCounted self.new) }
+        ensures outcomes { OnOk result (All (IsOutcomeOf header.now) self.old.outcomes.items
+            → All (IsOutcomeOf header.now) self.new.outcomes.items) }
+        ensures refused { IfErr result (IsScriptFault header.now) }
+    {
+        let Some(lines) = lines else {
+            return Ok(());
+        };
+        let outcome = outcome_of(alloc, header, programs, lines)?;
+        self.add(outcome)?;
+        Ok(())
+    }
+
+    /// The place of the outcome that this distinguishes.
+    pub fn place_of(&self, key: &[u8]) -> Option<usize>
+        ensures { IfSome result (λ place. place < length self.now.outcomes.items) }
+    {
+        self.outcomes
+            .iter()
+            .position(|outcome| outcome.key.as_slice() == key)
+    }
+}
+
+impl Outcome {
+    /// The same outcome once more. The shorter script is kept.
+    fn join(&mut self, other: Outcome)
+        ensures count { self.old.count + other.count < 2 ^ 64 → self.new.count ≡ self.old.count + other.count }
+        ensures outcome { (script : Spelled) → IsOutcomeOf script self.old → IsOutcomeOf script other → IsOutcomeOf script self.new }
+    {
+        let Outcome {
+            script,
+            run,
+            key: _,
+            count,
+        } = other;
+        self.count = self.count.saturating_add(count);
+        if script.lines.len() < self.script.lines.len() {
+            self.script = script;
+            self.run = run;
+        }
+    }
+}
+
+/// The outcome of the script of this header and these lines, whose run is audited.
+fn outcome_of(
+    alloc: Global,
+    header: &Script,
+    programs: &[Program],
+    lines: Vec<EventLine>,
+) -> Result<Outcome, RunFault>
+    ensures outcome { IfOk result (IsOutcomeOf header.now) }
+    ensures one { IfOk result (λ outcome. outcome.count ≡ 1) }
+    ensures refused { IfErr result (IsScriptFault header.now) }
+{
+    let script = with_lines(alloc, header, lines)?;
+    let run = run_script(alloc, &script)?;
+    audit_run(alloc, &run)?;
+    let printed = print_trace(alloc, &run)?;
+    let key = key_of(alloc, programs, printed.as_slice())?;
+    Ok(Outcome {
+        script,
+        run,
+        key,
+        count: 1,
+    })
+}
+
+/// The script of this header and these lines.
+fn with_lines(alloc: Global, header: &Script, lines: Vec<EventLine>) -> Result<Script, Memory>
+    ensures header { IfOk result (HasHeaderOf header.now) }
+    ensures lines { IfOk result (λ script. script.lines ≡ lines.items) }
+{
+    let collections = copy_of_collections(alloc, header.collections.as_slice())?;
+    Ok(Script {
+        words: header.words.try_copy()?,
+        clock: header.clock,
+        collections,
+        lines: Items::from_vec(lines),
+    })
+}
+
+fn copy_of_collections(
+    alloc: Global,
+    collections: &[Collection],
+) -> Result<Items<Collection>, Memory>
+    ensures { IfOk result (λ copy. copy ≡ collections.now) }
+{
+    let mut copy = Vec::with_capacity(alloc, collections.len())?;
+    for collection in collections {
+        let stripes = collection.stripes;
+        let held = collection.held.try_copy(alloc)?;
+        copy.push(Collection { stripes, held })?;
+    }
+    Ok(Items::from_vec(copy))
+}

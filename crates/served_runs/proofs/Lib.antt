@@ -1,2 +1,0 @@
-mod LineLemmas
-mod RunLemmas

@@ -1,5 +1,0 @@
-use Rattle.std.proofs.Common.{rules}
-use Rattle.served_runs.proofs.drawn.time_of_audit.Goals as goal
-
-pub returns-in_err-tables-clause-finding : goal.returns-in_err-tables-clause-finding
-returns-in_err-tables-clause-finding g c = search (rules, c.in_err-tables.ensures.finding)

@@ -1,4 +1,0 @@
-pub mod Drawn
-pub mod Lines
-pub mod Runs
-pub mod Unread
