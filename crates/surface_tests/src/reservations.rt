@@ -41,11 +41,7 @@ fn reserve(alloc: Global, customer: u64) -> Result<Action, Memory> {
         kind: Kind::Car,
         id: 1,
     };
-    Ok(Action::Reserve {
-        customer,
-        units: 1,
-        asks: Items::from_vec(vec![in alloc; car]?),
-    })
+    Ok(Action::Reserve(customer, 1, Items::from_vec(vec![in alloc; car]?)))
 }
 
 fn call_tables(alloc: Global) -> Result<(), Refusal> {
@@ -112,30 +108,27 @@ fn call_served<R: Threads + Wait + Sync>(rt: &R, alloc: Global) -> Result<(), Re
 }
 
 /// The other actions, and changes of an item.
-pub fn actions(customer: u64, item: (Kind, u64), of: Item) -> ([Action; 3], [Change; 4]) {
+pub fn actions(
+    customer: u64,
+    item: (Kind, u64),
+    of: Item,
+    changes: Items<Change>,
+) -> ([Action; 4], [Change; 4]) {
     let (kind, id) = item;
     let (units, price) = (of.total, of.price);
     let actions = [
-        Action::Delete { customer },
-        Action::QueryItem { kind, id },
-        Action::QueryBill { customer },
+        Action::Delete(customer),
+        Action::Update(changes),
+        Action::QueryItem(kind, id),
+        Action::QueryBill(customer),
     ];
     let changes = [
-        Change::Add {
-            kind,
-            id,
-            units,
-            price,
-        },
-        Change::TakeCar { id, units },
-        Change::TakeRoom { id, units },
-        Change::DropFlight { id },
+        Change::Add(kind, id, units, price),
+        Change::TakeCar(id, units),
+        Change::TakeRoom(id, units),
+        Change::DropFlight(id),
     ];
     (actions, changes)
-}
-
-pub fn update(changes: Items<Change>) -> Action {
-    Action::Update { changes }
 }
 
 /// A booking of all units of an item, and what actions answer.
@@ -153,12 +146,9 @@ pub fn booked(kind: Kind, id: u64, units: u64, price: u64) -> (Booking, Entry, [
         price,
     };
     let replies = [
-        ActionReply::Deleted {
-            bill: price,
-            served: units,
-        },
-        ActionReply::Found { item },
-        ActionReply::Bill { sum: price },
+        ActionReply::Deleted(price, units),
+        ActionReply::Found(item),
+        ActionReply::Bill(price),
         ActionReply::Absent,
     ];
     (booking, Entry::Item(item), replies)
