@@ -2,13 +2,12 @@
 ghost use Rattle.std.specs.Prelude.{◌≡◌, [], IfOk};
 
 use crate::memos::answer_remembered;
-use crate::models::opened;
 use crate::parts::{Footprint, tell_conflict};
 use crate::print::{print_changes, print_outcome};
-use crate::tokens::{changes_of, from_index, location_in, split};
+use crate::tokens::{changes_of, location_in, split};
 use conflict::{Changes, LocSet};
 use replay_log::{Base, Log};
-use row_parts::{print_base, print_held, print_reply, script_of};
+use row_parts::{from_index, print_base, print_held, print_reply, script_of, state_of};
 use seq_model::{Call, Memory, Op, Refusal, Reply, Request, State};
 use shadow::Shadow;
 use std::alloc::Global;
@@ -35,7 +34,7 @@ impl Bench {
     /// Opens the script's first collection, a queue from the index that its clock says.
     pub fn open(alloc: Global, script: &Script) -> Result<Bench, Refusal> {
         let base = base_in(alloc, script)?;
-        let state = opened(alloc, script)?;
+        let state = state_of(alloc, script, script.clock)?;
         Ok(Bench { base, state })
     }
 

@@ -1,28 +1,11 @@
 //! Rows on states of the sequential model, on what refusals print, and on copies of events.
 use crate::print::print_words;
-use crate::tokens::{Call as Spelled, call_of, from_index, location, split};
-use row_parts::{print_held, print_reply, script_of};
-use seq_model::{Call, Event, Held, Memory, Op, Refusal, Request, State};
-use std::alloc::Global;
+use crate::tokens::{Call as Spelled, call_of, location, split};
+use row_parts::{print_held, print_reply, script_of, state_of};
+use seq_model::{Call, Event, Memory, Op, Refusal, Request, State};
 use std::fmt::Write;
 use step_core::WordRefusal;
-use text_formats::{EventLine, Script};
-
-fn held_of(alloc: Global, script: &Script) -> Result<Vec<Held<u64>>, Memory> {
-    let mut held = Vec::new(alloc);
-    for collection in script.collections.as_slice() {
-        let copy = collection.held.try_copy(alloc)?;
-        held.push(from_index(copy, script.clock))?;
-    }
-    Ok(held)
-}
-
-/// The state that the script's header says, a queue from the index that its clock says.
-pub fn opened(alloc: Global, script: &Script) -> Result<State<u64>, Refusal> {
-    let words = script.words.try_copy()?;
-    let held = held_of(alloc, script)?;
-    State::new(words.into_vec(), held)
-}
+use text_formats::EventLine;
 
 fn tell_call(text: &mut String, state: &mut State<u64>, call: &Call<u64>) -> Result<(), Refusal> {
     match state.apply(call) {
@@ -38,7 +21,7 @@ fn tell_call(text: &mut String, state: &mut State<u64>, call: &Call<u64>) -> Res
 fn left_by(text: &mut String, row: &str) -> Result<State<u64>, Refusal> {
     let alloc = *text.allocator();
     let script = script_of(alloc, row)?;
-    let mut state = opened(alloc, &script)?;
+    let mut state = state_of(alloc, &script, script.clock)?;
     for line in script.lines.as_slice() {
         match line {
             EventLine::Ask(_, Request::Call(call)) => tell_call(text, &mut state, call)?,

@@ -1,6 +1,6 @@
 //! Numbers, calls and changes that a row spells.
 use conflict::{Change, Changes};
-use seq_model::{Held, Refusal};
+use seq_model::Refusal;
 use std::alloc::Global;
 use text_formats::number;
 
@@ -53,14 +53,6 @@ pub fn call_of(text: &str) -> Result<Call<'_>, Refusal> {
         value: number_in(value)?,
         other: number_in(other)?,
     })
-}
-
-/// A queue is taken from this index.
-pub fn from_index(held: Held<u64>, index: u64) -> Held<u64> {
-    match held {
-        Held::Queue { head: _, items } => Held::Queue { head: index, items },
-        other => other,
-    }
 }
 
 fn change_of(call: Call<'_>) -> Result<Change<u64>, Refusal> {
