@@ -37,56 +37,35 @@ pub fn run_all<H: Threads + Wait + Clock + Sync>(
     sections: &str,
 ) -> Result<String, AllocError> {
     let mut text = String::new(alloc);
-    let count = run_each(rt, &mut text, sections)?;
-    writeln!(text, "sections {count}")?;
-    Ok(text)
-}
-
-/// How many there are.
-fn run_each<H: Threads + Wait + Clock + Sync>(
-    rt: &H,
-    text: &mut String,
-    sections: &str,
-) -> Result<u64, AllocError> {
     let mut count = 0u64;
     for section in sections.split("----\n") {
         if let Some((name, file)) = section.split_once('\n') {
             writeln!(text, "# {name}")?;
-            run_section(rt, text, name, file)?;
+            run_section(rt, &mut text, name, file)?;
             count = count.saturating_add(1);
         }
     }
-    Ok(count)
+    writeln!(text, "sections {count}")?;
+    Ok(text)
 }
 
+// A refusal is printed, but for that of memory.
 fn run_section<H: Threads + Wait + Clock + Sync>(
     rt: &H,
     text: &mut String,
     name: &str,
     file: &str,
 ) -> Result<(), AllocError> {
-    match name.split_once(" = ") {
-        Some((_, "script")) => {
-            let outcome = print_script(text, file);
-            told(text, outcome)
-        }
-        Some((_, "world")) => {
-            let outcome = print_worlds(text, file);
-            told(text, outcome)
-        }
-        Some((_, "trace")) => {
-            let outcome = print_laid_out(text, file);
-            told(text, outcome)
-        }
-        Some((_, "files")) => print_files(text, file),
-        Some((_, "times")) => print_missed(text),
-        Some((_, "paces")) => print_paces(text),
-        _ => run_words(rt, text, name, file),
-    }
-}
-
-// A refusal is printed, but for that of memory.
-fn told(text: &mut String, outcome: Result<(), Refusal>) -> Result<(), AllocError> {
+    let (_, kind) = name.split_once(" = ").unwrap_or((name, ""));
+    let outcome = match kind {
+        "script" => print_script(text, file),
+        "world" => print_worlds(text, file),
+        "trace" => print_laid_out(text, file),
+        "files" => return print_files(text, file),
+        "times" => return print_missed(text),
+        "paces" => return print_paces(text),
+        _ => return run_words(rt, text, name, file),
+    };
     match outcome {
         Ok(()) => Ok(()),
         Err(Refusal::Memory) => Err(AllocError),
@@ -170,16 +149,13 @@ fn run_over<H: Threads + Wait + Clock + Sync>(
     if status == MEMORY && out.bytes.is_empty() {
         return Err(AllocError);
     }
-    print_output(text, text_of(out.bytes.as_slice()), races)?;
-    print_end(text, status, err.bytes.as_slice())
-}
-
-fn print_output(text: &mut String, lines: &str, races: bool) -> Result<(), AllocError> {
+    let lines = text_of(out.bytes.as_slice());
     if races {
-        print_raced(text, lines)
+        print_raced(text, lines)?;
     } else {
-        print_lines(text, lines)
+        print_lines(text, lines)?;
     }
+    print_end(text, status, err.bytes.as_slice())
 }
 
 fn print_raced(text: &mut String, lines: &str) -> Result<(), AllocError> {
