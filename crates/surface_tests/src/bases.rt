@@ -25,7 +25,7 @@ pub fn laws() {
 }
 
 fn call_map(alloc: Global) -> Result<(), Refusal> {
-    let mut base = MapBase::new(alloc, STRIPES)?;
+    let mut base = MapBase::<u64>::new(alloc, STRIPES)?;
     base.prepare(&[])?;
     base.replay(Vec::new(alloc), &LocSet::empty(alloc));
     let _ = base.edition(1);

@@ -34,7 +34,7 @@ fn call_base(alloc: Global, base: &mut Base<u64>) -> Result<(), Refusal> {
 
 fn push_all(alloc: Global) -> Result<(), Memory> {
     let at = LocSet::single(alloc, 1);
-    let mut log = Log::new(alloc);
+    let mut log = Log::<u64>::new(alloc);
     log.reserve(7)?;
     log.push(Change::Put(1, 10), &at)?;
     log.push(Change::Remove(1), &at)?;
