@@ -16,8 +16,6 @@ SECONDS=0
 # sections_of CRATE: the titles of those that are run, one a line.
 sections_of() {
     case $1 in
-    # The sequential model and its audit, and bases of each kind, in rows; all of them.
-    base_tests) ;;
     # run_tool, run_script: a map, a priority queue, a commit that is out of memory; a session file.
     script_tests)
         echo "transactions on a map: a script prints its notices records and state"
@@ -41,16 +39,18 @@ sections_of() {
     esac
 }
 
-# places_of CRATE: the words that name these sections by their places in the stored output.
+# places_of CRATE: the words that name these sections by their places in the stored output, or the allocations that are refused.
 places_of() {
     local title place
+    # Of the sequential model and its audit, and bases of each kind: the first rows.
+    [ "$1" = collection_tests ] && echo 1 480
     sections_of "$1" | while IFS= read -r title; do
         place=$(grep '^# ' "crates/$1/stdout" | grep -nxF "# $title" | head -n 1 | cut -d: -f1)
         echo "--section ${place:-of_no_such_title}"
     done
 }
 
-crates="base_tests script_tests reservation_tests table_tests"
+crates="collection_tests script_tests reservation_tests table_tests"
 for crate in $crates; do
     # The words are told apart by their spaces.
     # shellcheck disable=SC2046

@@ -1,28 +1,23 @@
 //! Sessions and tables that are drawn from a seed.
-use crate::prints::{name_of, print_named};
+use crate::events::narrow;
+use crate::prints::name_of;
 use seq_model::Refusal;
 use std::alloc::Global;
+use std::fmt::Write;
 use text_formats::{Options, generate, opening};
 use vac_model::{Action, Ask, Change, Tables};
-
-fn number_in(wide: u64) -> Result<u32, Refusal> {
-    if wide > u64::from(u32::MAX) {
-        return Err(Refusal::TooLong);
-    }
-    Ok(wide as u32)
-}
 
 fn options_of(numbers: &[u64]) -> Result<Options, Refusal> {
     let [clients, queries, queried, relations, transactions, user] = numbers else {
         return Err(Refusal::NoSuch);
     };
     Ok(Options {
-        clients: number_in(*clients)?,
-        queries: number_in(*queries)?,
-        percent_queried: number_in(*queried)?,
-        relations: number_in(*relations)?,
-        transactions: number_in(*transactions)?,
-        percent_user: number_in(*user)?,
+        clients: narrow(*clients)?,
+        queries: narrow(*queries)?,
+        percent_queried: narrow(*queried)?,
+        relations: narrow(*relations)?,
+        transactions: narrow(*transactions)?,
+        percent_user: narrow(*user)?,
     })
 }
 
@@ -35,20 +30,16 @@ pub fn opened_by_draws(alloc: Global, seed: u64, options: &[u64]) -> Result<Tabl
     Ok(opening(alloc, seed, &options)?)
 }
 
-fn drawn(alloc: Global, seed: u64, worker: u64, options: &Options) -> Result<Vec<Action>, Refusal> {
-    if !options.are_within() || worker == 0 || worker > u64::from(options.clients) {
-        return Err(Refusal::TooLong);
-    }
-    Ok(generate(alloc, seed, worker, options)?)
-}
-
 /// The sessions of a worker.
 pub fn answer_drawn(text: &mut String, numbers: &[u64]) -> Result<(), Refusal> {
     let [seed, worker, options @ ..] = numbers else {
         return Err(Refusal::NoSuch);
     };
     let options = options_of(options)?;
-    let actions = drawn(*text.allocator(), *seed, *worker, &options)?;
+    if !options.are_within() || *worker == 0 || *worker > u64::from(options.clients) {
+        return Err(Refusal::TooLong);
+    }
+    let actions = generate(*text.allocator(), *seed, *worker, &options)?;
     for action in actions.as_slice() {
         text.push('\n')?;
         print_action(text, action)?;
@@ -59,21 +50,21 @@ pub fn answer_drawn(text: &mut String, numbers: &[u64]) -> Result<(), Refusal> {
 fn print_action(text: &mut String, action: &Action) -> Result<(), Refusal> {
     match action {
         Action::Reserve(customer, units, asks) => {
-            print_named(text, "reserve", *customer)?;
-            print_named(text, "", *units)?;
-            print_asks(text, asks.as_slice())
+            write!(text, "reserve {customer} {units}")?;
+            print_asks(text, asks.as_slice())?;
         }
-        Action::Delete(customer) => print_named(text, "delete", *customer),
-        Action::Update(changes) => print_changes(text, changes.as_slice()),
-        Action::QueryItem(_, id) => print_named(text, "item", *id),
-        Action::QueryBill(customer) => print_named(text, "bill", *customer),
+        Action::Delete(customer) => write!(text, "delete {customer}")?,
+        Action::Update(changes) => print_changes(text, changes.as_slice())?,
+        Action::QueryItem(_, id) => write!(text, "item {id}")?,
+        Action::QueryBill(customer) => write!(text, "bill {customer}")?,
     }
+    Ok(())
 }
 
 fn print_asks(text: &mut String, asks: &[Ask]) -> Result<(), Refusal> {
     for ask in asks {
-        text.push(' ')?;
-        print_named(text, name_of(ask.kind), ask.id)?;
+        let (kind, id) = (name_of(ask.kind), ask.id);
+        write!(text, " {kind} {id}")?;
     }
     Ok(())
 }
@@ -82,28 +73,16 @@ fn print_changes(text: &mut String, changes: &[Change]) -> Result<(), Refusal> {
     let mut first = true;
     for change in changes {
         text.push_str(if first { "update " } else { " and " })?;
-        print_change(text, *change)?;
         first = false;
+        match change {
+            Change::Add(kind, id, units, price) => {
+                let kind = name_of(*kind);
+                write!(text, "add {kind} {id} {units} {price}")?;
+            }
+            Change::TakeCar(id, units) => write!(text, "take car {id} {units}")?,
+            Change::TakeRoom(id, units) => write!(text, "take room {id} {units}")?,
+            Change::DropFlight(id) => write!(text, "drop {id}")?,
+        }
     }
     Ok(())
-}
-
-fn print_change(text: &mut String, change: Change) -> Result<(), Refusal> {
-    match change {
-        Change::Add(kind, id, units, price) => {
-            text.push_str("add ")?;
-            print_named(text, name_of(kind), id)?;
-            print_named(text, "", units)?;
-            print_named(text, "", price)
-        }
-        Change::TakeCar(id, units) => {
-            print_named(text, "take car", id)?;
-            print_named(text, "", units)
-        }
-        Change::TakeRoom(id, units) => {
-            print_named(text, "take room", id)?;
-            print_named(text, "", units)
-        }
-        Change::DropFlight(id) => print_named(text, "drop", id),
-    }
 }

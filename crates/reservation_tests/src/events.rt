@@ -11,9 +11,17 @@ use vacation_core::VacEvent;
 /// How a row begins that says which item there is.
 const ITEM: &str = "have ";
 
+/// A number of at most 32 bits.
+pub fn narrow(wide: u64) -> Result<u32, Refusal> {
+    match u32::try_from(wide) {
+        Ok(found) => Ok(found),
+        Err(_) => Err(Refusal::TooLong),
+    }
+}
+
 fn number_in(digits: &str) -> Result<u32, Refusal> {
     match number(digits) {
-        Some(found) => u32::try_from(found).map_err(|_| Refusal::TooLong),
+        Some(found) => narrow(found),
         None => Err(Refusal::NoSuch),
     }
 }
@@ -41,14 +49,18 @@ pub fn tables_in(alloc: Global, rows: &str) -> Result<Tables, Refusal>
     Ok(tables)
 }
 
-fn action_in(alloc: Global, line: &str) -> Result<Action, Refusal> {
+/// The action of a line.
+pub fn action_in(alloc: Global, line: &str) -> Result<Action, Refusal> {
     if line == "nothing" {
         return Ok(Action::Update(Items::new(alloc)));
     }
     let mut text = String::from_str(alloc, line)?;
     text.push('\n')?;
     let (_, mut actions) = parse_sessions(alloc, text.as_bytes())?;
-    actions.pop().ok_or(Refusal::NoSuch)
+    match actions.pop() {
+        Some(action) => Ok(action),
+        None => Err(Refusal::NoSuch),
+    }
 }
 
 /// The actions of the rows, in their order.
@@ -78,49 +90,32 @@ fn add(alloc: Global, events: &mut Vec<VacEvent>, row: &str) -> Result<(), Refus
         return Err(Refusal::NoSuch);
     };
     let client = number_in(digits)?;
-    match words.split_once(' ') {
-        Some(("starts", line)) => add_start(alloc, events, client, line),
-        Some(("steps", times)) => add_steps(events, client, number_in(times)?),
-        Some(("and", words)) => add_turns(events, client, words),
-        _ => add_want(events, client, words),
+    let (verb, others) = words.split_once(' ').unwrap_or((words, ""));
+    match verb {
+        "starts" => events.push(VacEvent::Start(client, action_in(alloc, others)?))?,
+        "starves" => events.push(VacEvent::Starve(client))?,
+        "steps" => add_steps(events, client, None, others)?,
+        "and" => match others.split_once(" step ") {
+            Some((second, times)) => add_steps(events, client, Some(number_in(second)?), times)?,
+            None => return Err(Refusal::NoSuch),
+        },
+        _ => return Err(Refusal::NoSuch),
     }
+    Ok(())
 }
 
-fn add_start(
-    alloc: Global,
+// So many steps, or so many turns of two.
+fn add_steps(
     events: &mut Vec<VacEvent>,
-    client: u32,
-    line: &str,
+    first: u32,
+    second: Option<u32>,
+    times: &str,
 ) -> Result<(), Refusal> {
-    let action = action_in(alloc, line)?;
-    events.push(VacEvent::Start(client, action))?;
-    Ok(())
-}
-
-fn add_steps(events: &mut Vec<VacEvent>, client: u32, times: u32) -> Result<(), Refusal> {
-    for _ in 0..times {
-        events.push(VacEvent::Step(client))?;
-    }
-    Ok(())
-}
-
-// `2 step 5`
-fn add_turns(events: &mut Vec<VacEvent>, first: u32, words: &str) -> Result<(), Refusal> {
-    let Some((digits, times)) = words.split_once(" step ") else {
-        return Err(Refusal::NoSuch);
-    };
-    let (second, times) = (number_in(digits)?, number_in(times)?);
-    for _ in 0..times {
+    for _ in 0..number_in(times)? {
         events.push(VacEvent::Step(first))?;
-        events.push(VacEvent::Step(second))?;
+        if let Some(second) = second {
+            events.push(VacEvent::Step(second))?;
+        }
     }
-    Ok(())
-}
-
-fn add_want(events: &mut Vec<VacEvent>, client: u32, words: &str) -> Result<(), Refusal> {
-    if words != "starves" {
-        return Err(Refusal::NoSuch);
-    }
-    events.push(VacEvent::Starve(client))?;
     Ok(())
 }

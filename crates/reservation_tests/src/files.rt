@@ -1,4 +1,4 @@
-//! Session files, and the actions that stand in them.
+//! Session files, and the actions that they say.
 use crate::prints::{print_lines, say};
 use seq_model::Refusal;
 use std::alloc::Global;
@@ -12,7 +12,10 @@ pub fn numbers_of(alloc: Global, row: &str) -> Result<Vec<u64>, Refusal> {
         return Ok(numbers);
     }
     for token in row.split(' ') {
-        numbers.push(number(token).ok_or(Refusal::NoSuch)?)?;
+        match number(token) {
+            Some(number) => numbers.push(number)?,
+            None => return Err(Refusal::NoSuch),
+        }
     }
     Ok(numbers)
 }
@@ -34,22 +37,6 @@ fn parsed(alloc: Global, bytes: &[u8]) -> Result<(Tables, Vec<Action>), Refusal>
     parse_sessions(alloc, bytes)
 }
 
-fn actions_in(alloc: Global, bytes: &[u8]) -> Result<Vec<Action>, Refusal> {
-    let (tables, actions) = parsed(alloc, bytes)?;
-    drop(tables);
-    Ok(actions)
-}
-
-/// The action of a line.
-pub fn action_of(alloc: Global, line: &str) -> Result<Action, Refusal> {
-    let mut bytes = bytes_of(alloc, line)?;
-    bytes.push(b'\n')?;
-    let mut actions = actions_in(alloc, bytes.as_slice())?;
-    let action = actions.pop();
-    drop(actions);
-    action.ok_or(Refusal::NoSuch)
-}
-
 /// Makes the action. Tables that are out of balance have none.
 pub fn act(tables: &mut Tables, action: &Action) -> Result<ActionReply, Refusal> {
     if !tables.balanced() {
@@ -66,7 +53,7 @@ pub fn act(tables: &mut Tables, action: &Action) -> Result<ActionReply, Refusal>
 pub fn answer_file(text: &mut String, file: &str) -> Result<(), Refusal> {
     let alloc = *text.allocator();
     let bytes = bytes_of(alloc, file)?;
-    drop(actions_in(alloc, bytes.as_slice())?);
+    drop(parsed(alloc, bytes.as_slice())?);
     say(text, "read")
 }
 
@@ -75,10 +62,7 @@ pub fn answer_printed(text: &mut String, numbers: &[u64], file: &str) -> Result<
     let alloc = *text.allocator();
     let bytes = bytes_of(alloc, file)?;
     let (mut tables, actions) = parsed(alloc, bytes.as_slice())?;
-    let printed = print_made(text, &mut tables, numbers, actions.as_slice());
-    drop(tables);
-    drop(actions);
-    printed
+    print_made(text, &mut tables, numbers, actions.as_slice())
 }
 
 fn print_made(

@@ -27,17 +27,6 @@ fn update(alloc: Global, change: Change, count: u64) -> Result<Action, Memory> {
     Ok(Action::Update(changes))
 }
 
-fn built(alloc: Global, name: &str, first: u64, second: u64) -> Result<Action, Memory> {
-    let (kind, id) = (Kind::Room, 1);
-    let added = Change::Add(kind, id, first, second);
-    match name {
-        "asks" => reservation(alloc, first, second),
-        "adds" => update(alloc, added, 1),
-        "takes" => update(alloc, Change::TakeRoom(id, first), 1),
-        _ => update(alloc, Change::DropFlight(id), first),
-    }
-}
-
 /// Builds an action, and makes it.
 pub fn answer_built(
     text: &mut String,
@@ -48,36 +37,34 @@ pub fn answer_built(
     let [first, second] = numbers else {
         return Err(Refusal::NoSuch);
     };
-    let action = built(*text.allocator(), name, *first, *second)?;
+    let (alloc, id) = (*text.allocator(), 1);
+    let action = match name {
+        "asks" => reservation(alloc, *first, *second)?,
+        "adds" => update(alloc, Change::Add(Kind::Room, id, *first, *second), 1)?,
+        "takes" => update(alloc, Change::TakeRoom(id, *first), 1)?,
+        _ => update(alloc, Change::DropFlight(id), *first)?,
+    };
     let reply = act(tables, &action)?;
     print_reply(text, tables, reply)
-}
-
-fn booking(id: u64) -> Booking {
-    Booking {
-        kind: Kind::Car,
-        id,
-        units: 1,
-        price: 1,
-    }
-}
-
-fn wait(id: u64) -> Wait {
-    Wait {
-        kind: Kind::Room,
-        id,
-        units: 1,
-        ticket: id,
-    }
 }
 
 // Gives the customer bookings of cars and waits for rooms, so many of each.
 fn add_places(who: &mut Customer, bookings: u64, waits: u64) -> Result<(), Memory> {
     for id in 0..bookings {
-        who.bookings.push(booking(id))?;
+        who.bookings.push(Booking {
+            kind: Kind::Car,
+            id,
+            units: 1,
+            price: 1,
+        })?;
     }
     for id in 0..waits {
-        who.waits.push(wait(id))?;
+        who.waits.push(Wait {
+            kind: Kind::Room,
+            id,
+            units: 1,
+            ticket: id,
+        })?;
     }
     Ok(())
 }
@@ -115,12 +102,14 @@ pub fn answer_copy(text: &mut String, numbers: &[u64]) -> Result<(), Refusal> {
     };
     let mut who = Customer::new(*text.allocator());
     add_places(&mut who, *bookings, 0)?;
-    let same = is_same_as_copy(&who, *more)?;
-    say(text, if same { "the same" } else { "another" })
-}
-
-fn is_same_as_copy(who: &Customer, more: u64) -> Result<bool, Memory> {
     let mut copy = who.try_copy()?;
-    add_places(&mut copy, more, 0)?;
-    Ok(who.same(&copy))
+    add_places(&mut copy, *more, 0)?;
+    say(
+        text,
+        if who.same(&copy) {
+            "the same"
+        } else {
+            "another"
+        },
+    )
 }

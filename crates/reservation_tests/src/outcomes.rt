@@ -1,8 +1,9 @@
 //! What came of sessions, as text.
-use client_sessions::{Entry, tables_of};
-use seq_model::{Items, Record, Refusal};
+use crate::prints::print_sessions;
+use client_sessions::tables_of;
+use seq_model::{Items, Refusal};
 use std::fmt::Write;
-use text_formats::{Line, print_sessions};
+use text_formats::Line;
 use vac_model::{ActionReply, Tables};
 use vacation_core::{Ordered, VacTrace};
 
@@ -33,7 +34,7 @@ fn print_parts(
     }
     let lines = print_done(text, done)?;
     print_ended(text, aborted, half)?;
-    print_held(text, lines.as_slice(), tables)
+    print_sessions(text, lines.as_slice(), tables)
 }
 
 // Whether a session ended as memory ran out where no row starved it.
@@ -77,28 +78,14 @@ fn print_ended(text: &mut String, aborted: &[(u32, Refusal)], half: &[u64]) -> R
     Ok(())
 }
 
-fn print_held(text: &mut String, lines: &[Line], tables: &Tables) -> Result<(), Refusal> {
-    let printed = print_sessions(*text.allocator(), lines, tables)?;
-    match std::str::from_utf8(printed.as_slice()) {
-        Ok(printed) => text.push_str(printed)?,
-        Err(_) => text.push_str("no text\n")?,
-    }
-    Ok(())
-}
-
 /// What came of sessions one after another.
 pub fn print_ordered(text: &mut String, ordered: &Ordered) -> Result<(), Refusal> {
     for receipt in ordered.receipts.as_slice() {
-        print_receipt(text, receipt)?;
+        let number = receipt.number;
+        let kind = kind_of(receipt.writes);
+        let calls = receipt.calls.len();
+        writeln!(text, "committed {number}, {kind}, calls {calls}")?;
     }
     let tables = tables_of(*text.allocator(), &ordered.state)?;
-    print_held(text, &[], &tables)
-}
-
-fn print_receipt(text: &mut String, receipt: &Record<Entry>) -> Result<(), Refusal> {
-    let number = receipt.number;
-    let kind = kind_of(receipt.writes);
-    let calls = receipt.calls.len();
-    writeln!(text, "committed {number}, {kind}, calls {calls}")?;
-    Ok(())
+    print_sessions(text, &[], &tables)
 }

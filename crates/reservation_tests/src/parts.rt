@@ -12,8 +12,9 @@ pub fn of_parts(alloc: Global, units: u64, tickets: &[u64], next: u64) -> Result
         flight: Entries::new(alloc),
         room: Entries::new(alloc),
     };
+    let tickets = QueueItems::from_vec(tickets.to_vec(alloc)?);
     let waiting = Each {
-        car: line_of(alloc, tickets)?,
+        car: Queue { head: 0, tickets },
         flight: Queue::new(alloc),
         room: Queue::new(alloc),
     };
@@ -33,11 +34,6 @@ fn cars_of(alloc: Global, units: u64) -> Result<Entries<Item>, Memory> {
         cars.insert(1, item)?;
     }
     Ok(cars)
-}
-
-fn line_of(alloc: Global, tickets: &[u64]) -> Result<Queue, Memory> {
-    let tickets = QueueItems::from_vec(tickets.to_vec(alloc)?);
-    Ok(Queue { head: 0, tickets })
 }
 
 fn copy_of<V: Value>(alloc: Global, entries: Iter<'_, u64, V>) -> Result<Entries<V>, Memory> {
@@ -84,7 +80,5 @@ fn rebuilt(alloc: Global, tables: &Tables) -> Result<Tables, Memory> {
 /// Prints what tables of these tables' parts hold.
 pub fn print_rebuilt(text: &mut String, tables: &Tables) -> Result<(), Refusal> {
     let again = rebuilt(*text.allocator(), tables)?;
-    let printed = print_left(text, &again);
-    drop(again);
-    printed
+    print_left(text, &again)
 }

@@ -1,8 +1,8 @@
 //! What actions answer and what tables hold, as text.
 use seq_model::{LastAbort, Refusal};
 use std::fmt::Write;
-use text_formats::{Line, print_sessions};
-use vac_model::{ActionReply, Kind, Tables, Ticket, is_balanced_by_tally};
+use text_formats::Line;
+use vac_model::{ActionReply, Kind, Tables, is_balanced_by_tally};
 
 /// Prints an answer in the line of its row.
 pub fn say(text: &mut String, answer: &str) -> Result<(), Refusal> {
@@ -11,18 +11,19 @@ pub fn say(text: &mut String, answer: &str) -> Result<(), Refusal> {
     Ok(())
 }
 
-/// Prints a number after its name.
-pub fn print_named(text: &mut String, name: &str, number: u64) -> Result<(), Refusal> {
-    write!(text, "{name} {number}")?;
-    Ok(())
-}
-
 fn lines_of(text: &String, lines: &[Line], tables: &Tables) -> Result<String, Refusal> {
-    let printed = print_sessions(*text.allocator(), lines, tables)?;
+    let printed = text_formats::print_sessions(*text.allocator(), lines, tables)?;
     match String::from_utf8(printed) {
         Ok(printed) => Ok(printed),
         Err(_) => Err(Refusal::NoSuch),
     }
+}
+
+/// Prints what came of sessions, and what the tables hold.
+pub fn print_sessions(text: &mut String, lines: &[Line], tables: &Tables) -> Result<(), Refusal> {
+    let printed = lines_of(text, lines, tables)?;
+    text.push_str(printed.as_str())?;
+    Ok(())
 }
 
 /// Prints what came of sessions after the line of the row, the last line without its line feed.
@@ -47,9 +48,7 @@ pub fn print_missed(text: &mut String) -> Result<(), Refusal> {
         Line::Missed(LastAbort::NotStarted),
     ];
     let tables = Tables::new(*text.allocator());
-    let printed = print_lines(text, &lines, &tables);
-    drop(tables);
-    printed
+    print_lines(text, &lines, &tables)
 }
 
 /// Prints the reply as a session's, without the numbers before it.
@@ -60,10 +59,17 @@ pub fn print_reply(text: &mut String, tables: &Tables, reply: ActionReply) -> Re
     say(text, line.strip_prefix("1 0: ").unwrap_or(line))
 }
 
-/// Prints what the tables hold.
+/// Prints what the tables hold, and the tickets.
 pub fn print_left(text: &mut String, tables: &Tables) -> Result<(), Refusal> {
     print_lines(text, &[], tables)?;
-    print_tickets(text, tables)?;
+    for (number, ticket) in tables.tickets() {
+        let (kind, id) = (name_of(ticket.kind), ticket.id);
+        let (customer, units) = (ticket.customer, ticket.units);
+        write!(
+            text,
+            "\nticket {number}: customer {customer} {kind} {id} {units}"
+        )?;
+    }
     print_end(text, tables)
 }
 
@@ -76,38 +82,21 @@ pub fn name_of(kind: Kind) -> &'static str {
     }
 }
 
-fn print_tickets(text: &mut String, tables: &Tables) -> Result<(), Refusal> {
-    for (number, ticket) in tables.tickets() {
-        print_ticket(text, *number, ticket)?;
-    }
-    Ok(())
-}
-
-fn print_ticket(text: &mut String, number: u64, ticket: &Ticket) -> Result<(), Refusal> {
-    print_named(text, "\nticket", number)?;
-    print_named(text, ": customer", ticket.customer)?;
-    text.push(' ')?;
-    print_named(text, name_of(ticket.kind), ticket.id)?;
-    print_named(text, "", ticket.units)
-}
-
+// How many were taken off each queue, the next ticket, and what both tests of balance say.
 fn print_end(text: &mut String, tables: &Tables) -> Result<(), Refusal> {
-    let balanced = balance_of(text, tables)?;
-    print_named(text, "\ntaken off", tables.waiting(Kind::Car).head)?;
-    print_named(text, "", tables.waiting(Kind::Flight).head)?;
-    print_named(text, "", tables.waiting(Kind::Room).head)?;
-    print_named(text, "\nnext", tables.next_ticket())?;
-    text.push_str("\nbalanced ")?;
-    text.push_str(balanced)?;
-    Ok(())
-}
-
-// What both tests of balance say.
-fn balance_of(text: &String, tables: &Tables) -> Result<&'static str, Refusal> {
     let by_tally = is_balanced_by_tally(*text.allocator(), tables)?;
-    Ok(match (tables.balanced(), by_tally) {
+    let balanced = match (tables.balanced(), by_tally) {
         (true, true) => "yes",
         (false, false) => "no",
         _ => "in doubt",
-    })
+    };
+    let cars = tables.waiting(Kind::Car).head;
+    let flights = tables.waiting(Kind::Flight).head;
+    let rooms = tables.waiting(Kind::Room).head;
+    let next = tables.next_ticket();
+    write!(
+        text,
+        "\ntaken off {cars} {flights} {rooms}\nnext {next}\nbalanced {balanced}"
+    )?;
+    Ok(())
 }

@@ -1,13 +1,13 @@
 //! The rows, and who answers each.
 use crate::draws::{answer_drawn, opened_by_draws};
-use crate::files::{act, action_of, answer_file, answer_printed, numbers_of};
+use crate::events::action_in;
+use crate::files::{act, answer_file, answer_printed, numbers_of};
 use crate::limits::{answer_built, answer_copy, answer_places};
 use crate::parts::{of_parts, print_rebuilt};
 use crate::prints::{print_left, print_missed, print_reply, say};
 use seq_model::{Memory, Refusal};
 use std::alloc::Global;
 use std::fmt::Write;
-use std::mem;
 use vac_model::{ActionRefusal, Tables};
 
 /// The rows, each with its answer. An empty row and one that begins with `#` have none. What is
@@ -31,29 +31,14 @@ use vac_model::{ActionRefusal, Tables};
 ///   transactions and the share of the reservations.
 pub fn answer_rows(text: &mut String, rows: &str) -> Result<(), Memory> {
     let mut tables = Tables::new(*text.allocator());
-    let answered = answer_lines(text, &mut tables, rows);
-    drop(tables);
-    answered
-}
-
-fn answer_lines(text: &mut String, tables: &mut Tables, rows: &str) -> Result<(), Memory> {
     for row in rows.lines() {
-        answer_line(text, tables, row)?;
+        text.push_str(row)?;
+        if !matches!(row.as_bytes(), [] | [b'#', ..]) {
+            answer(text, &mut tables, row)?;
+        }
+        text.push('\n')?;
     }
     Ok(())
-}
-
-fn answer_line(text: &mut String, tables: &mut Tables, row: &str) -> Result<(), Memory> {
-    text.push_str(row)?;
-    if is_asked(row) {
-        answer(text, tables, row)?;
-    }
-    text.push('\n')?;
-    Ok(())
-}
-
-fn is_asked(row: &str) -> bool {
-    !matches!(row.as_bytes(), [] | [b'#', ..])
 }
 
 fn answer(text: &mut String, tables: &mut Tables, row: &str) -> Result<(), Memory> {
@@ -72,7 +57,6 @@ fn answer_row(text: &mut String, tables: &mut Tables, row: &str) -> Result<(), R
     let (head, file) = row.split_once(": ").unwrap_or((row, ""));
     let (name, others) = head.split_once(' ').unwrap_or((head, ""));
     match name {
-        "empty" => open(text, tables, Tables::new(*text.allocator())),
         "left" => print_left(text, tables),
         "rebuilt" => print_rebuilt(text, tables),
         "refusals" => print_refusals(text),
@@ -100,18 +84,16 @@ fn answer_numbers(
         "printed" => answer_printed(text, numbers, file),
         "drawn" => answer_drawn(text, numbers),
         _ => {
-            let opened = opened(*text.allocator(), name, numbers)?;
-            open(text, tables, opened)
+            *tables = opened(*text.allocator(), name, numbers)?;
+            say(text, "opened")
         }
     }
 }
 
-fn open(text: &mut String, tables: &mut Tables, opened: Tables) -> Result<(), Refusal> {
-    drop(mem::replace(tables, opened));
-    say(text, "opened")
-}
-
 fn opened(alloc: Global, name: &str, numbers: &[u64]) -> Result<Tables, Refusal> {
+    if name == "empty" {
+        return Ok(Tables::new(alloc));
+    }
     let [first, others @ ..] = numbers else {
         return Err(Refusal::NoSuch);
     };
@@ -124,7 +106,7 @@ fn opened(alloc: Global, name: &str, numbers: &[u64]) -> Result<Tables, Refusal>
 }
 
 fn answer_action(text: &mut String, tables: &mut Tables, row: &str) -> Result<(), Refusal> {
-    let action = action_of(*text.allocator(), row)?;
+    let action = action_in(*text.allocator(), row)?;
     let reply = act(tables, &action)?;
     print_reply(text, tables, reply)
 }

@@ -26,34 +26,19 @@ use vacation_core::{VacWorld, run_in_order};
 /// just before; any other is answered as `Memory` of the whole.
 pub fn answer_all(alloc: Global, sections: &str) -> Result<String, Refusal> {
     let mut text = String::new(alloc);
+    let mut count = 0u64;
     for section in sections.split("----\n") {
-        answer_named(&mut text, section)?;
+        if let Some((name, rows)) = section.split_once('\n') {
+            count = count.saturating_add(1);
+            writeln!(text, "# {name}")?;
+            answer_section(&mut text, rows)?;
+        }
     }
-    let count = count_of(sections);
     writeln!(text, "sections {count}")?;
     Ok(text)
 }
 
-fn count_of(sections: &str) -> u64 {
-    let mut count = 0u64;
-    for section in sections.split("----\n") {
-        if section.contains('\n') {
-            count = count.saturating_add(1);
-        }
-    }
-    count
-}
-
-fn answer_named(text: &mut String, section: &str) -> Result<(), Refusal> {
-    match section.split_once('\n') {
-        Some((name, rows)) => {
-            writeln!(text, "# {name}")?;
-            answer_section(text, rows)
-        }
-        None => Ok(()),
-    }
-}
-
+// A refusal is the result of the section, but for `Memory`.
 fn answer_section(text: &mut String, section: &str) -> Result<(), Refusal> {
     let Some((header, rows)) = section.split_once('\n') else {
         return Err(Refusal::NoSuch);
@@ -62,46 +47,28 @@ fn answer_section(text: &mut String, section: &str) -> Result<(), Refusal> {
         return Ok(answer_rows(text, rows)?);
     }
     let answered = match header.strip_prefix("in order, ") {
-        Some(header) => run_ordered(text, stripes_in(header)?, rows)?,
-        None => run_interleaved(text, stripes_in(header)?, rows)?,
+        Some(header) => run_ordered(text, stripes_in(header)?, rows),
+        None => run_interleaved(text, stripes_in(header)?, rows),
     };
-    tell(text, answered)
-}
-
-// A refusal is the result of the section, but for `Memory`.
-fn tell(text: &mut String, answered: Result<(), Refusal>) -> Result<(), Refusal> {
     match answered {
-        Err(Refusal::Memory) => return Err(Refusal::Memory),
-        Err(refusal) => writeln!(text, "{refusal}")?,
-        Ok(()) => {}
+        Err(Refusal::Memory) => Err(Refusal::Memory),
+        Err(refusal) => Ok(writeln!(text, "{refusal}")?),
+        Ok(()) => Ok(()),
     }
-    Ok(())
 }
 
-fn run_interleaved(
-    text: &mut String,
-    stripes: u32,
-    rows: &str,
-) -> Result<Result<(), Refusal>, Refusal> {
+fn run_interleaved(text: &mut String, stripes: u32, rows: &str) -> Result<(), Refusal> {
     let alloc = *text.allocator();
     let events = events_in(alloc, rows)?;
     let tables = tables_in(alloc, rows)?;
-    match VacWorld::run(alloc, tables, stripes, events.as_slice()) {
-        Ok(trace) => Ok(Ok(print_trace(text, trace)?)),
-        Err(refusal) => Ok(Err(refusal)),
-    }
+    let trace = VacWorld::run(alloc, tables, stripes, events.as_slice())?;
+    print_trace(text, trace)
 }
 
-fn run_ordered(
-    text: &mut String,
-    stripes: u32,
-    rows: &str,
-) -> Result<Result<(), Refusal>, Refusal> {
+fn run_ordered(text: &mut String, stripes: u32, rows: &str) -> Result<(), Refusal> {
     let alloc = *text.allocator();
     let actions = actions_in(alloc, rows)?;
     let tables = tables_in(alloc, rows)?;
-    match run_in_order(alloc, tables, stripes, actions.as_slice()) {
-        Ok(ordered) => Ok(Ok(print_ordered(text, &ordered)?)),
-        Err(refusal) => Ok(Err(refusal)),
-    }
+    let ordered = run_in_order(alloc, tables, stripes, actions.as_slice())?;
+    print_ordered(text, &ordered)
 }

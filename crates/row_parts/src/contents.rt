@@ -1,18 +1,8 @@
-//! What collections hold, and sets of locations, as text.
-use conflict::LocSet;
+//! What collections hold, as text.
 use replay_log::Base;
 use seq_model::{Held, Memory, Refusal};
 use std::collections::btree_map::Iter;
 use std::fmt::Write;
-
-/// Prints a name, and the locations of a set.
-pub fn print_locations(text: &mut String, name: &str, locations: &LocSet) -> Result<(), Memory> {
-    text.push_str(name)?;
-    for location in locations.as_slice() {
-        write!(text, " {location}")?;
-    }
-    Ok(())
-}
 
 /// Prints what the collection holds.
 pub fn print_base(text: &mut String, base: &Base<u64>) -> Result<(), Refusal> {

@@ -1,10 +1,11 @@
 //! A trace that is laid out by hand, and what is printed of it.
 use crate::notices::{narrow, notice_of};
-use seq_model::{Call, Held, Items, Memory, Notice, Op, Record, Refusal, Reply, State};
+use row_parts::state_of;
+use seq_model::{Call, Items, Notice, Op, Record, Refusal, Reply, State};
 use session_text::{ScriptRun, print_trace};
 use std::alloc::Global;
 use step_world::Trace;
-use text_formats::{Script, number, parse_steps, tokens_of};
+use text_formats::{number, parse_steps};
 
 /// Prints the trace of these lines:
 ///
@@ -23,7 +24,7 @@ pub fn print_laid_out(text: &mut String, laid_out: &str) -> Result<(), Refusal> 
 /// Prints a trace, with nothing printed before it.
 pub fn print_trace_alone(text: &mut String, trace: Trace<u64>) -> Result<(), Refusal> {
     let alloc = *text.allocator();
-    let opening = state_of(alloc, "")?;
+    let opening = header_of(alloc, "")?;
     let run = ScriptRun {
         notices: Items::new(alloc),
         opening,
@@ -39,8 +40,8 @@ fn print_run(text: &mut String, run: &ScriptRun) -> Result<(), Refusal> {
 }
 
 fn opened(alloc: Global, header: &str) -> Result<ScriptRun, Refusal> {
-    let opening = state_of(alloc, "")?;
-    let state = state_of(alloc, header)?;
+    let opening = header_of(alloc, "")?;
+    let state = header_of(alloc, header)?;
     Ok(ScriptRun {
         notices: Items::new(alloc),
         opening,
@@ -53,88 +54,67 @@ fn opened(alloc: Global, header: &str) -> Result<ScriptRun, Refusal> {
     })
 }
 
-fn state_of(alloc: Global, header: &str) -> Result<State<u64>, Refusal> {
+fn header_of(alloc: Global, header: &str) -> Result<State<u64>, Refusal> {
     let script = parse_steps(alloc, header.as_bytes())?;
-    state_in(alloc, &script)
-}
-
-/// What the words and collections of a script's header hold.
-pub fn state_in(alloc: Global, script: &Script) -> Result<State<u64>, Refusal> {
-    let words = Vec::from_slice(alloc, script.words.as_slice())?;
-    let held = held_in(alloc, script)?;
-    State::new(words, held)
-}
-
-fn held_in(alloc: Global, script: &Script) -> Result<Vec<Held<u64>>, Memory> {
-    let mut held = Vec::new(alloc);
-    for collection in script.collections.as_slice() {
-        let copy = collection.held.try_copy(alloc)?;
-        held.push(from_index(copy, script.clock))?;
-    }
-    Ok(held)
-}
-
-fn from_index(held: Held<u64>, index: u64) -> Held<u64> {
-    match held {
-        Held::Queue { head: _, items } => Held::Queue { head: index, items },
-        other => other,
-    }
+    state_of(alloc, &script, script.clock)
 }
 
 fn add_all(run: &mut ScriptRun, alloc: Global, lines: &str) -> Result<(), Refusal> {
     for line in lines.lines() {
-        let tokens = tokens_of(alloc, line)?;
-        add(run, alloc, tokens.as_slice())?;
+        let (first, others) = line.split_once(' ').unwrap_or((line, ""));
+        match first {
+            "Quiet" => run.notices.push(Notice::Quiet)?,
+            "half" => run.trace.half.push(number_in(others)?)?,
+            "record" => run.trace.records.push(record_in(alloc, others)?)?,
+            actor => run.notices.push(notice_in(actor, others)?)?,
+        }
     }
     Ok(())
-}
-
-fn add(run: &mut ScriptRun, alloc: Global, tokens: &[&str]) -> Result<(), Refusal> {
-    match tokens {
-        ["Quiet"] => run.notices.push(Notice::Quiet)?,
-        ["half", half] => run.trace.half.push(number_in(half)?)?,
-        ["record", record @ ..] => run.trace.records.push(record_in(alloc, record)?)?,
-        [actor, told @ ..] => {
-            let notice = notice_of(actor_in(actor)?, told).ok_or(Refusal::NoSuch)?;
-            run.notices.push(notice)?;
-        }
-        [] => {}
-    }
-    Ok(())
-}
-
-fn record_in(alloc: Global, tokens: &[&str]) -> Result<(u32, Record<u64>), Refusal> {
-    match tokens {
-        [number, kind, "actor", actor, "calls", calls] => {
-            let (number, actor) = (number_in(number)?, actor_in(actor)?);
-            let calls = calls_of(alloc, number_in(calls)?)?;
-            let writes = *kind == "write";
-            Ok((
-                actor,
-                Record {
-                    number,
-                    writes,
-                    calls,
-                },
-            ))
-        }
-        _ => Err(Refusal::NoSuch),
-    }
 }
 
 fn number_in(token: &str) -> Result<u64, Refusal> {
-    number(token).ok_or(Refusal::NoSuch)
+    match number(token) {
+        Some(number) => Ok(number),
+        None => Err(Refusal::NoSuch),
+    }
 }
 
-fn actor_in(token: &str) -> Result<u32, Refusal> {
-    narrow(token).ok_or(Refusal::NoSuch)
+fn notice_in(actor: &str, told: &str) -> Result<Notice<u64>, Refusal> {
+    let Some(actor) = narrow(actor) else {
+        return Err(Refusal::NoSuch);
+    };
+    match notice_of(actor, told) {
+        Some(notice) => Ok(notice),
+        None => Err(Refusal::NoSuch),
+    }
 }
 
-fn calls_of(alloc: Global, count: u64) -> Result<Items<(Call<u64>, Reply<u64>)>, Memory> {
+// `4 write actor 64 calls 1`: the number, whether it wrote, the actor and how many calls.
+fn parts_of(record: &str) -> Option<(u64, bool, u32, u64)> {
+    let (head, calls) = record.split_once(" calls ")?;
+    let (head, actor) = head.split_once(" actor ")?;
+    let (number_of, kind) = head.split_once(' ')?;
+    Some((
+        number(number_of)?,
+        kind == "write",
+        narrow(actor)?,
+        number(calls)?,
+    ))
+}
+
+fn record_in(alloc: Global, record: &str) -> Result<(u32, Record<u64>), Refusal> {
+    let Some((number, writes, actor, count)) = parts_of(record) else {
+        return Err(Refusal::NoSuch);
+    };
     let mut calls = Items::new(alloc);
     for word in 0..count {
         let op = Op::Write(word);
         calls.push((Call { target: 0, op }, Reply::Done))?;
     }
-    Ok(calls)
+    let record = Record {
+        number,
+        writes,
+        calls,
+    };
+    Ok((actor, record))
 }

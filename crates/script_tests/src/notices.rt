@@ -1,4 +1,4 @@
-//! Notices, as their tokens spell them.
+//! Notices, as a line spells them.
 use seq_model::{Answer, Notice, Refusal, Reply};
 use text_formats::number;
 
@@ -7,73 +7,64 @@ pub fn narrow(token: &str) -> Option<u32> {
     u32::try_from(number(token)?).ok()
 }
 
-/// What an actor is answered.
-pub fn notice_of(actor: u32, tokens: &[&str]) -> Option<Notice<u64>> {
-    match answer_of(tokens) {
-        Some(answer) => Some(Notice::Answered(actor, answer)),
-        None => Some(Notice::Refused(actor, refusal_of(tokens)?)),
+/// What an actor is answered: a name, and then up to three numbers, of which those that are left out are 0.
+pub fn notice_of(actor: u32, told: &str) -> Option<Notice<u64>> {
+    let (name, numbers) = told.split_once(' ').unwrap_or((told, "0"));
+    let (first, numbers) = numbers.split_once(' ').unwrap_or((numbers, "0"));
+    let (second, third) = numbers.split_once(' ').unwrap_or((numbers, "0"));
+    match answer_of(name, number(first)?) {
+        Some(answer) => Some(answer_to(actor, answer)),
+        None => {
+            let words = (number(second)?, number(third)?);
+            Some(Notice::Refused(actor, refusal_at(name, narrow(first)?, words)?))
+        }
     }
 }
 
-fn answer_of(tokens: &[&str]) -> Option<Answer<u64>> {
-    match tokens {
-        ["Begun", clock] => Some(Answer::Begun(number(clock)?)),
-        ["Committed", commit] => Some(Answer::Committed(number(commit)?)),
-        ["Aborted"] => Some(Answer::Aborted),
-        _ => Some(Answer::Replied(reply_of(tokens)?)),
+fn answer_to(actor: u32, told: Result<Answer<u64>, Refusal>) -> Notice<u64> {
+    match told {
+        Ok(answer) => Notice::Answered(actor, answer),
+        Err(refusal) => Notice::Refused(actor, refusal),
     }
 }
 
-fn reply_of(tokens: &[&str]) -> Option<Reply<u64>> {
-    match tokens {
-        ["Done"] => Some(Reply::Done),
-        ["Full"] => Some(Reply::Full),
-        ["Nothing"] => Some(Reply::Nothing),
-        ["Yes"] => Some(Reply::Yes),
-        ["No"] => Some(Reply::No),
-        ["Value", value] => Some(Reply::Value(number(value)?)),
-        ["Found", element] => Some(Reply::Found(number(element)?)),
-        ["Number", count] => Some(Reply::Number(number(count)?)),
+// What is told without a location.
+fn answer_of(name: &str, number: u64) -> Option<Result<Answer<u64>, Refusal>> {
+    match name {
+        "Begun" => Some(Ok(Answer::Begun(number))),
+        "Committed" => Some(Ok(Answer::Committed(number))),
+        "Aborted" => Some(Ok(Answer::Aborted)),
+        "Done" => Some(Ok(Answer::Replied(Reply::Done))),
+        "Full" => Some(Ok(Answer::Replied(Reply::Full))),
+        "Nothing" => Some(Ok(Answer::Replied(Reply::Nothing))),
+        "Yes" => Some(Ok(Answer::Replied(Reply::Yes))),
+        "No" => Some(Ok(Answer::Replied(Reply::No))),
+        "Value" => Some(Ok(Answer::Replied(Reply::Value(number)))),
+        "Found" => Some(Ok(Answer::Replied(Reply::Found(number)))),
+        "Number" => Some(Ok(Answer::Replied(Reply::Number(number)))),
+        "Memory" => Some(Err(Refusal::Memory)),
+        "NoSuch" => Some(Err(Refusal::NoSuch)),
+        "TooLong" => Some(Err(Refusal::TooLong)),
+        "NotIdle" => Some(Err(Refusal::NotIdle)),
+        "NoTransaction" => Some(Err(Refusal::NoTransaction)),
+        "Exhausted" => Some(Err(Refusal::Exhausted { clock: number })),
         _ => None,
     }
 }
 
-fn refusal_of(tokens: &[&str]) -> Option<Refusal> {
-    match tokens {
-        ["Memory"] => Some(Refusal::Memory),
-        ["NoSuch"] => Some(Refusal::NoSuch),
-        ["TooLong"] => Some(Refusal::TooLong),
-        ["NotIdle"] => Some(Refusal::NotIdle),
-        ["NoTransaction"] => Some(Refusal::NoTransaction),
-        ["GateBusy", collection] => Some(Refusal::GateBusy {
-            collection: narrow(collection)?,
+fn refusal_at(name: &str, location: u32, words: (u64, u64)) -> Option<Refusal> {
+    let (word, word_edition) = words;
+    match name {
+        "GateBusy" => Some(Refusal::GateBusy {
+            collection: location,
         }),
-        ["Exhausted", clock] => Some(Refusal::Exhausted {
-            clock: number(clock)?,
-        }),
-        [name, location, words @ ..] => refusal_at(name, narrow(location)?, words),
-        _ => None,
-    }
-}
-
-fn refusal_at(name: &str, location: u32, words: &[&str]) -> Option<Refusal> {
-    match (name, words) {
-        ("Moved", [word]) => Some(Refusal::Moved {
+        "Moved" => Some(Refusal::Moved { location, word }),
+        "Busy" => Some(Refusal::Busy { location, word }),
+        "Invalid" => Some(Refusal::Invalid { location, word }),
+        "Stale" => Some(Refusal::Stale {
             location,
-            word: number(word)?,
-        }),
-        ("Busy", [word]) => Some(Refusal::Busy {
-            location,
-            word: number(word)?,
-        }),
-        ("Invalid", [word]) => Some(Refusal::Invalid {
-            location,
-            word: number(word)?,
-        }),
-        ("Stale", [base, word]) => Some(Refusal::Stale {
-            location,
-            base_edition: number(base)?,
-            word_edition: number(word)?,
+            base_edition: word,
+            word_edition,
         }),
         _ => None,
     }

@@ -1,9 +1,9 @@
 //! A script, as it was read.
-use seq_model::{Held, Op, Refusal, Request};
+use row_parts::print_held;
+use seq_model::{Memory, Op, Refusal, Request};
 use std::alloc::AllocError;
-use std::collections::btree_map::Iter;
 use std::fmt::Write;
-use text_formats::{Collection, EventLine, Script, parse_steps};
+use text_formats::{EventLine, Script, parse_steps};
 
 /// Prints what was read of a script: its words, its clock, its collections, and its lines.
 pub fn print_script(text: &mut String, lines: &str) -> Result<(), Refusal> {
@@ -12,12 +12,13 @@ pub fn print_script(text: &mut String, lines: &str) -> Result<(), Refusal> {
     Ok(())
 }
 
-fn print_read(text: &mut String, script: &Script) -> Result<(), AllocError> {
-    text.push_str("words")?;
-    print_numbers(text, script.words.as_slice())?;
+fn print_read(text: &mut String, script: &Script) -> Result<(), Memory> {
+    print_words(text, script.words.as_slice())?;
     writeln!(text, "\nclock {}", script.clock)?;
     for collection in script.collections.as_slice() {
-        print_collection(text, collection)?;
+        write!(text, "{} stripes, ", collection.stripes)?;
+        print_held(text, &collection.held)?;
+        text.push('\n')?;
     }
     for line in script.lines.as_slice() {
         print_line(text, line)?;
@@ -26,33 +27,10 @@ fn print_read(text: &mut String, script: &Script) -> Result<(), AllocError> {
     Ok(())
 }
 
-fn print_numbers(text: &mut String, numbers: &[u64]) -> Result<(), AllocError> {
-    for number in numbers {
+fn print_words(text: &mut String, words: &[u64]) -> Result<(), AllocError> {
+    text.push_str("words")?;
+    for number in words {
         write!(text, " {number}")?;
-    }
-    Ok(())
-}
-
-fn print_collection(text: &mut String, collection: &Collection) -> Result<(), AllocError> {
-    write!(text, "{} stripes, ", collection.stripes)?;
-    match &collection.held {
-        Held::Map(entries) => print_pairs(text, "map", entries.iter())?,
-        Held::Bag(counts) => print_pairs(text, "bag", counts.iter())?,
-        Held::Pq(counts) => print_pairs(text, "pq", counts.iter())?,
-        Held::Queue { head, items } => {
-            write!(text, "queue from {head}:")?;
-            let (front, back) = items.as_slices();
-            print_numbers(text, front)?;
-            print_numbers(text, back)?;
-        }
-    }
-    text.push('\n')
-}
-
-fn print_pairs(text: &mut String, kind: &str, pairs: Iter<'_, u64, u64>) -> Result<(), AllocError> {
-    text.push_str(kind)?;
-    for (key, value) in pairs {
-        write!(text, " {key}:{value}")?;
     }
     Ok(())
 }

@@ -55,26 +55,16 @@ pub fn run_all<H: Threads + Wait + Clock + Sync>(
     sections: &str,
 ) -> Result<String, AllocError> {
     let mut text = String::new(alloc);
-    let count = run_each(rt, &mut text, sections)?;
-    writeln!(text, "sections {count}")?;
-    Ok(text)
-}
-
-/// How many there are.
-fn run_each<H: Threads + Wait + Clock + Sync>(
-    rt: &H,
-    text: &mut String,
-    sections: &str,
-) -> Result<u64, AllocError> {
     let mut count = 0u64;
     for section in sections.split("----\n") {
         if let Some((name, file)) = section.split_once('\n') {
             writeln!(text, "# {name}")?;
-            run_section(rt, text, name, file)?;
+            run_section(rt, &mut text, name, file)?;
             count = count.saturating_add(1);
         }
     }
-    Ok(count)
+    writeln!(text, "sections {count}")?;
+    Ok(text)
 }
 
 fn run_section<H: Threads + Wait + Clock + Sync>(
@@ -83,32 +73,25 @@ fn run_section<H: Threads + Wait + Clock + Sync>(
     name: &str,
     file: &str,
 ) -> Result<(), AllocError> {
-    match name.split_once(" = ") {
-        Some((_, "script")) => {
-            let outcome = print_script(text, file);
-            told(text, outcome)
-        }
-        Some((_, "world")) => {
-            let outcome = print_worlds(text, file);
-            told(text, outcome)
-        }
-        Some((_, "trace")) => {
-            let outcome = print_laid_out(text, file);
-            told(text, outcome)
-        }
-        Some((_, "replayed")) => {
+    let (_, kind) = name.split_once(" = ").unwrap_or((name, ""));
+    let outcome = match kind {
+        "script" => print_script(text, file),
+        "world" => print_worlds(text, file),
+        "trace" => print_laid_out(text, file),
+        "replayed" => {
             let outcome = print_replayed(text, file);
-            told_fault(text, outcome)
+            return told_fault(text, outcome);
         }
-        Some((_, "schedules")) => {
+        "schedules" => {
             let outcome = print_beside_all(text, file);
-            told_fault(text, outcome)
+            return told_fault(text, outcome);
         }
-        Some((_, "files")) => print_files(text, file),
-        Some((_, "times")) => print_missed(text),
-        Some((_, "paces")) => print_paces(text),
-        _ => run_words(rt, text, name, file),
-    }
+        "files" => return print_files(text, file),
+        "times" => return print_missed(text),
+        "paces" => return print_paces(text),
+        _ => return run_words(rt, text, name, file),
+    };
+    told(text, outcome)
 }
 
 // A refusal is printed, but for that of memory.
@@ -227,7 +210,10 @@ fn print_output(text: &mut String, lines: &str, shown: Shown) -> Result<(), Allo
 }
 
 fn print_last(text: &mut String, lines: &str) -> Result<(), AllocError> {
-    let count = count_of(lines);
+    let mut count = 0usize;
+    for _line in lines.split_inclusive('\n') {
+        count = count.saturating_add(1);
+    }
     let mut place = 0usize;
     for line in lines.split_inclusive('\n') {
         if place.saturating_add(LAST) >= count {
@@ -236,14 +222,6 @@ fn print_last(text: &mut String, lines: &str) -> Result<(), AllocError> {
         place = place.saturating_add(1);
     }
     Ok(())
-}
-
-fn count_of(lines: &str) -> usize {
-    let mut count = 0usize;
-    for _line in lines.split_inclusive('\n') {
-        count = count.saturating_add(1);
-    }
-    count
 }
 
 fn print_raced(text: &mut String, lines: &str) -> Result<(), AllocError> {

@@ -1,6 +1,7 @@
 //! A world that is fed the events of a script.
-use crate::laid_out::{print_trace_alone, state_in};
-use seq_model::{Event, Items, Memory, Refusal, Shape};
+use crate::laid_out::print_trace_alone;
+use row_parts::{shape_of, state_of};
+use seq_model::{Event, Memory, Refusal};
 use std::alloc::Global;
 use step_world::{World, run_world};
 use text_formats::{EventLine, Script, parse_steps};
@@ -17,7 +18,7 @@ fn print_by_run(text: &mut String, script: &Script) -> Result<(), Refusal> {
     let alloc = *text.allocator();
     let shape = shape_of(alloc, script)?;
     let events = events_of(alloc, script)?;
-    let state = state_in(alloc, script)?;
+    let state = state_of(alloc, script, script.clock)?;
     let trace = run_world(alloc, &shape, state, events.as_slice())?;
     text.push_str("run_world\n")?;
     print_trace_alone(text, trace)
@@ -36,22 +37,12 @@ fn print_by_world(text: &mut String, script: &Script) -> Result<(), Refusal> {
 fn fed(alloc: Global, script: &Script) -> Result<World<u64>, Refusal> {
     let shape = shape_of(alloc, script)?;
     let events = events_of(alloc, script)?;
-    let mut world = World::open(alloc, &shape, state_in(alloc, script)?)?;
+    let state = state_of(alloc, script, script.clock)?;
+    let mut world = World::open(alloc, &shape, state)?;
     for event in events {
         let _notice = world.feed(event)?;
     }
     Ok(world)
-}
-
-fn shape_of(alloc: Global, script: &Script) -> Result<Shape, Memory> {
-    let mut stripes = Vec::new(alloc);
-    for collection in script.collections.as_slice() {
-        stripes.push(collection.stripes)?;
-    }
-    Ok(Shape {
-        stripes: Items::from_vec(stripes),
-        clock: script.clock,
-    })
 }
 
 fn events_of(alloc: Global, script: &Script) -> Result<Vec<Event<u64>>, Memory> {

@@ -6,42 +6,24 @@ use std::alloc::Global;
 pub fn call(alloc: Global) -> Result<(), Refusal> {
     ensure(7u64.try_copy()?.same(&7))?;
     let mut state = state(alloc)?;
-    let called = call_state(alloc, &mut state);
-    drop(state);
-    called
-}
-
-fn call_state(alloc: Global, state: &mut State<u64>) -> Result<(), Refusal> {
-    call_words_and_map(state)?;
-    call_bag_and_pq(state)?;
-    call_queue(state)?;
+    apply_all(&mut state)?;
     ensure(state.words.len() == 1 && state.held.len() == 4)?;
-    ensure(is_run_of_none(alloc, state))
+    ensure(audit(alloc, &state, &[], &state).is_ok())
 }
 
-fn is_run_of_none(alloc: Global, state: &State<u64>) -> bool {
-    audit(alloc, state, &[], state).is_ok()
-}
-
-fn call_words_and_map(state: &mut State<u64>) -> Result<(), Refusal> {
+fn apply_all(state: &mut State<u64>) -> Result<(), Refusal> {
     apply(state, 0, Op::Read)?;
     apply(state, 0, Op::Write(6))?;
     apply(state, 0, Op::Get(2))?;
     apply(state, 0, Op::Put(3, 30))?;
     apply(state, 0, Op::Remove(2))?;
-    apply(state, 0, Op::Len)
-}
-
-fn call_bag_and_pq(state: &mut State<u64>) -> Result<(), Refusal> {
+    apply(state, 0, Op::Len)?;
     apply(state, 1, Op::Count(5))?;
     apply(state, 1, Op::Add(5))?;
     apply(state, 1, Op::Take(6))?;
     apply(state, 2, Op::Least)?;
     apply(state, 2, Op::Insert(4))?;
-    apply(state, 2, Op::TakeLeast)
-}
-
-fn call_queue(state: &mut State<u64>) -> Result<(), Refusal> {
+    apply(state, 2, Op::TakeLeast)?;
     apply(state, 3, Op::Enqueue(9))?;
     apply(state, 3, Op::Dequeue)?;
     apply(state, 3, Op::Peek)?;
@@ -49,10 +31,7 @@ fn call_queue(state: &mut State<u64>) -> Result<(), Refusal> {
 }
 
 fn apply(state: &mut State<u64>, target: u32, op: Op<u64>) -> Result<(), Refusal> {
-    let call = Call { target, op };
-    let reply = state.apply(&call);
-    drop(call);
-    drop(reply?);
+    drop(state.apply(&Call { target, op })?);
     Ok(())
 }
 

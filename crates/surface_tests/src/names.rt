@@ -1,11 +1,13 @@
 //! Values of types that have few or no calls, by the names of their variants and fields. That this is compiled is what it is for.
 use conflict::Note;
-use seq_model::{Answer, AuditFault, Event, Kind, Notice, Refusal, Reply, Request};
+use seq_model::{Answer, AuditFault, Event, Notice, Refusal, Reply, Request};
+use session_text::Line;
 use step_core::{WordAnswer, WordRecord};
 use tx_engine::{Attempt, Receipt};
+use vac_model::ActionReply;
 use workers::LastAbort;
 
-pub fn aborts(location: u32, word: u64) -> [Refusal; 6] {
+pub fn refusals(location: u32, word: u64) -> [Refusal; 13] {
     [
         Refusal::Moved { location, word },
         Refusal::Busy { location, word },
@@ -19,40 +21,32 @@ pub fn aborts(location: u32, word: u64) -> [Refusal; 6] {
         },
         Refusal::Invalid { location, word },
         Refusal::Memory,
-    ]
-}
-
-pub fn others(clock: u64, line: u64) -> [Refusal; 7] {
-    [
-        Refusal::Exhausted { clock },
+        Refusal::Exhausted { clock: word },
         Refusal::NoSuch,
         Refusal::TooLong,
-        Refusal::Ahead { clock },
+        Refusal::Ahead { clock: word },
         Refusal::NotIdle,
         Refusal::NoTransaction,
-        Refusal::BadText { line },
+        Refusal::BadText { line: word },
     ]
 }
 
-pub fn faults(number: u64, entry: u64, call: u64) -> [AuditFault; 4] {
-    [
+pub fn faults(number: u64, call: u64) -> ([AuditFault; 4], [Note; 3]) {
+    let faults = [
         AuditFault::DoubleNumber(number),
-        AuditFault::WrongReply { entry, call },
+        AuditFault::WrongReply {
+            entry: number,
+            call,
+        },
         AuditFault::WrongState,
         AuditFault::Memory,
-    ]
+    ];
+    let notes = [Note::Plain, Note::Least(Some(number)), Note::Index(number)];
+    (faults, notes)
 }
 
-pub fn kinds() -> [Kind; 4] {
-    [Kind::Map, Kind::Bag, Kind::Pq, Kind::Queue]
-}
-
-pub fn notes(least: Option<u64>, index: u64) -> [Note; 3] {
-    [Note::Plain, Note::Least(least), Note::Index(index)]
-}
-
-pub fn replies(number: u64) -> [Reply<u64>; 8] {
-    [
+pub fn replies(number: u64) -> ([Reply<u64>; 8], [Answer<u64>; 4]) {
+    let replies = [
         Reply::Done,
         Reply::Full,
         Reply::Nothing,
@@ -61,39 +55,37 @@ pub fn replies(number: u64) -> [Reply<u64>; 8] {
         Reply::Number(number),
         Reply::Yes,
         Reply::No,
-    ]
-}
-
-pub fn answers(number: u64) -> [Answer<u64>; 4] {
-    [
+    ];
+    let answers = [
         Answer::Begun(number),
         Answer::Replied(Reply::Done),
         Answer::Committed(number),
         Answer::Aborted,
-    ]
+    ];
+    (replies, answers)
 }
 
-pub fn notices(actor: u32) -> [Notice<u64>; 3] {
-    [
-        Notice::Quiet,
-        Notice::Answered(actor, Answer::Aborted),
-        Notice::Refused(actor, Refusal::NoSuch),
-    ]
-}
-
-pub fn events(actor: u32) -> [Event<u64>; 6] {
-    [
+pub fn events(actor: u32) -> ([Event<u64>; 6], [Notice<u64>; 3]) {
+    let events = [
         Event::Ask(actor, Request::Begin),
         Event::Ask(actor, Request::BeginRead),
         Event::Ask(actor, Request::Commit),
         Event::Ask(actor, Request::Abort),
         Event::Step(actor),
         Event::Starve(actor),
-    ]
+    ];
+    let notices = [
+        Notice::Quiet,
+        Notice::Answered(actor, Answer::Aborted),
+        Notice::Refused(actor, Refusal::NoSuch),
+    ];
+    (events, notices)
 }
 
-pub fn word_answers(number: u64) -> [WordAnswer; 8] {
-    [
+/// What a record of words has.
+pub fn parts(record: &WordRecord) -> (u32, u64, bool, usize, [WordAnswer; 8]) {
+    let number = record.number;
+    let answers = [
         WordAnswer::Begun(number),
         WordAnswer::Number(number),
         WordAnswer::Done,
@@ -102,27 +94,21 @@ pub fn word_answers(number: u64) -> [WordAnswer; 8] {
         WordAnswer::Released,
         WordAnswer::Cancelled,
         WordAnswer::Ended,
-    ]
-}
-
-/// What a record of words has.
-pub fn parts(record: &WordRecord) -> (u32, u64, bool, usize) {
-    (
-        record.actor,
-        record.number,
-        record.writes,
-        record.calls.as_slice().len(),
-    )
+    ];
+    let calls = record.calls.as_slice().len();
+    (record.actor, number, record.writes, calls, answers)
 }
 
 pub fn attempts(receipt: Receipt<u64>) -> (Attempt<u64>, Attempt<u64>) {
     (Attempt::Committed(receipt), Attempt::GivenUp)
 }
 
-pub fn causes(refusal: Refusal) -> [LastAbort; 3] {
+/// The lines of sessions with a receipt and without.
+pub fn lines(number: u64, reply: ActionReply, refusal: Refusal) -> [Line; 4] {
     [
-        LastAbort::Refused(refusal),
-        LastAbort::GivenUp,
-        LastAbort::NotStarted,
+        Line::Done(number, reply),
+        Line::Missed(LastAbort::Refused(refusal)),
+        Line::Missed(LastAbort::GivenUp),
+        Line::Missed(LastAbort::NotStarted),
     ]
 }

@@ -16,10 +16,10 @@ use workers::{Pause, Report, retry, run_workers};
 /// How often a job is attempted at most.
 const TRIES: u64 = 1_000;
 
-/// Writes this number to word 0.
+/// Writes this number to word 0. Where there is none, it gives up at once.
 #[derive(Drop)]
 struct Write0 {
-    number: u64,
+    number: Option<u64>,
 }
 
 impl<V: Value> Job<V> for Write0 {
@@ -28,24 +28,14 @@ impl<V: Value> Job<V> for Write0 {
     ghost asks = { λ _ _ _. ⊤ };
 
     fn ask(&self, replies: &[Reply<V>]) -> Result<Ask<V>, Memory> {
-        if replies.is_empty() {
-            let op = Op::Write(self.number);
-            return Ok(Ask::Call(Call { target: 0, op }));
+        match self.number {
+            None => Ok(Ask::GiveUp),
+            Some(number) if replies.is_empty() => {
+                let op = Op::Write(number);
+                Ok(Ask::Call(Call { target: 0, op }))
+            }
+            Some(_) => Ok(Ask::Done),
         }
-        Ok(Ask::Done)
-    }
-}
-
-/// Gives up at once.
-struct GivesUp;
-
-impl<V: Value> Job<V> for GivesUp {
-    ghost use Rattle.std.specs.Prelude.{⊤};
-
-    ghost asks = { λ _ _ _. ⊤ };
-
-    fn ask(&self, _replies: &[Reply<V>]) -> Result<Ask<V>, Memory> {
-        Ok(Ask::GiveUp)
     }
 }
 
@@ -60,10 +50,7 @@ impl Pause for Unheld {
 
 pub fn call<R: Threads + Wait + Sync>(rt: &R, alloc: Global) -> Result<(), Refusal> {
     let (table, mut seat) = open(alloc)?;
-    let called = call_at(rt, alloc, &table, &mut seat);
-    drop(seat);
-    drop(table);
-    called
+    call_at(rt, alloc, &table, &mut seat)
 }
 
 fn call_at<R: Threads + Wait + Sync, V: Value + Send + Sync>(
@@ -76,26 +63,20 @@ fn call_at<R: Threads + Wait + Sync, V: Value + Send + Sync>(
     requires shares { (view seat.old.seat).shares ≡ 64 }
 {
     let report = run(rt, table, seat, lists(alloc)?);
-    let attempted = attempt(table, seat, &GivesUp).is_ok();
-    let retried = retry(table, seat, &GivesUp, TRIES, 1, &Unheld).is_err();
+    let none = Write0 { number: None };
+    let attempted = attempt(table, seat, &none).is_ok();
+    let retried = retry(table, seat, &none, TRIES, 1, &Unheld).is_err();
     let report = report?;
-    let is = is_whole(&report);
-    drop(report);
+    let is = report.receipts.len() == 2 && report.missed.len() == 0;
     ensure(is && attempted && retried)
-}
-
-fn is_whole<V>(report: &Report<V>) -> bool {
-    report.receipts.len() == 2 && report.missed.len() == 0
 }
 
 fn lists(alloc: Global) -> Result<Vec<Vec<Write0>>, Memory>
     ensures { IfOk result (λ lists. length lists.items ≡ 2) }
 {
-    Ok(vec![in alloc; list(alloc, 2)?, list(alloc, 3)?]?)
-}
-
-fn list(alloc: Global, number: u64) -> Result<Vec<Write0>, Memory> {
-    Ok(vec![in alloc; Write0 { number }]?)
+    let one = vec![in alloc; Write0 { number: Some(2) }]?;
+    let other = vec![in alloc; Write0 { number: Some(3) }]?;
+    Ok(vec![in alloc; one, other]?)
 }
 
 fn run<R: Threads + Wait + Sync, V: Value + Send + Sync, J: Job<V> + Drop + Send + Sync>(

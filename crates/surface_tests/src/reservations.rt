@@ -23,9 +23,7 @@ const TRIES: u64 = 1_000;
 pub fn call<R: Threads + Wait + Sync>(rt: &R, alloc: Global) -> Result<(), Refusal> {
     call_tables(alloc)?;
     call_state(alloc)?;
-    call_session(alloc)?;
-    call_clients(alloc)?;
-    call_order(alloc)?;
+    call_runs(alloc)?;
     call_served(rt, alloc)
 }
 
@@ -48,22 +46,26 @@ fn reserve(alloc: Global, customer: u64) -> Result<Action, Memory> {
 
 fn call_tables(alloc: Global) -> Result<(), Refusal> {
     let mut tables = tables(alloc)?;
-    let replied = act(alloc, &mut tables);
-    let is = is_read(&tables);
-    drop(tables);
-    replied?;
-    drop(Tables::new(alloc));
-    drop(of_parts(alloc)?);
-    ensure(is)
-}
-
-fn act(alloc: Global, tables: &mut Tables) -> Result<(), Refusal>
-    requires balanced { IsBalanced tables.old }
-{
     let action = reserve(alloc, 7)?;
-    let is = tables.act(&action).is_ok();
-    drop(action);
-    ensure(is)
+    let acted = tables.act(&action).is_ok();
+    ensure(acted && is_read(&tables))?;
+    drop(Tables::new(alloc));
+    let waiting = Each {
+        car: Queue::new(alloc),
+        flight: Queue::new(alloc),
+        room: Queue::new(alloc),
+    };
+    drop(Tables::of_parts(
+        alloc,
+        Vec::new(alloc),
+        Vec::new(alloc),
+        Vec::new(alloc),
+        Vec::new(alloc),
+        Vec::new(alloc),
+        waiting,
+        3,
+    )?);
+    Ok(())
 }
 
 fn is_read(tables: &Tables) -> bool {
@@ -75,56 +77,20 @@ fn is_read(tables: &Tables) -> bool {
     tables.balanced() && cars == 1 && customers == 1 && tickets == 0 && waiting == 0 && next == 0
 }
 
-fn of_parts(alloc: Global) -> Result<Tables, Memory> {
-    let waiting = Each {
-        car: Queue::new(alloc),
-        flight: Queue::new(alloc),
-        room: Queue::new(alloc),
-    };
-    Tables::of_parts(
-        alloc,
-        Vec::new(alloc),
-        Vec::new(alloc),
-        Vec::new(alloc),
-        Vec::new(alloc),
-        Vec::new(alloc),
-        waiting,
-        3,
-    )
-}
-
 fn call_state(alloc: Global) -> Result<(), Refusal> {
     let tables = tables(alloc)?;
-    let state = state_of(alloc, &tables);
-    drop(tables);
-    let state = state?;
-    let back = tables_of(alloc, &state);
-    drop(state);
-    drop(back?);
-    Ok(())
-}
-
-fn call_session(alloc: Global) -> Result<(), Refusal> {
+    let state = state_of(alloc, &tables)?;
+    drop(tables_of(alloc, &state)?);
     let action = reserve(alloc, 7)?;
-    let session = Session::new(alloc, &action);
-    drop(action);
-    drop(session?);
+    drop(Session::new(alloc, &action)?);
     Ok(())
 }
 
-fn call_clients(alloc: Global) -> Result<(), Refusal> {
+fn call_runs(alloc: Global) -> Result<(), Refusal> {
     let events = vec![in alloc; VacEvent::Start(1, reserve(alloc, 7)?), VacEvent::Step(1)]?;
-    let trace = VacWorld::run(alloc, tables(alloc)?, STRIPES, events.as_slice());
-    drop(events);
-    drop(trace?);
-    Ok(())
-}
-
-fn call_order(alloc: Global) -> Result<(), Refusal> {
+    drop(VacWorld::run(alloc, tables(alloc)?, STRIPES, events.as_slice())?);
     let actions = vec![in alloc; reserve(alloc, 7)?]?;
-    let ordered = run_in_order(alloc, tables(alloc)?, STRIPES, actions.as_slice());
-    drop(actions);
-    drop(ordered?);
+    drop(run_in_order(alloc, tables(alloc)?, STRIPES, actions.as_slice())?);
     Ok(())
 }
 
@@ -141,35 +107,32 @@ fn call_served<R: Threads + Wait + Sync>(rt: &R, alloc: Global) -> Result<(), Re
     Ok(())
 }
 
-/// The other actions.
-pub fn actions(customer: u64, kind: Kind, id: u64, changes: Items<Change>) -> [Action; 4] {
-    [
+/// The other actions, and changes of an item.
+pub fn actions(
+    customer: u64,
+    item: (Kind, u64),
+    of: Item,
+    changes: Items<Change>,
+) -> ([Action; 4], [Change; 4]) {
+    let (kind, id) = item;
+    let (units, price) = (of.total, of.price);
+    let actions = [
         Action::Delete(customer),
         Action::Update(changes),
         Action::QueryItem(kind, id),
         Action::QueryBill(customer),
-    ]
-}
-
-pub fn changes(kind: Kind, id: u64, units: u64, price: u64) -> [Change; 4] {
-    [
+    ];
+    let changes = [
         Change::Add(kind, id, units, price),
         Change::TakeCar(id, units),
         Change::TakeRoom(id, units),
         Change::DropFlight(id),
-    ]
+    ];
+    (actions, changes)
 }
 
-pub fn replies(bill: u64, served: u64, item: Item) -> [ActionReply; 4] {
-    [
-        ActionReply::Deleted(bill, served),
-        ActionReply::Found(item),
-        ActionReply::Bill(bill),
-        ActionReply::Absent,
-    ]
-}
-
-pub fn booked(kind: Kind, id: u64, units: u64, price: u64) -> (Booking, Item) {
+/// A booking of all units of an item, and what actions answer.
+pub fn booked(kind: Kind, id: u64, units: u64, price: u64) -> (Booking, Entry, [ActionReply; 4]) {
     let booking = Booking {
         kind,
         id,
@@ -182,7 +145,13 @@ pub fn booked(kind: Kind, id: u64, units: u64, price: u64) -> (Booking, Item) {
         free: 0,
         price,
     };
-    (booking, item)
+    let replies = [
+        ActionReply::Deleted(price, units),
+        ActionReply::Found(item),
+        ActionReply::Bill(price),
+        ActionReply::Absent,
+    ];
+    (booking, Entry::Item(item), replies)
 }
 
 /// What runs of sessions have.
@@ -193,8 +162,4 @@ pub fn parts(trace: &VacTrace, ordered: &Ordered, served: &Served) -> [usize; 4]
         ordered.receipts.len(),
         served.report.missed.len(),
     ]
-}
-
-pub fn entry(item: Item) -> Entry {
-    Entry::Item(item)
 }

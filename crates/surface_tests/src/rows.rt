@@ -1,17 +1,10 @@
 //! Contents that the parts share.
-use seq_model::{Counts, Entries, Held, Items, Memory, QueueItems, Refusal, Shape, State};
+use seq_model::{Counts, Entries, Held, Items, Kind, Memory, QueueItems, Refusal, Shape, State};
 use std::alloc::Global;
 
 /// What a call answered is as it must be.
 pub fn ensure(is: bool) -> Result<(), Refusal> {
     if is { Ok(()) } else { Err(Refusal::NoSuch) }
-}
-
-/// A map that holds 20 at 2.
-pub fn map_of_one(alloc: Global) -> Result<Held<u64>, Memory> {
-    let mut entries = Entries::new(alloc);
-    entries.insert(2, 20)?;
-    Ok(Held::Map(entries))
 }
 
 fn counts_of_one(alloc: Global) -> Result<Counts, Memory> {
@@ -20,30 +13,22 @@ fn counts_of_one(alloc: Global) -> Result<Counts, Memory> {
     Ok(counts)
 }
 
-/// A multiset of one 5.
-pub fn bag_of_one(alloc: Global) -> Result<Held<u64>, Memory> {
-    Ok(Held::Bag(counts_of_one(alloc)?))
-}
-
-/// A priority queue of one 5.
-pub fn pq_of_one(alloc: Global) -> Result<Held<u64>, Memory> {
-    Ok(Held::Pq(counts_of_one(alloc)?))
-}
-
-/// A queue of one 8, at index 0.
-pub fn queue_of_one(alloc: Global) -> Result<Held<u64>, Memory> {
-    let mut items = QueueItems::new(alloc);
-    items.push(8)?;
-    Ok(Held::Queue { head: 0, items })
-}
-
-fn one_of_each(alloc: Global) -> Result<Vec<Held<u64>>, Memory> {
-    let mut held = Vec::with_capacity(alloc, 4)?;
-    held.push(map_of_one(alloc)?)?;
-    held.push(bag_of_one(alloc)?)?;
-    held.push(pq_of_one(alloc)?)?;
-    held.push(queue_of_one(alloc)?)?;
-    Ok(held)
+/// A map that holds 20 at 2, a multiset or a priority queue of one 5, or a queue of one 8, at index 0.
+pub fn held_of_one(alloc: Global, kind: Kind) -> Result<Held<u64>, Memory> {
+    match kind {
+        Kind::Map => {
+            let mut entries = Entries::new(alloc);
+            entries.insert(2, 20)?;
+            Ok(Held::Map(entries))
+        }
+        Kind::Bag => Ok(Held::Bag(counts_of_one(alloc)?)),
+        Kind::Pq => Ok(Held::Pq(counts_of_one(alloc)?)),
+        Kind::Queue => {
+            let mut items = QueueItems::new(alloc);
+            items.push(8)?;
+            Ok(Held::Queue { head: 0, items })
+        }
+    }
 }
 
 /// Two stripes for each of four collections, at clock 0.
@@ -56,5 +41,9 @@ pub fn shape(alloc: Global) -> Result<Shape, Memory> {
 
 /// The word 7, and a collection of each kind.
 pub fn state(alloc: Global) -> Result<State<u64>, Refusal> {
-    State::new(vec![in alloc; 7]?, one_of_each(alloc)?)
+    let mut held = Vec::with_capacity(alloc, 4)?;
+    for kind in [Kind::Map, Kind::Bag, Kind::Pq, Kind::Queue].as_slice() {
+        held.push(held_of_one(alloc, *kind)?)?;
+    }
+    State::new(vec![in alloc; 7]?, held)
 }

@@ -46,20 +46,15 @@ fn call_table<V: Value>(table: &TxTable<V>, seat: &mut TxSeat<V>, value: V) -> R
     drop(written?);
     drop(read?);
     learnt?;
-    ensure(is && is_block(table.block(0)))
-}
-
-fn is_block(block: Option<Block>) -> bool {
-    match block {
-        Some(block) => {
-            let Block {
+    match table.block(0) {
+        Some(
+            Block {
                 kind: _,
                 stripes,
                 first,
-            } = block;
-            stripes == 2 && first == 1
-        }
-        None => false,
+            },
+        ) => ensure(is && stripes == 2 && first == 1),
+        None => Err(Refusal::NoSuch),
     }
 }
 
@@ -101,8 +96,6 @@ fn call_end<V: Value>(table: TxTable<V>, seat: TxSeat<V>) -> Result<(), Refusal>
     requires ready { IsReady table seat }
 {
     if seat.shares() != ALL || table.words() == 0 {
-        drop(seat);
-        drop(table);
         return Err(Refusal::NoSuch);
     }
     let closed = table.close(seat)?;

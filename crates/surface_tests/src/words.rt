@@ -13,19 +13,14 @@ const ACTOR: u32 = 1;
 const STEPS: u32 = 100;
 
 pub fn call(alloc: Global) -> Result<(), Refusal> {
-    call_lock_words()?;
-    call_sets(alloc)?;
-    call_words(alloc)
-}
-
-fn call_lock_words() -> Result<(), Refusal> {
     let word = LockWord::read(LockWord::locked(7).bits());
-    ensure(word.is_locked() && word.version() == 7 && LockWord::free(7).usable(7))
-}
-
-fn call_sets(alloc: Global) -> Result<(), Refusal> {
+    ensure(word.is_locked() && word.version() == 7 && LockWord::free(7).usable(7))?;
     ensure(call_set(&mut ReadSet::new(alloc)).is_ok())?;
-    ensure(call_set(&mut WriteSet::new(alloc)).is_ok())
+    ensure(call_set(&mut WriteSet::new(alloc)).is_ok())?;
+    match Words::new(alloc, 0, vec![in alloc; 5, 6]?) {
+        Ok(mut words) => ensure(ask_all(&mut words).is_ok()),
+        Err(_) => Err(Refusal::Memory),
+    }
 }
 
 fn call_set<Role>(set: &mut AccessSet<Role>) -> Result<(), SetRefusal> {
@@ -35,13 +30,6 @@ fn call_set<Role>(set: &mut AccessSet<Role>) -> Result<(), SetRefusal> {
     let _ = set.len();
     let _ = set.in_order();
     Ok(())
-}
-
-fn call_words(alloc: Global) -> Result<(), Refusal> {
-    match Words::new(alloc, 0, vec![in alloc; 5, 6]?) {
-        Ok(mut words) => ensure(ask_all(&mut words).is_ok()),
-        Err(_) => Err(Refusal::Memory),
-    }
 }
 
 fn ask_all(words: &mut Words) -> Result<(), WordRefusal> {

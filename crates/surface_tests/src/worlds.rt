@@ -2,44 +2,28 @@
 use crate::rows::{ensure, shape, state};
 use seq_model::{Call, Memory, Op, Refusal};
 use std::alloc::Global;
-use step_world::{Ended, Event, Request, Shape, Trace, World, run_world};
+use step_world::{Ended, Event, Request, Trace, World, run_world};
 
 /// More steps than a request here has.
 const STEPS: u32 = 30;
 
 pub fn call(alloc: Global) -> Result<(), Refusal> {
     let shape = shape(alloc)?;
-    let called = call_world(alloc, &shape);
-    drop(shape);
-    called
-}
-
-fn call_world(alloc: Global, shape: &Shape) -> Result<(), Refusal> {
-    drop(run_world(alloc, shape, state(alloc)?, &[Event::Step(1)])?);
-    let mut world = World::open(alloc, shape, state(alloc)?)?;
-    let called = feed_all(&mut world);
-    drop(world);
-    called
+    drop(run_world(alloc, &shape, state(alloc)?, &[Event::Step(1)])?);
+    let mut world = World::open(alloc, &shape, state(alloc)?)?;
+    feed_all(&mut world)
 }
 
 fn feed_all(world: &mut World<u64>) -> Result<(), Refusal> {
+    let op = Op::Put(3, 30);
     ask(world, Request::Begin)?;
-    ask(world, put())?;
+    ask(world, Request::Call(Call { target: 0, op }))?;
     ask(world, Request::Commit)?;
     ask(world, Request::BeginRead)?;
     ask(world, Request::Abort)?;
     drop(world.feed(Event::Starve(1))?);
     let trace = world.trace()?;
-    let records = trace.records.len();
-    drop(trace);
-    ensure(records == 1)
-}
-
-fn put() -> Request<u64> {
-    Request::Call(Call {
-        target: 0,
-        op: Op::Put(3, 30),
-    })
+    ensure(trace.records.len() == 1)
 }
 
 // Asks, and makes more steps than a request here has.

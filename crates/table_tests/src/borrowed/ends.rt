@@ -8,15 +8,18 @@ use tx_engine::Tx;
 #[derive(Clone, Copy)]
 pub enum End {
     Commits,
+    /// It is a declared reader, which commits.
+    Reads,
     Aborts,
     /// It is dropped while it is open.
     Drops,
 }
 
-/// How a transaction ends by this verb, unless it is a declared reader.
+/// How a transaction ends by this verb.
 pub fn end_of(verb: &str) -> Option<End> {
     match verb {
         "commits" => Some(End::Commits),
+        "reads" => Some(End::Reads),
         "aborts" => Some(End::Aborts),
         "drops" => Some(End::Drops),
         _ => None,
@@ -39,7 +42,7 @@ pub fn end_as<V: Value>(tx: Tx<'_, V>, end: End) -> Ended<V>
     ensures ready { IsReady tx.entry.table.now tx.exit.1.0.now }
 {
     match end {
-        End::Commits => commit(tx),
+        End::Commits | End::Reads => commit(tx),
         End::Aborts => abort(tx),
         End::Drops => Ended::Dropped,
     }

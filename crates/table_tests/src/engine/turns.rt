@@ -2,7 +2,7 @@
 ghost use Rattle.tx_engine.specs.Ready.{IsReady};
 
 use super::rows::{answer_own, answer_rows};
-use crate::shared::{Meeting, Order, Page, commit_after};
+use crate::shared::{Meeting, Order, Page, Told, commit_after};
 use seq_model::{Memory, Refusal};
 use std::alloc::Global;
 use std::thread::{Threads, join_mut};
@@ -14,11 +14,11 @@ const QUARTER: u64 = 16;
 
 /// The rows one after another, by seats without transactions.
 #[tactic(auto, using(crate::proofs::FitLemmas::rests_fit))]
-pub fn in_turn(
-    page: &mut Page,
-    table: &TxTable<u64>,
-    first: &mut TxSeat<u64>,
-    second: &mut TxSeat<u64>,
+pub fn in_turn<V: Told>(
+    page: &mut Page<V>,
+    table: &TxTable<V>,
+    first: &mut TxSeat<V>,
+    second: &mut TxSeat<V>,
     rows: &str,
 )
     requires first { IsReady table.now first.old }
@@ -32,12 +32,12 @@ pub fn in_turn(
 }
 
 /// The rows of each seat in a thread of its own. Those of the first seat are answered before those of the second on the page.
-pub fn at_once<R: Threads>(
+pub fn at_once<R: Threads, V: Told + Send + Sync>(
     rt: &R,
-    page: &mut Page,
-    table: &TxTable<u64>,
-    first: &mut TxSeat<u64>,
-    second: &mut TxSeat<u64>,
+    page: &mut Page<V>,
+    table: &TxTable<V>,
+    first: &mut TxSeat<V>,
+    second: &mut TxSeat<V>,
     order: Order,
     rows: &str,
 )
@@ -52,12 +52,12 @@ pub fn at_once<R: Threads>(
 }
 
 /// Likewise of four seats, two of which are split off.
-pub fn four_at_once<R: Threads + Sync>(
+pub fn four_at_once<R: Threads + Sync, V: Told + Send + Sync>(
     rt: &R,
-    page: &mut Page,
-    table: &TxTable<u64>,
-    first: &mut TxSeat<u64>,
-    second: &mut TxSeat<u64>,
+    page: &mut Page<V>,
+    table: &TxTable<V>,
+    first: &mut TxSeat<V>,
+    second: &mut TxSeat<V>,
     order: Order,
     rows: &str,
 )
@@ -72,12 +72,12 @@ pub fn four_at_once<R: Threads + Sync>(
 }
 
 // The worker is the first of two.
-fn pair_at_once<R: Threads>(
+fn pair_at_once<R: Threads, V: Told + Send + Sync>(
     rt: &R,
-    page: &mut Page,
-    table: &TxTable<u64>,
-    first: &mut TxSeat<u64>,
-    second: &mut TxSeat<u64>,
+    page: &mut Page<V>,
+    table: &TxTable<V>,
+    first: &mut TxSeat<V>,
+    second: &mut TxSeat<V>,
     worker: u64,
     meeting: &Meeting,
     rows: &str,
@@ -99,12 +99,12 @@ fn pair_at_once<R: Threads>(
     }
 }
 
-fn halves_at_once<R: Threads + Sync>(
+fn halves_at_once<R: Threads + Sync, V: Told + Send + Sync>(
     rt: &R,
-    page: &mut Page,
-    table: &TxTable<u64>,
-    first: &mut TxSeat<u64>,
-    second: &mut TxSeat<u64>,
+    page: &mut Page<V>,
+    table: &TxTable<V>,
+    first: &mut TxSeat<V>,
+    second: &mut TxSeat<V>,
     meeting: &Meeting,
     rows: &str,
 )
@@ -125,28 +125,23 @@ fn halves_at_once<R: Threads + Sync>(
     }
 }
 
-fn leave_wanting(page: &mut Page, meeting: &Meeting) {
+fn leave_wanting<V: Told>(page: &mut Page<V>, meeting: &Meeting) {
     page.fail(Refusal::Memory);
     meeting.leave();
 }
 
-fn two_pages(alloc: Global) -> Result<(Page, Page), Memory> {
+fn two_pages<V: Told>(alloc: Global) -> Result<(Page<V>, Page<V>), Memory> {
     let left = Page::new(alloc)?;
-    match Page::new(alloc) {
-        Ok(right) => Ok((left, right)),
-        Err(memory) => {
-            drop(left);
-            Err(memory)
-        }
-    }
+    let right = Page::new(alloc)?;
+    Ok((left, right))
 }
 
 // No other seat is to wait for one that answers no more rows.
 #[tactic(auto, using(crate::proofs::FitLemmas::rests_fit))]
-fn answer_seat(
-    page: &mut Page,
-    table: &TxTable<u64>,
-    seat: &mut TxSeat<u64>,
+fn answer_seat<V: Told>(
+    page: &mut Page<V>,
+    table: &TxTable<V>,
+    seat: &mut TxSeat<V>,
     worker: u64,
     meeting: &Meeting,
     rows: &str,
@@ -161,13 +156,13 @@ fn answer_seat(
     }
 }
 
-fn in_threads<R: Threads>(
+fn in_threads<R: Threads, V: Told + Send + Sync>(
     rt: &R,
-    table: &TxTable<u64>,
-    left: &mut Page,
-    first: &mut TxSeat<u64>,
-    right: &mut Page,
-    second: &mut TxSeat<u64>,
+    table: &TxTable<V>,
+    left: &mut Page<V>,
+    first: &mut TxSeat<V>,
+    right: &mut Page<V>,
+    second: &mut TxSeat<V>,
     worker: u64,
     meeting: &Meeting,
     rows: &str,
@@ -191,13 +186,13 @@ fn in_threads<R: Threads>(
     );
 }
 
-fn halves_in_threads<R: Threads + Sync>(
+fn halves_in_threads<R: Threads + Sync, V: Told + Send + Sync>(
     rt: &R,
-    table: &TxTable<u64>,
-    left: &mut Page,
-    first: &mut TxSeat<u64>,
-    right: &mut Page,
-    second: &mut TxSeat<u64>,
+    table: &TxTable<V>,
+    left: &mut Page<V>,
+    first: &mut TxSeat<V>,
+    right: &mut Page<V>,
+    second: &mut TxSeat<V>,
     meeting: &Meeting,
     rows: &str,
 )
@@ -220,11 +215,11 @@ fn halves_in_threads<R: Threads + Sync>(
 }
 
 // Two of four seats, of which the worker is the first.
-fn answer_half<R: Threads>(
+fn answer_half<R: Threads, V: Told + Send + Sync>(
     rt: &R,
-    page: &mut Page,
-    table: &TxTable<u64>,
-    seat: &mut TxSeat<u64>,
+    page: &mut Page<V>,
+    table: &TxTable<V>,
+    seat: &mut TxSeat<V>,
     worker: u64,
     meeting: &Meeting,
     rows: &str,
@@ -242,12 +237,12 @@ fn answer_half<R: Threads>(
 }
 
 // Where an allocation failed, the seat that was split off commits a write before it is joined again.
-fn answer_quarters<R: Threads>(
+fn answer_quarters<R: Threads, V: Told + Send + Sync>(
     rt: &R,
-    page: &mut Page,
-    table: &TxTable<u64>,
-    seat: &mut TxSeat<u64>,
-    other: &mut TxSeat<u64>,
+    page: &mut Page<V>,
+    table: &TxTable<V>,
+    seat: &mut TxSeat<V>,
+    other: &mut TxSeat<V>,
     worker: u64,
     meeting: &Meeting,
     rows: &str,

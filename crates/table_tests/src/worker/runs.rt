@@ -5,7 +5,7 @@ ghost use Rattle.tx_engine.specs.Ready.{IsReady};
 
 use super::lists::{Limits, lists_of, wants_of};
 use super::reports::{memory_missed, print_report, receive_all};
-use crate::shared::{Listed, Meeting, Page, commit_write};
+use crate::shared::{Listed, Meeting, Page, Told, commit_write};
 use seq_model::{Memory, Refusal};
 use std::sync::Wait;
 use std::thread::Threads;
@@ -14,14 +14,14 @@ use tx_table::TxTable;
 use workers::{Report, run_workers_owned};
 
 /// The workers' lists that these rows spell; the run fails where there are none, or more than 64, or no attempts.
-pub fn run_lists<R: Threads + Wait + Sync>(
+pub fn run_lists<R: Threads + Wait + Sync, V: Told + Send + Sync>(
     rt: &R,
-    page: &mut Page,
+    page: &mut Page<V>,
     limits: Limits,
-    table: &TxTable<u64>,
-    seat: TxSeat<u64>,
+    table: &TxTable<V>,
+    seat: TxSeat<V>,
     rows: &str,
-) -> TxSeat<u64>
+) -> TxSeat<V>
     requires ready { IsReady table.now seat }
     requires shares { (view seat.seat).shares ≡ 64 }
     ensures ready { IsReady table.now result }
@@ -35,37 +35,36 @@ pub fn run_lists<R: Threads + Wait + Sync>(
     }
 }
 
-fn run_some<R: Threads + Wait + Sync>(
+fn run_some<R: Threads + Wait + Sync, V: Told + Send + Sync>(
     rt: &R,
-    page: &mut Page,
+    page: &mut Page<V>,
     limits: Limits,
-    table: &TxTable<u64>,
-    seat: TxSeat<u64>,
+    table: &TxTable<V>,
+    seat: TxSeat<V>,
     lists: Vec<Vec<Listed>>,
     rows: &str,
-) -> TxSeat<u64>
+) -> TxSeat<V>
     requires ready { IsReady table.now seat }
     requires shares { (view seat.seat).shares ≡ 64 }
     ensures ready { IsReady table.now result }
 {
     let count = lists.len();
     if count == 0 || count > 64 || limits.tries == 0 {
-        drop(lists);
         page.fail(Refusal::NoSuch);
         return seat;
     }
     run_seat(rt, page, limits, table, seat, lists, rows)
 }
 
-fn run_seat<R: Threads + Wait + Sync>(
+fn run_seat<R: Threads + Wait + Sync, V: Told + Send + Sync>(
     rt: &R,
-    page: &mut Page,
+    page: &mut Page<V>,
     limits: Limits,
-    table: &TxTable<u64>,
-    seat: TxSeat<u64>,
+    table: &TxTable<V>,
+    seat: TxSeat<V>,
     lists: Vec<Vec<Listed>>,
     rows: &str,
-) -> TxSeat<u64>
+) -> TxSeat<V>
     requires some { 1 ≤ limits.tries }
     requires ready { IsReady table.now seat }
     requires lists { (1 ≤ length lists.items) × (length lists.items ≤ 64) }
@@ -81,17 +80,16 @@ fn run_seat<R: Threads + Wait + Sync>(
 }
 
 // Whether any job ran out of memory. That is `Memory` of the run unless the jobs were to have none.
-fn hear(page: &mut Page, report: Result<Report<u64>, Memory>, limits: Limits, wants: u64) -> bool {
-    match report {
-        Ok(report) => hear_report(page, report, limits, wants),
-        Err(_) => {
-            page.fail(Refusal::Memory);
-            true
-        }
-    }
-}
-
-fn hear_report(page: &mut Page, report: Report<u64>, limits: Limits, wants: u64) -> bool {
+fn hear<V: Told>(
+    page: &mut Page<V>,
+    report: Result<Report<V>, Memory>,
+    limits: Limits,
+    wants: u64,
+) -> bool {
+    let Ok(report) = report else {
+        page.fail(Refusal::Memory);
+        return true;
+    };
     let is_printed = print_report(&mut page.text, &report, limits).is_ok();
     page.note(is_printed);
     let refused = memory_missed(report.missed.as_slice());
@@ -105,27 +103,20 @@ fn hear_report(page: &mut Page, report: Report<u64>, limits: Limits, wants: u64)
 }
 
 // Where an allocation failed, the seat commits a write after it.
-fn go_on(
-    page: &mut Page,
-    table: &TxTable<u64>,
-    mut seat: TxSeat<u64>,
+fn go_on<V: Told>(
+    page: &mut Page<V>,
+    table: &TxTable<V>,
+    mut seat: TxSeat<V>,
     is_refused: bool,
-) -> TxSeat<u64>
+) -> TxSeat<V>
     requires ready { IsReady table.now seat }
     ensures ready { IsReady table.now result }
 {
     if is_refused {
-        commit_one(page, table, &mut seat);
+        page.begin_row("after");
+        let written = commit_write(table, &mut seat);
+        page.hear_write(written);
+        page.end_row();
     }
     seat
-}
-
-fn commit_one(page: &mut Page, table: &TxTable<u64>, seat: &mut TxSeat<u64>)
-    requires ready { IsReady table.now seat.old }
-    ensures ready { IsReady table.now seat.new }
-{
-    page.begin_row("after");
-    let written = commit_write(table, seat);
-    page.hear_write(written);
-    page.end_row();
 }

@@ -2,37 +2,33 @@
 ghost use Rattle.std.specs.Prelude.{◌≡◌, ◌<◌, ◌≤◌, ◌^◌, ◌∷◌, [], IfOk, IsTrue, slice_index};
 ghost use Rattle.replay_log.specs.Base.{editions_of, locations_of, shown_of, stripes_of};
 
+use crate::tokens::{changes_of, location_in, split};
 use base_bag::BagBase;
 use base_map::MapBase;
 use base_pq::PqBase;
 use base_queue::QueueBase;
 use conflict::{Change, Changes, LocSet};
 use replay_log::{Base, LocationEditions, Log, Touch, Touched};
-use row_parts::{changes_of, print_base, script_of, stripes_in};
+use row_parts::{print_base, script_of};
 use seq_model::{Held, Memory, Op, Refusal};
 use std::alloc::Global;
 use std::fmt::Write;
-use text_formats::{Collection, tokens_of};
 
 /// No edition that is raised here is so high.
 pub const HIGH: u64 = 1 << 62;
 
 /// `KIND COLLECTION`: opens what the header says as a base of this kind.
 pub fn answer_of_kind(text: &mut String, row: &str) -> Result<(), Refusal> {
-    let (kind, opening) = row.split_once(' ').ok_or(Refusal::NoSuch)?;
-    let script = script_of(*text.allocator(), opening)?;
-    match script.collections.as_slice().first() {
-        Some(collection) => answer_as(text, kind, collection),
-        None => Err(Refusal::NoSuch),
-    }
-}
-
-fn answer_as(text: &mut String, kind: &str, collection: &Collection) -> Result<(), Refusal> {
     let alloc = *text.allocator();
-    let held = collection.held.try_copy(alloc)?;
-    match open_as(alloc, kind, collection.stripes, held) {
-        Ok(base) => print_base(text, &base),
-        Err(refusal) => Err(refusal),
+    let (kind, opening) = split(row, " ")?;
+    let script = script_of(alloc, opening)?;
+    match script.collections.as_slice().first() {
+        Some(collection) => {
+            let held = collection.held.try_copy(alloc)?;
+            let base = open_as(alloc, kind, collection.stripes, held)?;
+            print_base(text, &base)
+        }
+        None => Err(Refusal::NoSuch),
     }
 }
 
@@ -80,12 +76,10 @@ fn print_editions(text: &mut String, base: &Base<u64>, stripes: u32) -> Result<(
 
 /// `KIND STRIPES`: the editions of an empty base.
 pub fn answer_new(text: &mut String, row: &str) -> Result<(), Refusal> {
-    let (kind, stripes) = row.split_once(' ').ok_or(Refusal::NoSuch)?;
-    let stripes = stripes_in(stripes)?;
-    match new_of(*text.allocator(), kind, stripes) {
-        Ok(base) => print_editions(text, &base, stripes),
-        Err(refusal) => Err(refusal),
-    }
+    let (kind, stripes) = split(row, " ")?;
+    let stripes = location_in(stripes)?;
+    let base = new_of(*text.allocator(), kind, stripes)?;
+    print_editions(text, &base, stripes)
 }
 
 fn is_raisable(base: &Base<u64>, stripes: u32, location: u32) -> bool
@@ -122,74 +116,39 @@ fn raise(
 }
 
 /// One location, which stands for two, or two.
-pub fn locations_in(tokens: &[&str]) -> Result<(u32, u32), Refusal> {
-    match tokens {
-        [one] => {
-            let location = stripes_in(one)?;
-            Ok((location, location))
-        }
-        [lower, higher] => Ok((stripes_in(lower)?, stripes_in(higher)?)),
-        _ => Err(Refusal::NoSuch),
-    }
+pub fn locations_in(row: &str) -> Result<(u32, u32), Refusal> {
+    let (lower, higher) = row.split_once(' ').unwrap_or((row, row));
+    Ok((location_in(lower)?, location_in(higher)?))
 }
 
 /// `KIND STRIPES at LOCATIONS: CHANGES`: the editions of an empty base after the changes, which write these one or two locations;
 /// those of its copy, and what the copy holds.
 pub fn answer_raised(text: &mut String, row: &str) -> Result<(), Refusal> {
-    let (place, changes) = row.split_once(": ").ok_or(Refusal::NoSuch)?;
-    let tokens = tokens_of(*text.allocator(), place)?;
-    match tokens.as_slice() {
-        [kind, stripes, "at", locations @ ..] => {
-            let written = locations_in(locations)?;
-            raise_new(text, kind, stripes_in(stripes)?, changes, written)
-        }
-        _ => Err(Refusal::NoSuch),
-    }
-}
-
-fn raise_new(
-    text: &mut String,
-    kind: &str,
-    stripes: u32,
-    changes: &str,
-    written: (u32, u32),
-) -> Result<(), Refusal> {
-    match new_of(*text.allocator(), kind, stripes) {
-        Ok(mut base) => raise_and_print(text, &mut base, stripes, changes, written),
-        Err(refusal) => Err(refusal),
-    }
-}
-
-fn raise_and_print(
-    text: &mut String,
-    base: &mut Base<u64>,
-    stripes: u32,
-    changes: &str,
-    written: (u32, u32),
-) -> Result<(), Refusal>
-    requires { stripes_of base.old ≡ stripes }
-{
+    let (place, changes) = split(row, ": ")?;
+    let (opening, written) = split(place, " at ")?;
+    let (kind, stripes) = split(opening, " ")?;
+    let (stripes, written) = (location_in(stripes)?, locations_in(written)?);
     let alloc = *text.allocator();
-    let changes = changes_of(alloc, changes)?;
-    raise(alloc, base, stripes, changes, written)?;
-    print_raised(text, base, stripes)
+    let mut base = new_of(alloc, kind, stripes)?;
+    raise(
+        alloc,
+        &mut base,
+        stripes,
+        changes_of(alloc, changes)?,
+        written,
+    )?;
+    print_raised(text, &base, stripes)
 }
 
 fn print_raised(text: &mut String, base: &Base<u64>, stripes: u32) -> Result<(), Refusal>
     requires { stripes_of base.now ≡ stripes }
 {
     print_editions(text, base, stripes)?;
-    text.push_str(", copied ")?;
     let copy = base.try_copy()?;
-    print_copy(text, &copy, stripes)
-}
-
-fn print_copy(text: &mut String, copy: &Base<u64>, stripes: u32) -> Result<(), Refusal>
-    requires { stripes_of copy.now ≡ stripes }
-{
-    print_editions(text, copy, stripes)?;
+    text.push_str(", copied ")?;
+    print_editions(text, &copy, stripes)?;
     text.push_str(", ")?;
-    print_base(text, copy)
+    print_base(text, &copy)
 }
 
 // Two puts on one stripe, each pushed with it.
@@ -216,44 +175,32 @@ fn fold(base: &mut Base<u64>, log: &mut Log<u64>) -> Result<(), Refusal>
     Ok(())
 }
 
-// The map in two stripes after these puts.
-fn map_of_two_puts(alloc: Global) -> Result<Base<u64>, Refusal>
-    ensures { IfOk result (λ base. stripes_of base ≡ 2) }
-{
+/// What two puts leave that are each logged with the one stripe of a map in two that they change. `puts logged`: the editions.
+/// `puts touched`: what is copied for a key that the map has, for one that it lacks, and for the number of all keys, by stripes and summed.
+pub fn answer_two_puts(text: &mut String, row: &str) -> Result<(), Refusal> {
+    let alloc = *text.allocator();
     let mut base = new_of(alloc, "map", 2)?;
     let mut log = log_of_two_puts(alloc)?;
     fold(&mut base, &mut log)?;
-    Ok(base)
-}
-
-/// The editions of a map in two stripes after two puts on one of them, each logged with it.
-pub fn answer_log(text: &mut String) -> Result<(), Refusal> {
-    let base = map_of_two_puts(*text.allocator())?;
-    print_editions(text, &base, 2)
-}
-
-/// What is copied of that map for a key that it has, for one that it lacks, and for the number of all keys, by stripes and summed.
-pub fn answer_touched(text: &mut String) -> Result<(), Refusal> {
-    let base = map_of_two_puts(*text.allocator())?;
-    print_all_touches(text, &base)
+    match row {
+        "puts logged" => print_editions(text, &base, 2),
+        "puts touched" => print_all_touches(text, &base),
+        _ => Err(Refusal::NoSuch),
+    }
 }
 
 fn print_all_touches(text: &mut String, base: &Base<u64>) -> Result<(), Refusal> {
     touch(text, base, &Op::Get(3))?;
     touch(text, base, &Op::Remove(4))?;
     touch(text, base, &Op::Len)?;
-    print_summed(text, base)
-}
-
-fn touch(text: &mut String, base: &Base<u64>, op: &Op<u64>) -> Result<(), Refusal> {
-    let touch = base.touch(op)?;
+    let mut lent = LocationEditions::new(*text.allocator());
+    let touch = base.touch_summed(&Op::Len, &mut lent)?;
     print_touch(text, &touch)?;
     Ok(())
 }
 
-fn print_summed(text: &mut String, base: &Base<u64>) -> Result<(), Refusal> {
-    let mut lent = LocationEditions::new(*text.allocator());
-    let touch = base.touch_summed(&Op::Len, &mut lent)?;
+fn touch(text: &mut String, base: &Base<u64>, op: &Op<u64>) -> Result<(), Refusal> {
+    let touch = base.touch(op)?;
     print_touch(text, &touch)?;
     Ok(())
 }

@@ -2,13 +2,13 @@
 ghost use Rattle.std.specs.Prelude.{◌≡◌, [], IfOk};
 
 use crate::memos::answer_remembered;
+use crate::parts::{Footprint, tell_conflict};
 use crate::print::{print_changes, print_outcome};
-use conflict::{Changes, LocSet, Outcome, conflicts};
+use crate::tokens::{changes_of, location_in, split};
+use conflict::{Changes, LocSet};
 use replay_log::{Base, Log};
-use row_parts::{
-    changes_of, from_index, print_base, print_held, print_reply, script_of, stripes_in,
-};
-use seq_model::{Call, Held, Memory, Op, Refusal, Reply, Request, State};
+use row_parts::{from_index, print_base, print_held, print_reply, script_of, state_of};
+use seq_model::{Call, Memory, Op, Refusal, Reply, Request, State};
 use shadow::Shadow;
 use std::alloc::Global;
 use text_formats::{EventLine, Script};
@@ -20,57 +20,37 @@ pub struct Bench {
     state: State<u64>,
 }
 
-fn held_in(alloc: Global, script: &Script) -> Result<Held<u64>, Refusal> {
-    let Some(collection) = script.collections.as_slice().first() else {
-        return Err(Refusal::NoSuch);
-    };
-    let held = collection.held.try_copy(alloc)?;
-    Ok(from_index(held, script.clock))
-}
-
-fn stripes_of_first(script: &Script) -> u32 {
-    match script.collections.as_slice().first() {
-        Some(collection) => collection.stripes,
-        None => 0,
-    }
-}
-
 fn base_in(alloc: Global, script: &Script) -> Result<Base<u64>, Refusal> {
-    let held = held_in(alloc, script)?;
-    Base::open(alloc, stripes_of_first(script), held)
-}
-
-fn model_in(alloc: Global, script: &Script) -> Result<State<u64>, Refusal> {
-    let held = vec![in alloc; held_in(alloc, script)?]?;
-    State::new(Vec::new(alloc), held)
+    match script.collections.as_slice().first() {
+        Some(collection) => {
+            let held = collection.held.try_copy(alloc)?;
+            Base::open(alloc, collection.stripes, from_index(held, script.clock))
+        }
+        None => Err(Refusal::NoSuch),
+    }
 }
 
 impl Bench {
     /// Opens the script's first collection, a queue from the index that its clock says.
     pub fn open(alloc: Global, script: &Script) -> Result<Bench, Refusal> {
         let base = base_in(alloc, script)?;
-        let state = model_in(alloc, script)?;
+        let state = state_of(alloc, script, script.clock)?;
         Ok(Bench { base, state })
     }
 
     /// Answers a row that speaks of this collection.
     pub fn answer(&mut self, text: &mut String, row: &str) -> Result<(), Refusal> {
-        match row {
+        let (verb, others) = row.split_once(' ').unwrap_or((row, ""));
+        match verb {
             "holds" => print_base(text, &self.base),
             "model" => self.print_model(text),
-            _ => self.answer_words(text, row),
-        }
-    }
-
-    fn answer_words(&mut self, text: &mut String, row: &str) -> Result<(), Refusal> {
-        match row.split_once(' ') {
-            Some(("copied", calls)) => self.answer_copied(text, calls),
-            Some(("beside", calls)) => self.answer_beside(text, calls),
-            Some(("shadowed", calls)) => answer_shadowed(text, &self.base, calls),
-            Some(("remembered", calls)) => answer_remembered(text, &self.base, calls),
-            Some(("conflict", calls)) => answer_conflict(text, &self.base, calls),
-            Some(("replay", changes)) => replay(text, &mut self.base, changes),
-            Some(("reopened", stripes)) => self.reopen(text, stripes),
+            "copied" => self.answer_copied(text, others),
+            "beside" => self.answer_beside(text, others),
+            "shadowed" => answer_shadowed(text, &self.base, others),
+            "remembered" => answer_remembered(text, &self.base, others),
+            "conflict" => answer_conflict(text, &self.base, others),
+            "replay" => replay(text, &mut self.base, others),
+            "reopened" => self.reopen(text, others),
             _ => self.make_all(text, row),
         }
     }
@@ -84,12 +64,8 @@ impl Bench {
 
     fn make_all(&mut self, text: &mut String, calls: &str) -> Result<(), Refusal> {
         let script = script_of(*text.allocator(), calls)?;
-        self.tell_all(text, script.lines.as_slice())
-    }
-
-    fn tell_all(&mut self, text: &mut String, lines: &[EventLine]) -> Result<(), Refusal> {
         let mut first = true;
-        for line in lines {
+        for line in script.lines.as_slice() {
             if !first {
                 text.push_str("; ")?;
             }
@@ -132,19 +108,8 @@ impl Bench {
 
     // While there is a copy, both are changed.
     fn answer_beside(&mut self, text: &mut String, calls: &str) -> Result<(), Refusal> {
+        let (of_copy, own) = split(calls, " | ")?;
         let mut copy = self.copy(*text.allocator())?;
-        self.change_both(text, &mut copy, calls)
-    }
-
-    fn change_both(
-        &mut self,
-        text: &mut String,
-        copy: &mut Bench,
-        calls: &str,
-    ) -> Result<(), Refusal> {
-        let Some((of_copy, own)) = calls.split_once(" | ") else {
-            return Err(Refusal::NoSuch);
-        };
         copy.make_all(text, of_copy)?;
         text.push_str("; ")?;
         self.make_and_hold(text, own)?;
@@ -159,21 +124,12 @@ impl Bench {
     }
 
     fn reopen(&mut self, text: &mut String, stripes: &str) -> Result<(), Refusal> {
-        let stripes = stripes_in(stripes)?;
-        self.base = reopened(*text.allocator(), &self.base, stripes)?;
+        let stripes = location_in(stripes)?;
+        let copy = self.base.try_copy()?;
+        self.base = Base::open(*text.allocator(), stripes, copy.held()?)?;
         text.push_str("opened")?;
         Ok(())
     }
-}
-
-fn held_by_a_copy(base: &Base<u64>) -> Result<Held<u64>, Memory> {
-    let copy = base.try_copy()?;
-    copy.held()
-}
-
-fn reopened(alloc: Global, base: &Base<u64>, stripes: u32) -> Result<Base<u64>, Refusal> {
-    let held = held_by_a_copy(base)?;
-    Base::open(alloc, stripes, held)
 }
 
 fn replay(text: &mut String, base: &mut Base<u64>, changes: &str) -> Result<(), Refusal> {
@@ -211,66 +167,29 @@ fn call(alloc: Global, base: &mut Base<u64>, op: &Op<u64>) -> Result<Reply<u64>,
     Ok(outcome.reply)
 }
 
-fn shadow_line(
-    text: &mut String,
-    shadow: &mut Shadow<u64>,
-    line: &EventLine,
-) -> Result<(), Refusal> {
-    match line {
-        EventLine::Do(_, Request::Call(asked)) => shadow_call(text, shadow, &asked.op),
-        _ => Err(Refusal::NoSuch),
-    }
-}
-
 fn shadow_call(text: &mut String, shadow: &mut Shadow<u64>, op: &Op<u64>) -> Result<(), Refusal> {
     let outcome = shadow.answer(op)?;
     print_outcome(text, shadow.base(), &outcome)?;
     text.push_str("; ")?;
-    accept(shadow, outcome)?;
-    Ok(())
-}
-
-fn accept(shadow: &mut Shadow<u64>, outcome: Outcome<u64>) -> Result<(), Memory> {
     shadow.ready(&outcome)?;
     shadow.accept(outcome);
     Ok(())
 }
 
-fn shadow_all(
-    text: &mut String,
-    shadow: &mut Shadow<u64>,
-    lines: &[EventLine],
-) -> Result<(), Refusal> {
-    for line in lines {
-        shadow_line(text, shadow, line)?;
+fn answer_shadowed(text: &mut String, base: &Base<u64>, calls: &str) -> Result<(), Refusal> {
+    let alloc = *text.allocator();
+    let script = script_of(alloc, calls)?;
+    let mut shadow = Shadow::of_copy(alloc, base.try_copy()?);
+    for line in script.lines.as_slice() {
+        match line {
+            EventLine::Do(_, Request::Call(asked)) => shadow_call(text, &mut shadow, &asked.op)?,
+            _ => return Err(Refusal::NoSuch),
+        }
     }
     text.push_str("log")?;
-    Ok(())
-}
-
-fn print_log(text: &mut String, shadow: Shadow<u64>) -> Result<(), Refusal> {
     let log = shadow.log();
     print_changes(text, log.changes())?;
     Ok(())
-}
-
-fn shadowed(text: &mut String, base: &Base<u64>, lines: &[EventLine]) -> Result<(), Refusal> {
-    let copy = base.try_copy()?;
-    let alloc = *text.allocator();
-    let mut shadow = Shadow::of_copy(alloc, copy);
-    shadow_all(text, &mut shadow, lines)?;
-    print_log(text, shadow)
-}
-
-fn answer_shadowed(text: &mut String, base: &Base<u64>, calls: &str) -> Result<(), Refusal> {
-    let script = script_of(*text.allocator(), calls)?;
-    shadowed(text, base, script.lines.as_slice())
-}
-
-#[derive(Drop)]
-struct Footprint {
-    reads: LocSet,
-    writes: LocSet,
 }
 
 fn footprint_of(base: &Base<u64>, op: &Op<u64>) -> Result<Footprint, Refusal> {
@@ -280,25 +199,17 @@ fn footprint_of(base: &Base<u64>, op: &Op<u64>) -> Result<Footprint, Refusal> {
     Ok(Footprint { reads, writes })
 }
 
-fn do_conflict(base: &Base<u64>, one: &Op<u64>, other: &Op<u64>) -> Result<bool, Refusal> {
-    let one = footprint_of(base, one)?;
-    let other = footprint_of(base, other)?;
-    Ok(conflicts(&one.reads, &one.writes, &other.reads, &other.writes))
-}
-
-fn do_two_conflict(base: &Base<u64>, lines: &[EventLine]) -> Result<bool, Refusal> {
-    match lines {
+fn answer_conflict(text: &mut String, base: &Base<u64>, calls: &str) -> Result<(), Refusal> {
+    let script = script_of(*text.allocator(), calls)?;
+    match script.lines.as_slice() {
         [
             EventLine::Ask(_, Request::Call(one)),
             EventLine::Ask(_, Request::Call(other)),
-        ] => do_conflict(base, &one.op, &other.op),
+        ] => {
+            let one = footprint_of(base, &one.op)?;
+            let other = footprint_of(base, &other.op)?;
+            tell_conflict(text, &one, &other)
+        }
         _ => Err(Refusal::NoSuch),
     }
-}
-
-fn answer_conflict(text: &mut String, base: &Base<u64>, calls: &str) -> Result<(), Refusal> {
-    let script = script_of(*text.allocator(), calls)?;
-    let conflict = do_two_conflict(base, script.lines.as_slice())?;
-    text.push_str(if conflict { "yes" } else { "no" })?;
-    Ok(())
 }

@@ -1,9 +1,8 @@
 //! Calls on a memo of the keys that they touch.
 use crate::print::print_changes;
-use conflict::Outcome;
 use replay_log::Base;
 use row_parts::{print_reply, script_of};
-use seq_model::{Kind, Memory, Op, Refusal, Request};
+use seq_model::{Kind, Op, Refusal, Request};
 use shadow::Memo;
 use std::alloc::Global;
 use text_formats::EventLine;
@@ -15,39 +14,22 @@ pub fn answer_remembered(text: &mut String, base: &Base<u64>, calls: &str) -> Re
     let alloc = *text.allocator();
     let script = script_of(alloc, calls)?;
     let mut memo = memo_of(alloc, base)?;
-    remember_all(text, base, &mut memo, script.lines.as_slice())?;
-    print_log(text, memo)
+    for line in script.lines.as_slice() {
+        match line {
+            EventLine::Do(_, Request::Call(asked)) => remember(text, base, &mut memo, &asked.op)?,
+            _ => return Err(Refusal::NoSuch),
+        }
+    }
+    text.push_str("log")?;
+    let log = memo.log();
+    print_changes(text, log.changes())?;
+    Ok(())
 }
 
 fn memo_of(alloc: Global, base: &Base<u64>) -> Result<Memo<u64>, Refusal> {
     match base {
         Base::Map(_) => Memo::new(alloc, STRIPES, Kind::Map),
         Base::Bag(_) => Memo::new(alloc, STRIPES, Kind::Bag),
-        _ => Err(Refusal::NoSuch),
-    }
-}
-
-fn remember_all(
-    text: &mut String,
-    base: &Base<u64>,
-    memo: &mut Memo<u64>,
-    lines: &[EventLine],
-) -> Result<(), Refusal> {
-    for line in lines {
-        remember_line(text, base, memo, line)?;
-    }
-    text.push_str("log")?;
-    Ok(())
-}
-
-fn remember_line(
-    text: &mut String,
-    base: &Base<u64>,
-    memo: &mut Memo<u64>,
-    line: &EventLine,
-) -> Result<(), Refusal> {
-    match line {
-        EventLine::Do(_, Request::Call(asked)) => remember(text, base, memo, &asked.op),
         _ => Err(Refusal::NoSuch),
     }
 }
@@ -63,25 +45,10 @@ fn remember(
     } else {
         memo.add(base.touch(op)?)?;
     }
-    answer(text, memo, op)
-}
-
-fn answer(text: &mut String, memo: &mut Memo<u64>, op: &Op<u64>) -> Result<(), Refusal> {
     let outcome = memo.answer(op)?;
     print_reply(text, &outcome.reply)?;
     text.push_str("; ")?;
-    accept(memo, outcome)?;
-    Ok(())
-}
-
-fn accept(memo: &mut Memo<u64>, outcome: Outcome<u64>) -> Result<(), Memory> {
     memo.ready(&outcome)?;
     memo.accept(outcome);
-    Ok(())
-}
-
-fn print_log(text: &mut String, memo: Memo<u64>) -> Result<(), Refusal> {
-    let log = memo.log();
-    print_changes(text, log.changes())?;
     Ok(())
 }

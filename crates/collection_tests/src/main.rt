@@ -1,5 +1,7 @@
-//! Tests of the sequential model, of what all collections use, and of each kind of shared collection by itself, on their public calls:
-//! as it opens, as changes are replayed on it, and as a log is folded into it.
+//! Tests of the words of a transaction, of the sequential model, and of the collections that transactions share, by the calls that other
+//! crates make: lock words, sets and running words; what all collections use, and each kind as it opens, as changes are replayed on it,
+//! and as a log is folded into it; and what calls reply, read, write and change, beside the sequential model, on a collection, on a copy
+//! of it, on the shadow of a copy, and on a memo.
 //!
 //! They are rows of text in the file `stdin`, one test a row, each of which is printed with its answer; what all must answer
 //! stands in the file `stdout`. So the crate is proved once, however many rows there are. What a row may say stands at
@@ -8,9 +10,15 @@
 
 mod alone;
 mod audits;
+mod bench;
+mod memos;
 mod models;
 mod parts;
+mod print;
 mod rows;
+mod sets;
+mod tokens;
+mod words;
 
 use rows::answer_all;
 use std::io;

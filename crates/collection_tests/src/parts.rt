@@ -1,0 +1,201 @@
+//! Rows on what all collections use: sets of locations, editions and the hash map.
+ghost use Rattle.std.specs.Prelude.{◌≡◌, ◌<◌, ◌^◌, IfOk, IsTrue, length, slice_index};
+
+use crate::alone::{HIGH, locations_in};
+use crate::print::print_locations;
+use crate::tokens::{Call, call_of, location_in, split};
+use conflict::{Editions, LocSet, Table, conflicts};
+use row_parts::print_held;
+use seq_model::{Held, Memory, Refusal};
+use smallvec::SmallVec;
+use std::alloc::Global;
+use std::fmt::Write;
+use text_formats::tokens_of;
+
+fn set_of_many(alloc: Global, tokens: &[&str]) -> Result<LocSet, Refusal> {
+    let mut locations = SmallVec::new(alloc);
+    for token in tokens {
+        locations.push(location_in(token)?)?;
+    }
+    Ok(LocSet::from_locations(locations))
+}
+
+// The set after its name.
+fn set_in(alloc: Global, row: &str) -> Result<LocSet, Refusal> {
+    let Some((_, locations)) = row.split_once(' ') else {
+        return Ok(LocSet::empty(alloc));
+    };
+    let tokens = tokens_of(alloc, locations)?;
+    match tokens.as_slice() {
+        [one] => Ok(LocSet::single(alloc, location_in(one)?)),
+        [lower, higher] => pair_of(alloc, location_in(lower)?, location_in(higher)?),
+        many => set_of_many(alloc, many),
+    }
+}
+
+fn pair_of(alloc: Global, lower: u32, higher: u32) -> Result<LocSet, Refusal> {
+    if lower < higher {
+        Ok(LocSet::pair(alloc, lower, higher))
+    } else {
+        Err(Refusal::NoSuch)
+    }
+}
+
+/// `set LOCATIONS`: the set of these locations.
+pub fn answer_set(text: &mut String, row: &str) -> Result<(), Refusal> {
+    let set = set_in(*text.allocator(), row)?;
+    print_locations(text, "holds", &set)?;
+    Ok(())
+}
+
+/// `COUNT has LOCATIONS`: how many locations are below the count, and whether these are.
+pub fn answer_below(text: &mut String, row: &str) -> Result<(), Refusal> {
+    let (count, locations) = split(row, " has ")?;
+    let set = LocSet::all_below(*text.allocator(), location_in(count)?)?;
+    let count = set.as_slice().len();
+    write!(text, "{count} locations")?;
+    for token in locations.split(' ') {
+        let location = location_in(token)?;
+        text.push_str(if set.contains(location) {
+            ", yes"
+        } else {
+            ", no"
+        })?;
+    }
+    Ok(())
+}
+
+/// What a call reads and writes.
+#[derive(Drop)]
+pub struct Footprint {
+    pub reads: LocSet,
+    pub writes: LocSet,
+}
+
+fn footprint_in(alloc: Global, row: &str) -> Result<Footprint, Refusal> {
+    let (reads, writes) = split(row, ", ")?;
+    let reads = set_in(alloc, reads)?;
+    let writes = set_in(alloc, writes)?;
+    Ok(Footprint { reads, writes })
+}
+
+/// Whether two calls conflict with these footprints.
+pub fn tell_conflict(text: &mut String, one: &Footprint, other: &Footprint) -> Result<(), Refusal> {
+    let meet = conflicts(&one.reads, &one.writes, &other.reads, &other.writes);
+    text.push_str(if meet { "yes" } else { "no" })?;
+    Ok(())
+}
+
+/// `reads LOCATIONS, writes LOCATIONS; reads LOCATIONS, writes LOCATIONS`: whether the two conflict.
+pub fn answer_meet(text: &mut String, row: &str) -> Result<(), Refusal> {
+    let alloc = *text.allocator();
+    let (one, other) = split(row, "; ")?;
+    let one = footprint_in(alloc, one)?;
+    let other = footprint_in(alloc, other)?;
+    tell_conflict(text, &one, &other)
+}
+
+fn is_raisable(editions: &Editions, count: u32, location: u32) -> bool
+    requires { length editions.now ≡ count }
+    ensures within { IsTrue result → location < length editions.now }
+    ensures below { IsTrue result → slice_index editions.now location < 2 ^ 63 }
+{
+    location < count && editions.edition(location) < HIGH
+}
+
+fn raise(
+    alloc: Global,
+    editions: &mut Editions,
+    count: u32,
+    written: (u32, u32),
+) -> Result<(), Refusal>
+    requires { length editions.old ≡ count }
+    ensures { length editions.new ≡ count }
+{
+    let (lower, higher) = written;
+    if !is_raisable(editions, count, lower) || !is_raisable(editions, count, higher) {
+        return Err(Refusal::NoSuch);
+    }
+    let written = if lower < higher {
+        LocSet::pair(alloc, lower, higher)
+    } else {
+        LocSet::single(alloc, lower)
+    };
+    editions.raise(&written);
+    Ok(())
+}
+
+fn print_copy(text: &mut String, editions: &Editions, count: u32) -> Result<(), Memory>
+    requires { length editions.now ≡ count }
+{
+    let copy = editions.try_copy()?;
+    text.push_str("editions")?;
+    for location in 0..count {
+        let edition = copy.edition(location);
+        write!(text, " {edition}")?;
+    }
+    Ok(())
+}
+
+fn editions_of(alloc: Global, count: u32) -> Result<Editions, Memory>
+    ensures { IfOk result (λ editions. length editions ≡ count) }
+{
+    Editions::new(alloc, count)
+}
+
+/// `COUNT raised LOCATIONS`: a copy of so many editions, of which none, one or two are raised.
+pub fn answer_editions(text: &mut String, row: &str) -> Result<(), Refusal> {
+    let (count, raised) = split(row, " raised")?;
+    let count = location_in(count)?;
+    let alloc = *text.allocator();
+    let mut editions = editions_of(alloc, count)?;
+    if let Some(raised) = raised.strip_prefix(" ") {
+        raise(alloc, &mut editions, count, locations_in(raised)?)?;
+    }
+    print_copy(text, &editions, count)?;
+    Ok(())
+}
+
+fn step(text: &mut String, table: &mut Table<u64>, asked: Call<'_>) -> Result<(), Refusal> {
+    match asked.name {
+        "put" => {
+            table.reserve(1)?;
+            table.insert_reserved(asked.at, asked.value);
+        }
+        "remove" => table.remove(asked.at),
+        "get" => match table.get(asked.at) {
+            Some(value) => write!(text, "{value}; ")?,
+            None => text.push_str("none; ")?,
+        },
+        _ => return Err(Refusal::NoSuch),
+    }
+    Ok(())
+}
+
+fn print_table(text: &mut String, table: &Table<u64>) -> Result<(), Refusal> {
+    let count = table.len();
+    write!(text, "{count} keys, ")?;
+    let held = Held::Map(table.to_entries()?);
+    print_held(text, &held)?;
+    Ok(())
+}
+
+fn opened_again(alloc: Global, table: &Table<u64>) -> Result<Table<u64>, Memory> {
+    let copy = table.try_copy()?;
+    let entries = copy.to_entries()?;
+    Table::of_entries(alloc, entries)
+}
+
+/// `STEPS`: a table on which `put KEY VALUE`, `remove KEY` and `get KEY` are made; what it holds, and what a table does that is
+/// opened of a copy's entries.
+pub fn answer_hash_map(text: &mut String, row: &str) -> Result<(), Refusal> {
+    let alloc = *text.allocator();
+    let mut table = Table::new(alloc);
+    for asked in row.split(", ") {
+        step(text, &mut table, call_of(asked)?)?;
+    }
+    print_table(text, &table)?;
+    text.push_str("; again ")?;
+    let again = opened_again(alloc, &table)?;
+    print_table(text, &again)
+}

@@ -1,0 +1,169 @@
+//! Moves of actors on a table of words.
+use crate::print::print_words;
+use crate::tokens::{Call, call_of, location, location_in, number_in};
+use seq_model::Refusal;
+use std::alloc::Global;
+use std::fmt::Write;
+use step_core::{WordAnswer, WordRecord, WordRefusal, WordRequest, Words};
+
+// What a move is answered.
+type Answer = Result<Option<WordAnswer>, WordRefusal>;
+
+// The calls have functions of their own, since what they promise is no concern of the rows.
+fn ask(words: &mut Words, actor: u32, request: WordRequest) -> Answer {
+    words.ask(actor, request)
+}
+
+fn step(words: &mut Words, actor: u32) -> Answer {
+    words.step(actor)
+}
+
+fn snapshot(words: &Words, actor: u32) -> Answer {
+    match words.snapshot(actor) {
+        Some(number) => Ok(Some(WordAnswer::Number(number))),
+        None => Ok(None),
+    }
+}
+
+fn add_words(words: &mut Vec<u64>, token: &str) -> Result<(), Refusal> {
+    let (count, word) = token.split_once('*').unwrap_or(("1", token));
+    let word = number_in(word)?;
+    for _ in 0..location_in(count)? {
+        words.push(word)?;
+    }
+    Ok(())
+}
+
+/// The words that a row spells.
+pub fn words_of(alloc: Global, row: &str) -> Result<Vec<u64>, Refusal> {
+    let mut words = Vec::new(alloc);
+    for token in row.split(' ') {
+        add_words(&mut words, token)?;
+    }
+    Ok(words)
+}
+
+/// Prints what a move is answered.
+pub fn tell(text: &mut String, answer: Answer) -> Result<(), Refusal> {
+    match answer {
+        Err(WordRefusal::Memory) => return Err(Refusal::Memory),
+        Err(refusal) => write!(text, "{refusal}")?,
+        Ok(Some(answer)) => write!(text, "{answer:?}")?,
+        Ok(None) => text.push_str("..")?,
+    }
+    Ok(())
+}
+
+/// Answers a row that speaks of a table.
+pub fn answer_on(
+    text: &mut String,
+    words: &mut Words,
+    name: &str,
+    others: &str,
+) -> Result<(), Refusal> {
+    match name {
+        "left" => print_left(text, words),
+        "calls" => print_calls(text, words.history()),
+        "value" => print_value(text, words.values(), location_in(others)?),
+        actor => make_all(text, words, location_in(actor)?, others),
+    }
+}
+
+fn print_value(text: &mut String, values: &[u64], at: u32) -> Result<(), Refusal> {
+    match values.get(at as usize) {
+        Some(value) => write!(text, "{value}")?,
+        None => text.push_str("..")?,
+    }
+    Ok(())
+}
+
+fn print_left(text: &mut String, words: &Words) -> Result<(), Refusal> {
+    print_words(text, words.values())?;
+    for record in words.history() {
+        let (number, actor) = (record.number, record.actor);
+        let kind = if record.writes { "write" } else { "read" };
+        let calls = record.calls.as_slice().len();
+        write!(text, ", record {number} {kind} actor {actor} calls {calls}")?;
+    }
+    Ok(())
+}
+
+fn print_calls(text: &mut String, history: &[WordRecord]) -> Result<(), Refusal> {
+    for record in history {
+        for call in record.calls.as_slice() {
+            write!(text, "{call:?} ")?;
+        }
+    }
+    text.push_str("in all")?;
+    Ok(())
+}
+
+fn make_all(text: &mut String, words: &mut Words, actor: u32, moves: &str) -> Result<(), Refusal> {
+    let mut first = true;
+    for asked in moves.split("; ") {
+        if !first {
+            text.push_str(", ")?;
+        }
+        first = false;
+        let answer = made(words, actor, asked)?;
+        tell(text, answer)?;
+    }
+    Ok(())
+}
+
+fn made(words: &mut Words, actor: u32, asked: &str) -> Result<Answer, Refusal> {
+    if let Some(asked) = asked.strip_prefix("ask ") {
+        let request = request(call_of(asked)?)?;
+        return Ok(ask(words, actor, request));
+    }
+    let call = call_of(asked)?;
+    match call.name {
+        "step" => Ok(step(words, actor)),
+        "snapshot" => Ok(snapshot(words, actor)),
+        "read_first" | "write_first" => Ok(touch(words, actor, call, location(call.at)?)),
+        _ => Ok(run(words, actor, request(call)?)),
+    }
+}
+
+fn request(call: Call<'_>) -> Result<WordRequest, Refusal> {
+    let at = location(call.at)?;
+    match call.name {
+        "begin" => Ok(WordRequest::Begin),
+        "begin_read" => Ok(WordRequest::BeginRead),
+        "read" => Ok(WordRequest::Read(at)),
+        "write" => Ok(WordRequest::Write(at, call.value)),
+        "lock" => Ok(WordRequest::Lock),
+        "store" => Ok(WordRequest::Store),
+        "release" => Ok(WordRequest::Release),
+        "cancel" => Ok(WordRequest::Cancel),
+        "abort" => Ok(WordRequest::Abort),
+        "close" => Ok(WordRequest::Close),
+        _ => Err(Refusal::NoSuch),
+    }
+}
+
+// Asks an actor for something, and steps it until that is answered.
+fn run(words: &mut Words, actor: u32, request: WordRequest) -> Answer {
+    let mut answer = ask(words, actor, request)?;
+    for _ in 0..20u32 {
+        if answer.is_some() {
+            return Ok(answer);
+        }
+        answer = step(words, actor)?;
+    }
+    Ok(answer)
+}
+
+// Reads the first so many locations, or writes to each.
+fn touch(words: &mut Words, actor: u32, call: Call<'_>, count: u32) -> Answer {
+    let mut last = None;
+    for location in 0..count {
+        let request = if call.name == "read_first" {
+            WordRequest::Read(location)
+        } else {
+            WordRequest::Write(location, call.value)
+        };
+        last = run(words, actor, request)?;
+    }
+    Ok(last)
+}
