@@ -1,5 +1,6 @@
 //! Two clients that are lent: one is dropped once its lender was asked to end, the other one later. Then one is dropped after a body that
 //! has aborted, and as many are lent as there can be.
+use crate::examples::Count;
 use crate::scripts::TRIES;
 use std::alloc::Global;
 use std::fmt::Write;
@@ -23,22 +24,6 @@ impl Made {
             commits: self.commits.saturating_add(other.commits),
             sum: self.sum.saturating_add(other.sum),
         }
-    }
-}
-
-/// A word holds one more. It gives what the word held.
-#[derive(Drop)]
-struct Count(Word);
-
-impl Body<u64> for Count {
-    type Out = u64;
-
-    type Error = Refusal;
-
-    fn run<S: Scope<u64>>(&self, tx: &mut Transaction<'_, u64, S>) -> Result<u64, Refusal> {
-        let number = self.0.read(tx)?;
-        self.0.write(tx, number.saturating_add(1))?;
-        Ok(number)
     }
 }
 
