@@ -8,7 +8,8 @@ all files that it was made of, and a later run passes it over as long as these a
 changed and what is above it is proved again; other crates are proved while one fails. With names, only these and what they stand on.
 It tries no edit and runs no program: `rt ci` does, from nothing, and its verdict alone counts.
 
-A line tells of each crate how long it took; what the prover says of it is in crates/NAME/out/proof.log.
+A line tells of each crate how long it took, how many are done, and how long the rest may take; what the prover says of a crate is in
+crates/NAME/out/proof.log.
 """
 
 import argparse
@@ -67,6 +68,12 @@ def stamp(crate, known=None):
     return known[crate.name]
 
 
+def lines_of(crate):
+    if not hasattr(crate, "known_lines"):
+        crate.known_lines = crate.count(rb"\n")
+    return crate.known_lines
+
+
 def read_crates(root):
     rt.Crate.cuts_libraries = True
     rt.Crate.allowed = rt.handles_of(root)
@@ -87,10 +94,11 @@ class Run:
         self.left = [it for it in crates.values() if it.name in wanted and it.name not in self.proved]
         self.failed, self.running, self.changed = set(), {}, threading.Condition(threading.RLock())
         self.total = len(wanted)
+        self.begun, self.done = time.time(), 0
         # how much is still to be proved from a crate up, in lines: the longest row of crates goes first
         self.above = {name: 0 for name in crates}
         for it in sorted(crates.values(), key=lambda it: -len(below(it))):
-            self.above[it.name] += it.count(rb"\n")
+            self.above[it.name] += lines_of(it)
             for dep in below(it):
                 self.above[dep.name] = max(self.above[dep.name], self.above[it.name])
 
@@ -117,9 +125,17 @@ class Run:
         with self.changed:
             del self.running[crate.name]
             (self.failed if status else self.proved).add(crate.name)
+            self.done += lines_of(crate)
             what = f"NOT PROVED: see crates/{crate.name}/out/proof.log" if status else "proved"
-            print(f"{time.strftime('%H:%M:%S')} {crate.name} {what}, {time.time() - begun:.0f} s, {jobs} jobs", flush=True)
+            print(f"{self.state()}: {crate.name} {what}, {time.time() - begun:.0f} s, {jobs} jobs", flush=True)
             self.changed.notify_all()
+
+    def state(self):
+        """How far it is, and how long the rest takes by what is done, which is not told before a twentieth is."""
+        left = sum(map(lines_of, [*self.left, *(self.crates[name] for name in self.running)]))
+        minutes = (time.time() - self.begun) * left / max(self.done, 1) / 60
+        text = f"{time.strftime('%H:%M:%S')} {self.total - len(self.left) - len(self.running) - len(self.failed)} of {self.total}"
+        return f"{text}, some {minutes:.0f} minutes left" if self.done * 20 >= self.done + left > self.done else text
 
     def start_what_can(self):
         self.left.sort(key=lambda it: -self.above[it.name])

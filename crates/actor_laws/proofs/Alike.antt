@@ -3,11 +3,11 @@
 -- To be alike is an equivalence. The action that is next, its spot and its deed are read from the actor's stage and record and from the
 -- shape, so they are the same in worlds that are alike to the actor.
 use Rattle.std.proofs.Common.{◌≡◌, ℕ, Option, Some, None, refl, sym, ap, ◌∙◌, subst}
-use Rattle.word_machine.specs.Actor.{Actor}
-use Rattle.word_machine.specs.Requests as word
-use Rattle.word_machine.specs.World.{plan}
-use Rattle.word_machine.specs.Cells.{word_of}
-use Rattle.collection_machine.specs.Boosted.{Action, OnWords, TakeGate, PutGate, Accept, GoHome}
+use Rattle.tx_machine.specs.Actor.{Actor}
+use Rattle.tx_machine.specs.Requests as word
+use Rattle.tx_machine.specs.World.{plan}
+use Rattle.tx_machine.specs.Cells.{word_of}
+use Rattle.tx_machine.specs.Boosted.{Action, OnWords, TakeGate, PutGate, Accept, GoHome}
 use Rattle.replay_log.specs.Contents.{Asked}
 use Rattle.replay_log.specs.Pieces.{covers_at}
 use Rattle.replay_log.specs.Seats.{World, Seat, Stage, Copying, Ready}

@@ -9,15 +9,15 @@ use Rattle.std.specs.Prelude.{if◌then◌else◌, ◌==◌}
 use Rattle.std.proofs.lemmas.Bool.{cond_both, cond-true, cases_eq}
 use Rattle.vlock_word.specs.LockWord.{bits, unbits}
 use Rattle.vlock_word.proofs.LockWordLemmas.{unbits_bits}
-use Rattle.word_machine.specs.Requests as word
-use Rattle.word_machine.specs.World as machine
-use Rattle.word_machine.specs.World.{Ask, Step, put}
-use Rattle.word_machine.specs.Cells.{Cell, ClockCell, LockCell, ValueCell, cell, word_of}
-use Rattle.word_machine.proofs.Sets.{put-same, put-other}
+use Rattle.tx_machine.specs.Requests as word
+use Rattle.tx_machine.specs.World as machine
+use Rattle.tx_machine.specs.World.{Ask, Step, put}
+use Rattle.tx_machine.specs.Cells.{Cell, ClockCell, LockCell, ValueCell, cell, word_of}
+use Rattle.tx_machine.proofs.Sets.{put-same, put-other}
 use Rattle.seq_model.specs.declared.event.Event.TheVariants as event
-use Rattle.collection_machine.specs.Boosted.{Action, OnWords, TakeGate, PutGate, Accept, GoHome, is_actor, is_none}
+use Rattle.tx_machine.specs.Boosted.{Action, OnWords, TakeGate, PutGate, Accept, GoHome, is_actor, is_none}
 use Rattle.replay_log.specs.Base.{Shown}
-use Rattle.collection_machine.specs.Content.{IsIn}
+use Rattle.tx_machine.specs.Content.{IsIn}
 use Rattle.replay_log.specs.Contents.{Asked, Answered as Outcomes, HaveStripes, block_of, first_of, content, home_of}
 use Rattle.replay_log.proofs.ContentLemmas.{read_at, positive_at, home_is, content_frame}
 use Rattle.replay_log.specs.Seats.{World, Seat, Stage, Copying, Ready, acted, asks}

@@ -8,10 +8,10 @@ use Rattle.std.specs.Prelude.{nat_lt}
 use Rattle.std.proofs.lemmas.Bool.{cases_Bool, cond_both}
 use Rattle.std.proofs.lemmas.Bool.Decides.{nat_tests}
 use Rattle.tx_sets.specs.Entries.{lookup}
-use Rattle.word_machine.specs.Actor.{clock_limit}
-use Rattle.word_machine.specs.Notices as told
-use Rattle.word_machine.specs.World.{World as Words}
-use Rattle.word_machine.proofs.Sets.{put-same}
+use Rattle.tx_machine.specs.Actor.{clock_limit}
+use Rattle.tx_machine.specs.Notices as told
+use Rattle.tx_machine.specs.World.{World as Words}
+use Rattle.tx_machine.proofs.Sets.{put-same}
 use Rattle.seq_model.specs.declared.call.Call.{Call}
 use Rattle.seq_model.specs.declared.call.Op.{Op}
 use Rattle.seq_model.specs.declared.call.Op.TheVariants.{Read, Write}
@@ -25,7 +25,7 @@ use Rattle.seq_model.specs.declared.held.Held.{Held}
 use Rattle.seq_model.specs.declared.limits.TheConstants.{CALL_LIMIT}
 use Rattle.seq_model.specs.declared.refusal.Refusal.{Refusal}
 use Rattle.seq_model.specs.declared.refusal.Refusal.TheVariants as refusal
-use Rattle.collection_machine.specs.Boosted.{PutGate, changes, is_none}
+use Rattle.tx_machine.specs.Boosted.{PutGate, changes, is_none}
 use Rattle.replay_log.specs.Contents.{Asked, Answered, Block, HaveStripes, content}
 use Rattle.replay_log.specs.Guards.{IsAtRest}
 use Rattle.replay_log.specs.Pieces.{covers_at, piece_at}

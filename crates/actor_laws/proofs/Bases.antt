@@ -13,18 +13,18 @@ use Rattle.std.proofs.lemmas.Bool.{cond-true, cond-false, cond_both, cases_Bool}
 use Rattle.std.proofs.lemmas.List.Sums.{fold-append}
 use Rattle.std.proofs.lemmas.List.Elements.{Contains-append_left, Contains-append_right, Contains-append_cases}
 use Rattle.tx_sets.specs.Entries.{lookup}
-use Rattle.word_machine.specs.Actor.{Actor}
+use Rattle.tx_machine.specs.Actor.{Actor}
 use Rattle.conflict.specs.declared.outcome.Outcome.{Outcome}
 use Rattle.conflict.specs.declared.change.Change.{Change}
 use Rattle.conflict.specs.Editions.{raised}
 use Rattle.seq_model.specs.declared.held.Held.{Held}
 use Rattle.seq_model.specs.declared.event.Event.{Event}
 use Rattle.seq_model.specs.declared.event.Event.TheVariants.{Step}
-use Rattle.collection_machine.specs.Content.{IsIn, has}
-use Rattle.collection_machine.specs.Boosted.{Shadow, changes, is_none}
-use Rattle.collection_machine.specs.Serial.{IsWritten, does_write}
-use Rattle.collection_machine.proofs.Parts.{Untouched, in_has, written_does, untouched_does}
-use Rattle.collection_machine.proofs.Invariant.{ShadowOk}
+use Rattle.tx_machine.specs.Content.{IsIn, has}
+use Rattle.tx_machine.specs.Boosted.{Shadow, changes, is_none}
+use Rattle.tx_machine.specs.Serial.{IsWritten, does_write}
+use Rattle.tx_machine.proofs.Parts.{Untouched, in_has, written_does, untouched_does}
+use Rattle.tx_machine.proofs.BoostedInvariant.{ShadowOk}
 use Rattle.replay_log.specs.declared.base.Base.{Base}
 use Rattle.replay_log.specs.Base.{Shown, OfMap, OfBag, OfPq, OfQueue, after, changes_of, editions_of, shown_of, writes_of}
 use Rattle.replay_log.specs.Parts.{Kind, MapKind, BagKind, PqKind, QueueKind, kind_of, part, whole}

@@ -9,12 +9,12 @@ use Rattle.std.proofs.lemmas.Bool.{cond_both}
 use Rattle.vlock_word.specs.declared.lock_word.LockWord.{LockWord}
 use Rattle.vlock_word.specs.declared.lock_word.LockWord.TheVariants.{Free, Locked}
 use Rattle.tx_sets.specs.Entries.{Entries, lookup, locations}
-use Rattle.word_machine.specs.Actor as machine
-use Rattle.word_machine.specs.Actor.{Place, Actor, goes}
-use Rattle.word_machine.specs.Requests as word
-use Rattle.word_machine.specs.World as world
-use Rattle.word_machine.specs.World.{World as Words, plan}
-use Rattle.word_machine.proofs.Sets.{put-same}
+use Rattle.tx_machine.specs.Actor as machine
+use Rattle.tx_machine.specs.Actor.{Place, Actor, goes}
+use Rattle.tx_machine.specs.Requests as word
+use Rattle.tx_machine.specs.World as world
+use Rattle.tx_machine.specs.World.{World as Words, plan}
+use Rattle.tx_machine.proofs.Sets.{put-same}
 use Rattle.seq_model.specs.declared.call.Op.{Op}
 use Rattle.seq_model.specs.declared.event.Event.{Event}
 use Rattle.seq_model.specs.declared.event.Event.TheVariants.{Ask, Step}

@@ -9,13 +9,13 @@ use Rattle.tx_sets.specs.Entries.{Entries, lookup}
 use Rattle.vlock_word.specs.declared.lock_word.LockWord.{LockWord}
 use Rattle.vlock_word.specs.declared.lock_word.LockWord.TheVariants.{Free, Locked}
 use Rattle.vlock_word.specs.LockWord.{unbits}
-use Rattle.word_machine.specs.Actor.{Actor, Place, Idle, Begin, Open, Look, Fetch, Again, Lock, Take, Check, Broken, First, Store, Release}
-use Rattle.word_machine.specs.Actor.{Undo, Leave, Close, clock_limit, goes, opened, begun, seen, seen_again, seen_to_lock, seen_in_check}
-use Rattle.word_machine.specs.Requests.{Request, AskBegin, AskBeginRead, AskLock, AskStore, AskRelease, AskCancel, AskAbort, AskClose}
-use Rattle.word_machine.specs.Requests.{AskRead, AskWrite, ask, read, write, lock, close, abort}
-use Rattle.word_machine.specs.World.{Deed, Rests, LoadClock, AddToClock, LoadLock, LoadValue, ExchangeLock, StoreValue, StoreLock, plan}
-use Rattle.word_machine.specs.World.{first_store, release, undo}
-use Rattle.word_machine.specs.Cells.{ClockCell, word_of, becomes, learns}
+use Rattle.tx_machine.specs.Actor.{Actor, Place, Idle, Begin, Open, Look, Fetch, Again, Lock, Take, Check, Broken, First, Store, Release}
+use Rattle.tx_machine.specs.Actor.{Undo, Leave, Close, clock_limit, goes, opened, begun, seen, seen_again, seen_to_lock, seen_in_check}
+use Rattle.tx_machine.specs.Requests.{Request, AskBegin, AskBeginRead, AskLock, AskStore, AskRelease, AskCancel, AskAbort, AskClose}
+use Rattle.tx_machine.specs.Requests.{AskRead, AskWrite, ask, read, write, lock, close, abort}
+use Rattle.tx_machine.specs.World.{Deed, Rests, LoadClock, AddToClock, LoadLock, LoadValue, ExchangeLock, StoreValue, StoreLock, plan}
+use Rattle.tx_machine.specs.World.{first_store, release, undo}
+use Rattle.tx_machine.specs.Cells.{ClockCell, word_of, becomes, learns}
 use Rattle.actor_laws.specs.Clock.{stamps_left}
 
 pub one_left : (p : Place) → stamps_left p ≤ 1

@@ -4,9 +4,9 @@
 use Rattle.std.proofs.Common.{◌≡◌, ◌⊎◌, ℕ, Bool, true, false, true≢false, ◌||◌, List, [], ◌∷◌, Option, Some, None, inl, inr, refl, sym, ◌∙◌}
 use Rattle.std.proofs.Common.{ap, subst}
 use Rattle.std.specs.Prelude.{is_some}
-use Rattle.word_machine.specs.Requests as word
-use Rattle.word_machine.specs.Notices as told
-use Rattle.word_machine.proofs.Sets.{put-same}
+use Rattle.tx_machine.specs.Requests as word
+use Rattle.tx_machine.specs.Notices as told
+use Rattle.tx_machine.proofs.Sets.{put-same}
 use Rattle.seq_model.specs.declared.call.Call.{Call}
 use Rattle.seq_model.specs.declared.call.Reply.{Reply}
 use Rattle.seq_model.specs.declared.event.Answer.TheVariants as answer
@@ -15,7 +15,7 @@ use Rattle.seq_model.specs.declared.event.Notice.{Notice}
 use Rattle.seq_model.specs.declared.event.Notice.TheVariants.{Quiet, Answered, Refused}
 use Rattle.seq_model.specs.declared.record.Record.{Record}
 use Rattle.seq_model.specs.declared.refusal.Refusal.{Refusal}
-use Rattle.collection_machine.specs.Boosted.{GoHome}
+use Rattle.tx_machine.specs.Boosted.{GoHome}
 use Rattle.replay_log.proofs.RefusalLemmas.{keeps_cause, world_causes}
 use Rattle.replay_log.proofs.ReplyLemmas.{stepped_kept}
 use Rattle.replay_log.specs.Worlds.{World, Seat, Stage, Reading, Trying, Copying, Loading, Ready, Storing, Homing, Releasing, Closing}

@@ -12,13 +12,13 @@ use Rattle.std.proofs.lemmas.Bool.{cond_both}
 use Rattle.std.proofs.lemmas.Bool.Decides.{nat_tests}
 use Rattle.tx_sets.specs.Entries.{Entries, lookup, with_entry}
 use Rattle.tx_sets.proofs.EntryLemmas.{by_head, with_entry-nil}
-use Rattle.word_machine.specs.Actor as machine
-use Rattle.word_machine.specs.Actor.{Place, Actor, goes}
-use Rattle.word_machine.specs.Requests as word
-use Rattle.word_machine.specs.World as world
-use Rattle.word_machine.specs.World.{World as Words, plan}
-use Rattle.word_machine.specs.Notices as told
-use Rattle.word_machine.proofs.Sets.{put-same}
+use Rattle.tx_machine.specs.Actor as machine
+use Rattle.tx_machine.specs.Actor.{Place, Actor, goes}
+use Rattle.tx_machine.specs.Requests as word
+use Rattle.tx_machine.specs.World as world
+use Rattle.tx_machine.specs.World.{World as Words, plan}
+use Rattle.tx_machine.specs.Notices as told
+use Rattle.tx_machine.proofs.Sets.{put-same}
 use Rattle.seq_model.specs.declared.call.Call.{Call}
 use Rattle.seq_model.specs.declared.call.Op.{Op}
 use Rattle.seq_model.specs.declared.call.Op.TheVariants.{Read, Write, Remove, Len, Count, Add, Take, Least, Insert, TakeLeast, Enqueue}
@@ -42,8 +42,8 @@ use Rattle.conflict.specs.declared.outcome.Note.TheVariants.{Index, Plain}
 use Rattle.conflict.specs.declared.outcome.Outcome.{Outcome}
 use Rattle.conflict.specs.Footprints.{map_reads, map_writes, multiset_reads, multiset_writes, priority_queue_reads, priority_queue_writes}
 use Rattle.conflict.specs.Footprints.{queue_reads, queue_writes}
-use Rattle.collection_machine.specs.Boosted.{Boosted, PutGate, Accept, TakeGate, GoHome, is_open, is_sound, every, may_write, changes}
-use Rattle.collection_machine.specs.Boosted.{writes_asked, longer, is_none}
+use Rattle.tx_machine.specs.Boosted.{Boosted, PutGate, Accept, TakeGate, GoHome, is_open, is_sound, every, may_write, changes}
+use Rattle.tx_machine.specs.Boosted.{writes_asked, longer, is_none}
 use Rattle.replay_log.specs.Base.{Shown, OfMap, OfBag, OfPq, OfQueue, outcome_of, reads_of, writes_of}
 use Rattle.replay_log.specs.Contents.{Block, Asked, Answered, answer, block_of, blank, content, first_of, reads_in}
 use Rattle.replay_log.specs.Contents.{seen, writes_in}

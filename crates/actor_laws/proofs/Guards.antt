@@ -3,10 +3,10 @@
 -- In the reached world the machine does the action that is next (`world_allows`). Each of these guards speaks of the actor's place and of
 -- whether a gate is its own, which are the same where worlds are alike to it.
 use Rattle.std.proofs.Common.{◌≡◌, ℕ, Bool, true, false, List, Some, sym, ap, ◌∙◌, subst}
-use Rattle.word_machine.specs.Actor.{Actor}
+use Rattle.tx_machine.specs.Actor.{Actor}
 use Rattle.seq_model.specs.declared.held.Held.{Held}
 use Rattle.seq_model.specs.declared.event.Event.{Event}
-use Rattle.collection_machine.specs.Boosted.{Action, TakeGate, PutGate, GoHome, is_actor, is_committing, is_stored}
+use Rattle.tx_machine.specs.Boosted.{Action, TakeGate, PutGate, GoHome, is_actor, is_committing, is_stored}
 use Rattle.replay_log.specs.Contents.{Asked, Block, HaveStripes}
 use Rattle.replay_log.specs.Guards.{IsAllowed, step_action}
 use Rattle.replay_log.specs.Seats.{World, Stage, Ready, moves, actor_of}

@@ -6,19 +6,19 @@ use Rattle.std.proofs.Common.{length, get_or, inl, inr, refl, sym, ap, ◌∙◌
 use Rattle.std.specs.Prelude.{not, nat_lt, slice_index_or, ◌||◌, ◌==◌}
 use Rattle.std.proofs.lemmas.Bool.{cases_Bool, cases_eq, cond-true, cond-false}
 use Rattle.std.proofs.lemmas.Bool.Decides.{nat_tests}
-use Rattle.word_machine.specs.Requests.{Request, AskWrite, AskStore, AskRelease}
-use Rattle.word_machine.specs.World.{Ask, Step, Outcome, GoesOn, Commits, Aborts, outcome, put, step, run as word_run}
-use Rattle.word_machine.proofs.Sets.{put-same}
-use Rattle.collection_machine.specs.Content.{Content, Frame}
-use Rattle.collection_machine.specs.Boosted.{Action, Boosted, OnWords, TakeGate, PutGate, Accept, GoHome, act_all, acts, changes, homed}
-use Rattle.collection_machine.specs.Boosted.{every, is_actor, is_committing, is_held, is_given, is_none, is_open, is_sound, is_stored}
-use Rattle.collection_machine.specs.Boosted.{gated, longer, may_write, on_ask, opens, recorded, requested, shadows_after, shadows_copied}
-use Rattle.collection_machine.specs.Boosted.{writes_asked}
-use Rattle.collection_machine.specs.Serial.{views}
-use Rattle.collection_machine.proofs.Invariant.{IsHome}
-use Rattle.collection_machine.proofs.Models.{fits_all, run_of}
-use Rattle.collection_machine.proofs.Schedules.{all-opening, all_ok}
-use Rattle.collection_machine.proofs.Stated.{Opened, opened, reached}
+use Rattle.tx_machine.specs.Requests.{Request, AskWrite, AskStore, AskRelease}
+use Rattle.tx_machine.specs.World.{Ask, Step, Outcome, GoesOn, Commits, Aborts, outcome, put, step, run as word_run}
+use Rattle.tx_machine.proofs.Sets.{put-same}
+use Rattle.tx_machine.specs.Content.{Content, Frame}
+use Rattle.tx_machine.specs.Boosted.{Action, Boosted, OnWords, TakeGate, PutGate, Accept, GoHome, act_all, acts, changes, homed}
+use Rattle.tx_machine.specs.Boosted.{every, is_actor, is_committing, is_held, is_given, is_none, is_open, is_sound, is_stored}
+use Rattle.tx_machine.specs.Boosted.{gated, longer, may_write, on_ask, opens, recorded, requested, shadows_after, shadows_copied}
+use Rattle.tx_machine.specs.Boosted.{writes_asked}
+use Rattle.tx_machine.specs.Serial.{views}
+use Rattle.tx_machine.proofs.BoostedInvariant.{IsHome}
+use Rattle.tx_machine.proofs.Models.{fits_all, run_of}
+use Rattle.tx_machine.proofs.BoostedSchedules.{all-opening, all_ok}
+use Rattle.tx_machine.proofs.Stated.{Opened, opened, reached}
 use Rattle.seq_model.specs.Calls.{IsWithinLimits}
 use Rattle.seq_model.specs.Contents.{Contents}
 use Rattle.seq_model.specs.declared.event.Event.{Event}

@@ -7,12 +7,12 @@ use Rattle.std.proofs.Common.{◌≡◌, ℕ, zero, suc, ◌+◌, Bool, true, fa
 use Rattle.std.proofs.Common.{eqb, ltb, length, ◌≤◌, le_refl, arith}
 use Rattle.std.proofs.lemmas.Bool.{cond_both}
 use Rattle.tx_sets.specs.Entries.{Entries, lookup}
-use Rattle.word_machine.specs.Actor.{Actor}
-use Rattle.word_machine.specs.Requests as word
-use Rattle.word_machine.specs.World as machine
-use Rattle.word_machine.specs.Cells.{Cell, ClockCell, LockCell, ValueCell, cell}
-use Rattle.word_machine.specs.Notices as told
-use Rattle.word_machine.proofs.Sets.{put-same, put-other}
+use Rattle.tx_machine.specs.Actor.{Actor}
+use Rattle.tx_machine.specs.Requests as word
+use Rattle.tx_machine.specs.World as machine
+use Rattle.tx_machine.specs.Cells.{Cell, ClockCell, LockCell, ValueCell, cell}
+use Rattle.tx_machine.specs.Notices as told
+use Rattle.tx_machine.proofs.Sets.{put-same, put-other}
 use Rattle.seq_model.specs.declared.call.Op.{Op}
 use Rattle.seq_model.specs.declared.call.Op.TheVariants.{Read, Write}
 use Rattle.seq_model.specs.declared.refusal.Refusal.TheVariants as refusal
@@ -22,8 +22,8 @@ use Rattle.seq_model.specs.declared.event.Request.{Request}
 use Rattle.seq_model.specs.declared.event.Request.TheVariants as request
 use Rattle.seq_model.specs.declared.event.Notice.TheVariants.{Quiet, Refused}
 use Rattle.seq_model.specs.declared.limits.TheConstants.{CALL_LIMIT}
-use Rattle.collection_machine.specs.Content.{Content}
-use Rattle.collection_machine.specs.Boosted.{Boosted, PutGate, Accept, is_open, is_sound, may_write, every, longer, on_words, writes_asked}
+use Rattle.tx_machine.specs.Content.{Content}
+use Rattle.tx_machine.specs.Boosted.{Boosted, PutGate, Accept, is_open, is_sound, may_write, every, longer, on_words, writes_asked}
 use Rattle.replay_log.specs.Base.{Shown}
 use Rattle.replay_log.specs.Contents.{Asked, Answered as Outcomes, content, is_plain}
 use Rattle.replay_log.specs.Pieces.{piece_at, covers_at}

@@ -6,17 +6,17 @@ use Rattle.std.proofs.Common.{◌≡◌, ◌≢◌, ℕ, Bool, true, false, ◌&
 use Rattle.std.proofs.Common.{ne_eqb, eqb-true, true≢false}
 use Rattle.std.specs.Prelude.{if◌then◌else◌, not}
 use Rattle.std.proofs.lemmas.Bool.{cond_both, cases_eq}
-use Rattle.word_machine.specs.Actor.{Actor, Place, Begin}
-use Rattle.word_machine.specs.Requests as word
-use Rattle.word_machine.specs.World as machine
-use Rattle.word_machine.specs.World.{Outcome, GoesOn, Commits, Aborts, outcome, step, put}
-use Rattle.word_machine.proofs.Answered.{step_other}
-use Rattle.word_machine.proofs.Sets.{put-same, put-other}
+use Rattle.tx_machine.specs.Actor.{Actor, Place, Begin}
+use Rattle.tx_machine.specs.Requests as word
+use Rattle.tx_machine.specs.World as machine
+use Rattle.tx_machine.specs.World.{Outcome, GoesOn, Commits, Aborts, outcome, step, put}
+use Rattle.tx_machine.proofs.Answered.{step_other}
+use Rattle.tx_machine.proofs.Sets.{put-same, put-other}
 use Rattle.seq_model.specs.declared.event.Event.{Event}
 use Rattle.seq_model.specs.declared.event.Event.TheVariants.{Ask, Step, Starve}
-use Rattle.collection_machine.specs.Boosted.{Boosted, Shadow, Action, OnWords, TakeGate, PutGate, Accept, GoHome, is_actor, is_none}
-use Rattle.collection_machine.specs.Boosted.{is_open, is_stored, is_committing, fresh, shadows_after, recorded, word_step, gated, homed}
-use Rattle.collection_machine.specs.Boosted.{copied}
+use Rattle.tx_machine.specs.Boosted.{Boosted, Shadow, Action, OnWords, TakeGate, PutGate, Accept, GoHome, is_actor, is_none}
+use Rattle.tx_machine.specs.Boosted.{is_open, is_stored, is_committing, fresh, shadows_after, recorded, word_step, gated, homed}
+use Rattle.tx_machine.specs.Boosted.{copied}
 use Rattle.replay_log.specs.Base.{Shown}
 use Rattle.replay_log.specs.Contents.{Asked, Answered, content}
 use Rattle.replay_log.specs.WorldProgress.{whose}

@@ -8,20 +8,20 @@ use Rattle.std.proofs.Common.{refl, sym, ap, ◌∙◌, subst}
 use Rattle.std.proofs.lemmas.Bool.{cases_eq}
 use Rattle.std.specs.Prelude.{if◌then◌else◌, not, ◌||◌, ◌==◌}
 use Rattle.tx_sets.specs.Entries.{locations}
-use Rattle.word_machine.specs.Actor.{Actor, Call, Place, Begin, clock_limit}
-use Rattle.word_machine.specs.Requests.{Request, AskBegin, AskBeginRead, AskLock, AskStore, AskRelease, AskCancel, AskAbort, AskClose}
-use Rattle.word_machine.specs.Requests.{AskRead, AskWrite, ask}
-use Rattle.word_machine.specs.World.{World, Ask, Step, Deed, Rests, LoadClock, AddToClock, LoadLock, LoadValue, ExchangeLock, StoreValue}
-use Rattle.word_machine.specs.World.{StoreLock, Outcome, GoesOn, Commits, Aborts, plan, outcome, step, does, noted, now, put, run}
-use Rattle.word_machine.specs.Cells.{Cell, ClockCell, LockCell, ValueCell, cell, word_of, learns}
-use Rattle.word_machine.specs.Opacity.{first_read}
-use Rattle.word_machine.proofs.Cells.{step_learns}
-use Rattle.word_machine.proofs.Sets.{put-same, put-other}
-use Rattle.collection_machine.specs.Content.{Content}
-use Rattle.collection_machine.specs.Boosted.{Boosted, Shadow, Action, OnWords, TakeGate, PutGate, Accept, GoHome, is_actor, is_none}
-use Rattle.collection_machine.specs.Boosted.{is_open, is_stored, is_committing, is_edition, every, on_words, fresh, shadows_after, recorded}
-use Rattle.collection_machine.specs.Boosted.{word_step, may_write, writes_asked, longer, is_held, is_given, on_ask, take_gate, is_copied}
-use Rattle.collection_machine.specs.Boosted.{copied, put_gate, changes, accepted, go_home, acts}
+use Rattle.tx_machine.specs.Actor.{Actor, Call, Place, Begin, clock_limit}
+use Rattle.tx_machine.specs.Requests.{Request, AskBegin, AskBeginRead, AskLock, AskStore, AskRelease, AskCancel, AskAbort, AskClose}
+use Rattle.tx_machine.specs.Requests.{AskRead, AskWrite, ask}
+use Rattle.tx_machine.specs.World.{World, Ask, Step, Deed, Rests, LoadClock, AddToClock, LoadLock, LoadValue, ExchangeLock, StoreValue}
+use Rattle.tx_machine.specs.World.{StoreLock, Outcome, GoesOn, Commits, Aborts, plan, outcome, step, does, noted, now, put, run}
+use Rattle.tx_machine.specs.Cells.{Cell, ClockCell, LockCell, ValueCell, cell, word_of, learns}
+use Rattle.tx_machine.specs.Opacity.{first_read}
+use Rattle.tx_machine.proofs.Cells.{step_learns}
+use Rattle.tx_machine.proofs.Sets.{put-same, put-other}
+use Rattle.tx_machine.specs.Content.{Content}
+use Rattle.tx_machine.specs.Boosted.{Boosted, Shadow, Action, OnWords, TakeGate, PutGate, Accept, GoHome, is_actor, is_none}
+use Rattle.tx_machine.specs.Boosted.{is_open, is_stored, is_committing, is_edition, every, on_words, fresh, shadows_after, recorded}
+use Rattle.tx_machine.specs.Boosted.{word_step, may_write, writes_asked, longer, is_held, is_given, on_ask, take_gate, is_copied}
+use Rattle.tx_machine.specs.Boosted.{copied, put_gate, changes, accepted, go_home, acts}
 use Rattle.actor_laws.specs.Machine.{AlikeBelow, SameBase, SameWord, FindsBelow}
 
 -- two worlds by one test

@@ -11,16 +11,16 @@ use Rattle.tx_sets.specs.Entries.{Entries, lookup, locations}
 use Rattle.vlock_word.specs.declared.lock_word.LockWord.{LockWord}
 use Rattle.vlock_word.specs.LockWord.{bits, unbits}
 use Rattle.vlock_word.proofs.LockWordLemmas.{unbits_bits}
-use Rattle.word_machine.specs.Actor as at
-use Rattle.word_machine.specs.Actor.{Actor, Place, to_check}
-use Rattle.word_machine.specs.Requests as word
-use Rattle.word_machine.specs.World as machine
-use Rattle.word_machine.specs.World.{plan}
-use Rattle.word_machine.specs.Cells.{Cell, ClockCell, LockCell, cell, word_of}
-use Rattle.word_machine.specs.Notices as told
-use Rattle.word_machine.specs.Notices.{notice, begin_notice, look_notice, again_notice, when_none_left, lock_notice, take_notice}
-use Rattle.word_machine.specs.Notices.{check_notice}
-use Rattle.word_machine.proofs.Sets.{put-same}
+use Rattle.tx_machine.specs.Actor as at
+use Rattle.tx_machine.specs.Actor.{Actor, Place, to_check}
+use Rattle.tx_machine.specs.Requests as word
+use Rattle.tx_machine.specs.World as machine
+use Rattle.tx_machine.specs.World.{plan}
+use Rattle.tx_machine.specs.Cells.{Cell, ClockCell, LockCell, cell, word_of}
+use Rattle.tx_machine.specs.Notices as told
+use Rattle.tx_machine.specs.Notices.{notice, begin_notice, look_notice, again_notice, when_none_left, lock_notice, take_notice}
+use Rattle.tx_machine.specs.Notices.{check_notice}
+use Rattle.tx_machine.proofs.Sets.{put-same}
 use Rattle.seq_model.specs.declared.call.Op.{Op}
 use Rattle.seq_model.specs.declared.call.Op.TheVariants.{Read, Write}
 use Rattle.seq_model.specs.declared.call.Call.{Call}
@@ -33,9 +33,9 @@ use Rattle.seq_model.specs.declared.event.Request.TheVariants as request
 use Rattle.seq_model.specs.declared.event.Notice.{Notice}
 use Rattle.seq_model.specs.declared.event.Notice.TheVariants.{Quiet}
 use Rattle.seq_model.specs.declared.limits.TheConstants.{CALL_LIMIT}
-use Rattle.collection_machine.specs.Content.{Content}
-use Rattle.collection_machine.specs.Boosted.{Boosted, Shadow, Action, TakeGate, PutGate, Accept, GoHome, acts, changes, is_none, is_actor}
-use Rattle.collection_machine.specs.Boosted.{is_open, is_committing, gated, copied}
+use Rattle.tx_machine.specs.Content.{Content}
+use Rattle.tx_machine.specs.Boosted.{Boosted, Shadow, Action, TakeGate, PutGate, Accept, GoHome, acts, changes, is_none, is_actor}
+use Rattle.tx_machine.specs.Boosted.{is_open, is_committing, gated, copied}
 use Rattle.replay_log.specs.Base.{Shown}
 use Rattle.replay_log.specs.Contents.{Block, Asked, Answered as Outcomes, block_of, content, home_of, is_plain}
 use Rattle.replay_log.specs.Pieces.{piece_at, covers_at}

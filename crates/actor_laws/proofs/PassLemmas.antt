@@ -5,10 +5,10 @@ use Rattle.std.proofs.Common.{◌≡◌, ℕ, zero, suc, ◌+◌, Bool, true, fa
 use Rattle.std.proofs.Common.{eqb, ltb}
 use Rattle.std.proofs.lemmas.Bool.{cond_both}
 use Rattle.tx_sets.specs.Entries.{Entries, locations, lookup}
-use Rattle.word_machine.specs.Notices as told
-use Rattle.word_machine.specs.Requests as word
-use Rattle.word_machine.specs.World as world
-use Rattle.word_machine.specs.World.{World as Words}
+use Rattle.tx_machine.specs.Notices as told
+use Rattle.tx_machine.specs.Requests as word
+use Rattle.tx_machine.specs.World as world
+use Rattle.tx_machine.specs.World.{World as Words}
 use Rattle.seq_model.specs.declared.call.Op.{Op}
 use Rattle.seq_model.specs.declared.call.Op.TheVariants.{Read, Write}
 use Rattle.seq_model.specs.declared.event.Notice.TheVariants.{Quiet, Refused}
@@ -16,11 +16,11 @@ use Rattle.seq_model.specs.declared.event.Request.{Request}
 use Rattle.seq_model.specs.declared.event.Request.TheVariants as request
 use Rattle.seq_model.specs.declared.limits.TheConstants.{CALL_LIMIT}
 use Rattle.seq_model.specs.declared.refusal.Refusal.TheVariants as refusal
-use Rattle.collection_machine.specs.Content.{Content}
-use Rattle.collection_machine.specs.Boosted.{Boosted, Action, OnWords, TakeGate, PutGate, Accept, GoHome, accepted, acts, changes, every}
-use Rattle.collection_machine.specs.Boosted.{is_given, is_held, is_open, is_sound, longer, may_write, on_ask, requested, shadows_after}
-use Rattle.collection_machine.specs.Boosted.{word_step, writes_asked}
-use Rattle.collection_machine.proofs.Runs.{recorded_words}
+use Rattle.tx_machine.specs.Content.{Content}
+use Rattle.tx_machine.specs.Boosted.{Boosted, Action, OnWords, TakeGate, PutGate, Accept, GoHome, accepted, acts, changes, every}
+use Rattle.tx_machine.specs.Boosted.{is_given, is_held, is_open, is_sound, longer, may_write, on_ask, requested, shadows_after}
+use Rattle.tx_machine.specs.Boosted.{word_step, writes_asked}
+use Rattle.tx_machine.proofs.Runs.{recorded_words}
 use Rattle.replay_log.proofs.SetLemmas.{home_words, put_words, take_words}
 use Rattle.replay_log.specs.Contents.{Asked, Answered, content}
 use Rattle.replay_log.specs.Pieces.{piece_at, covers_at}

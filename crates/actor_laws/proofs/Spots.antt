@@ -5,15 +5,15 @@
 use Rattle.std.proofs.Common.{◌≡◌, ◌≢◌, ℕ, Bool, ◌&&◌, List, [], ◌∷◌, Option, Some, None, refl, sym, ap, ◌∙◌, subst, eqb-true}
 use Rattle.std.specs.Prelude.{if◌then◌else◌, not, ◌==◌}
 use Rattle.std.proofs.lemmas.Bool.{cond_both}
-use Rattle.word_machine.specs.Actor.{Actor}
-use Rattle.word_machine.specs.Requests as word
-use Rattle.word_machine.specs.World.{Ask, Step, Outcome, GoesOn, Commits, Aborts, outcome, step, put}
-use Rattle.word_machine.specs.Cells.{Cell, cell, word_of, becomes}
-use Rattle.word_machine.proofs.Cells.{step_cell, step_becomes}
-use Rattle.word_machine.proofs.Sets.{put-other}
+use Rattle.tx_machine.specs.Actor.{Actor}
+use Rattle.tx_machine.specs.Requests as word
+use Rattle.tx_machine.specs.World.{Ask, Step, Outcome, GoesOn, Commits, Aborts, outcome, step, put}
+use Rattle.tx_machine.specs.Cells.{Cell, cell, word_of, becomes}
+use Rattle.tx_machine.proofs.Cells.{step_cell, step_becomes}
+use Rattle.tx_machine.proofs.Sets.{put-other}
 use Rattle.seq_model.specs.declared.event.Event.TheVariants as event
-use Rattle.collection_machine.specs.Boosted.{Boosted, Action, OnWords, TakeGate, PutGate, Accept, GoHome, is_actor, is_none, is_open}
-use Rattle.collection_machine.specs.Boosted.{is_stored, is_committing, shadows_after, recorded, gated, homed, copied}
+use Rattle.tx_machine.specs.Boosted.{Boosted, Action, OnWords, TakeGate, PutGate, Accept, GoHome, is_actor, is_none, is_open}
+use Rattle.tx_machine.specs.Boosted.{is_stored, is_committing, shadows_after, recorded, gated, homed, copied}
 use Rattle.replay_log.specs.Base.{Shown}
 use Rattle.replay_log.specs.Contents.{Asked, Answered, content, home_of}
 use Rattle.replay_log.specs.Seats.{World, Seat, Stage, Closing, Leaving, Ready, acted, moves, actor_of}

@@ -5,11 +5,11 @@
 use Rattle.std.proofs.Common.{◌≡◌, ℕ, Option, Some, None, List, refl, sym, ap, ◌∙◌, subst}
 use Rattle.vlock_word.proofs.LockWordLemmas.{unbits_bits}
 use Rattle.vlock_word.specs.LockWord.{bits}
-use Rattle.word_machine.specs.Actor.{Actor, Place, Begin}
-use Rattle.word_machine.specs.World as machine
-use Rattle.word_machine.specs.World.{plan}
-use Rattle.word_machine.specs.Cells.{Cell, ClockCell, LockCell, ValueCell, cell, word_of}
-use Rattle.word_machine.specs.Notices.{notice}
+use Rattle.tx_machine.specs.Actor.{Actor, Place, Begin}
+use Rattle.tx_machine.specs.World as machine
+use Rattle.tx_machine.specs.World.{plan}
+use Rattle.tx_machine.specs.Cells.{Cell, ClockCell, LockCell, ValueCell, cell, word_of}
+use Rattle.tx_machine.specs.Notices.{notice}
 use Rattle.seq_model.specs.declared.held.Held.{Held}
 use Rattle.seq_model.specs.declared.event.Event.{Event}
 use Rattle.seq_model.specs.declared.event.Event.TheVariants.{Step}

@@ -9,16 +9,16 @@ use Rattle.std.proofs.Common.{ap, ◌∙◌, subst, eqb, eq-eqb, eqb-true, true�
 use Rattle.std.specs.Prelude.{if◌then◌else◌, not, ◌==◌}
 use Rattle.std.proofs.lemmas.Bool.{cond-true, cond-false, cases_Bool}
 use Rattle.tx_sets.specs.Entries.{lookup}
-use Rattle.word_machine.specs.Actor.{Actor, clock_limit}
-use Rattle.word_machine.specs.World as machine
-use Rattle.word_machine.specs.World.{Ask, Step, plan, put, outcome, step}
-use Rattle.word_machine.specs.Cells.{Cell, ClockCell, LockCell, ValueCell, cell, word_of, becomes, learns}
-use Rattle.word_machine.proofs.Cells.{step_cell, step_learns}
-use Rattle.word_machine.proofs.Sets.{put-same}
+use Rattle.tx_machine.specs.Actor.{Actor, clock_limit}
+use Rattle.tx_machine.specs.World as machine
+use Rattle.tx_machine.specs.World.{Ask, Step, plan, put, outcome, step}
+use Rattle.tx_machine.specs.Cells.{Cell, ClockCell, LockCell, ValueCell, cell, word_of, becomes, learns}
+use Rattle.tx_machine.proofs.Cells.{step_cell, step_learns}
+use Rattle.tx_machine.proofs.Sets.{put-same}
 use Rattle.seq_model.specs.declared.event.Event.TheVariants as event
-use Rattle.collection_machine.specs.Content.{Content, Frame, IsIn, has}
-use Rattle.collection_machine.specs.Boosted.{Boosted, Action, OnWords, TakeGate, PutGate, Accept, GoHome, is_actor, is_none, is_open}
-use Rattle.collection_machine.specs.Boosted.{is_stored, is_committing, shadows_after, gated, homed, copied, changes}
+use Rattle.tx_machine.specs.Content.{Content, Frame, IsIn, has}
+use Rattle.tx_machine.specs.Boosted.{Boosted, Action, OnWords, TakeGate, PutGate, Accept, GoHome, is_actor, is_none, is_open}
+use Rattle.tx_machine.specs.Boosted.{is_stored, is_committing, shadows_after, gated, homed, copied, changes}
 use Rattle.replay_log.specs.Base.{Shown}
 use Rattle.replay_log.specs.Contents.{Asked, Answered, HaveStripes, content, home_of}
 use Rattle.replay_log.specs.Seats.{World, Seat, Stage, Closing, Leaving, Ready, acted, moves, actor_of}

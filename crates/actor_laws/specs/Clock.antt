@@ -1,6 +1,6 @@
 -- How often an actor may still advance the clock.
 use Rattle.std.specs.Prelude.{◌≡◌, ◌⊎◌, ℕ, ◌+◌, ◌≤◌, ◌<◌}
-use Rattle.word_machine.specs.Actor.{Place, Open, Look, Fetch, Again, Lock, Take, clock_limit}
+use Rattle.tx_machine.specs.Actor.{Place, Open, Look, Fetch, Again, Lock, Take, clock_limit}
 use Rattle.replay_log.specs.Seats.{World, actor_of}
 
 -- once, from its begin to the number of its commit

@@ -1,7 +1,7 @@
 -- What a step on a gate makes of it and of its base.
 use Rattle.std.specs.Prelude.{◌≡◌, ℕ, ◌+◌, Bool, Option, Some, None, if◌then◌else◌}
 use Rattle.tx_sets.specs.Entries.{lookup}
-use Rattle.collection_machine.specs.Boosted.{TakeGate, PutGate, GoHome, changes, is_none}
+use Rattle.tx_machine.specs.Boosted.{TakeGate, PutGate, GoHome, changes, is_none}
 use Rattle.replay_log.specs.Contents.{content, home_of}
 use Rattle.replay_log.specs.Seats.{World, actor_of}
 use Rattle.actor_laws.specs.Clock.{Grows}

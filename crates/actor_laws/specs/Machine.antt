@@ -1,9 +1,9 @@
 -- What an actor has of its own in the machine of words and collections, and what its actions find there.
 use Rattle.std.specs.Prelude.{◌≡◌, ℕ, false, Some}
-use Rattle.word_machine.specs.World.{World, Ask, Step, plan}
-use Rattle.word_machine.specs.Cells.{Cell, cell, word_of}
-use Rattle.collection_machine.specs.Content.{Content}
-use Rattle.collection_machine.specs.Boosted.{Boosted, Action, OnWords, TakeGate, PutGate, Accept, GoHome, is_actor, is_none}
+use Rattle.tx_machine.specs.World.{World, Ask, Step, plan}
+use Rattle.tx_machine.specs.Cells.{Cell, cell, word_of}
+use Rattle.tx_machine.specs.Content.{Content}
+use Rattle.tx_machine.specs.Boosted.{Boosted, Action, OnWords, TakeGate, PutGate, Accept, GoHome, is_actor, is_none}
 
 -- Two machines are alike to actor a: its record, its shadow, the gates that it holds, and the opening are the same.
 pub record AlikeBelow {X Out : Type 0} (a : ℕ) (s t : Boosted X Out) : Type 0 where

@@ -2,7 +2,7 @@
 use Rattle.std.specs.Prelude.{◌≡◌, ℕ, Option, Some, None}
 use Rattle.seq_model.specs.declared.event.Event.{Event}
 use Rattle.seq_model.specs.declared.event.Event.TheVariants.{Ask, Step, Starve}
-use Rattle.collection_machine.specs.Boosted.{Action}
+use Rattle.tx_machine.specs.Boosted.{Action}
 use Rattle.replay_log.specs.Contents.{Asked, Answered, content}
 use Rattle.replay_log.specs.Seats.{World, After, Stage, Copying}
 use Rattle.replay_log.specs.WorldCalls.{with_editions}

@@ -2,10 +2,10 @@
 -- base, is as in another world.
 use Rattle.std.specs.Prelude.{ℕ, suc, Option, Some, None, ◌==◌, if◌then◌else◌}
 use Rattle.vlock_word.specs.LockWord.{unbits}
-use Rattle.word_machine.specs.World as machine
-use Rattle.word_machine.specs.World.{Deed, plan, put}
-use Rattle.word_machine.specs.Cells.{Cell, ClockCell, LockCell, ValueCell, cell, word_of}
-use Rattle.collection_machine.specs.Boosted.{Action, OnWords, TakeGate, PutGate, Accept, GoHome, is_actor}
+use Rattle.tx_machine.specs.World as machine
+use Rattle.tx_machine.specs.World.{Deed, plan, put}
+use Rattle.tx_machine.specs.Cells.{Cell, ClockCell, LockCell, ValueCell, cell, word_of}
+use Rattle.tx_machine.specs.Boosted.{Action, OnWords, TakeGate, PutGate, Accept, GoHome, is_actor}
 use Rattle.replay_log.specs.Base.{Shown}
 use Rattle.replay_log.specs.Contents.{Asked, home_of}
 use Rattle.replay_log.specs.Seats.{World, Stage, actor_of}

@@ -4,17 +4,17 @@ use Rattle.std.specs.Prelude.{◌≡◌, ℕ, zero, suc, false, List, [], ◌∷
 use Rattle.std.specs.FinMap.{empty}
 use Rattle.tx_sets.specs.Entries.{lookup, with_entry, locations}
 use Rattle.vlock_word.specs.LockWord.{unbits}
-use Rattle.word_machine.specs.Actor.{Actor, Lock, Look, opened as begun}
-use Rattle.word_machine.specs.World.{put, comes_before, insert}
-use Rattle.word_machine.specs.Cells.{ClockCell, LockCell, ValueCell}
-use Rattle.word_machine.specs.Notices.{LockedAt, Moved, Quiet}
+use Rattle.tx_machine.specs.Actor.{Actor, Lock, Look, opened as begun}
+use Rattle.tx_machine.specs.World.{put, comes_before, insert}
+use Rattle.tx_machine.specs.Cells.{ClockCell, LockCell, ValueCell}
+use Rattle.tx_machine.specs.Notices.{LockedAt, Moved, Quiet}
 use Rattle.seq_model.specs.declared.call.Op.{Op}
 use Rattle.seq_model.specs.declared.call.Op.TheVariants.{Get, Put}
 use Rattle.seq_model.specs.declared.held.Held.TheVariants.{Map}
 use Rattle.seq_model.specs.declared.event.Event.TheVariants.{Ask, Step}
 use Rattle.seq_model.specs.declared.event.Request.{Request}
 use Rattle.seq_model.specs.declared.event.Request.TheVariants as request
-use Rattle.collection_machine.specs.Boosted.{insert_commit}
+use Rattle.tx_machine.specs.Boosted.{insert_commit}
 use Rattle.conflict.specs.declared.change.Change.TheVariants as change
 use Rattle.replay_log.specs.Parts.{MapKind}
 use Rattle.replay_log.specs.Contents.{Answered, Block}

@@ -1,11 +1,11 @@
 -- The one atomic action of an event, and what the event leaves as it was.
 use Rattle.std.specs.Prelude.{◌≡◌, ◌≢◌, ℕ, true, false, ◌≤◌, [], ◌∷◌, ◌++◌, Option, Some, None}
-use Rattle.word_machine.specs.Requests as word
-use Rattle.word_machine.specs.World.{Ask, Step}
-use Rattle.word_machine.specs.Cells.{Cell, cell}
+use Rattle.tx_machine.specs.Requests as word
+use Rattle.tx_machine.specs.World.{Ask, Step}
+use Rattle.tx_machine.specs.Cells.{Cell, cell}
 use Rattle.seq_model.specs.declared.event.Event.{Event}
 use Rattle.seq_model.specs.declared.event.Event.TheVariants as event
-use Rattle.collection_machine.specs.Boosted.{Action, OnWords, TakeGate, PutGate, Accept, GoHome}
+use Rattle.tx_machine.specs.Boosted.{Action, OnWords, TakeGate, PutGate, Accept, GoHome}
 use Rattle.replay_log.specs.Contents.{Asked}
 use Rattle.replay_log.specs.Guards.{step_action}
 use Rattle.replay_log.specs.Seats.{World, Seat, Stage, Closing, Leaving, Ready, acted, asks, moves}

@@ -1,9 +1,9 @@
 -- What a step of the words answers, by the number that it finds.
 use Rattle.std.specs.Prelude.{ℕ}
 use Rattle.vlock_word.specs.LockWord.{unbits}
-use Rattle.word_machine.specs.Actor.{Actor, Place}
-use Rattle.word_machine.specs.World.{World, start}
-use Rattle.word_machine.specs.Notices.{Notice, notice}
+use Rattle.tx_machine.specs.Actor.{Actor, Place}
+use Rattle.tx_machine.specs.World.{World, start}
+use Rattle.tx_machine.specs.Notices.{Notice, notice}
 
 -- the words where n stands in each
 abbrev pub everywhere : ℕ → World

@@ -1,14 +1,14 @@
 //! What one event does to a world, and on what it depends.
 ghost use Rattle.std.specs.Prelude.{◌≡◌, ◌≢◌, ℕ, List, [], ◌∷◌, ◌++◌, ◌==◌, false, true, Some, None, if◌then◌else◌};
-ghost use Rattle.word_machine.specs.Actor.{Actor, Place};
-ghost use Rattle.word_machine.specs.World.{World as Words, plan};
-ghost use Rattle.word_machine.specs.Cells.{Cell, cell, word_of, becomes};
-ghost use Rattle.word_machine.specs.Notices.{notice};
+ghost use Rattle.tx_machine.specs.Actor.{Actor, Place};
+ghost use Rattle.tx_machine.specs.World.{World as Words, plan};
+ghost use Rattle.tx_machine.specs.Cells.{Cell, cell, word_of, becomes};
+ghost use Rattle.tx_machine.specs.Notices.{notice};
 ghost use Rattle.seq_model.specs.declared.held.Held.{Held};
 ghost use Rattle.seq_model.specs.declared.event.Event.{Event};
 ghost use Rattle.seq_model.specs.declared.event.Event.TheVariants.{Step};
-ghost use Rattle.collection_machine.specs.Content.{Content, Frame};
-ghost use Rattle.collection_machine.specs.Boosted.{Boosted, Action, acts, changes, is_actor, is_none, is_stored, is_committing};
+ghost use Rattle.tx_machine.specs.Content.{Content, Frame};
+ghost use Rattle.tx_machine.specs.Boosted.{Boosted, Action, acts, changes, is_actor, is_none, is_stored, is_committing};
 ghost use Rattle.replay_log.specs.Contents.{Answered, Block, HaveStripes, block_of, content, home_of};
 ghost use Rattle.replay_log.specs.WorldProgress.{whose};
 ghost use Rattle.replay_log.specs.Seats.{World, Beginning, actor_of};
@@ -101,7 +101,7 @@ pub fn own_part<V, X, Op, Out>()
 {}
 
 /// What a step of the words answers is a function of its actor's record and of the number that it finds, as what it leaves of that record
-/// is (`word_machine::laws::one_word`).
+/// is (`tx_machine::laws::one_word`).
 pub fn told_by_what_is_found()
     ensures found { (s : Words) (x : Actor) (p : Place) (c : Cell) → word_of (plan x p) ≡ Some c → notice s x p ≡ tells x p (cell s c) }
     ensures nothing { (s : Words) (x : Actor) (p : Place) → word_of (plan x p) ≡ None → notice s x p ≡ tells x p 0 }

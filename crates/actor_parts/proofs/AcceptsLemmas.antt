@@ -1,11 +1,11 @@
 -- An accepted call asks its writes one after another: each puts the actor anew (`put-same`), and no step comes between.
 use Rattle.std.proofs.Common.{◌≡◌, ℕ, ◌+◌, Bool, true, false, ◌&&◌, cond, List, [], ◌∷◌, refl, sym, ap, ◌∙◌, true≢false}
-use Rattle.word_machine.specs.Actor.{Actor}
-use Rattle.word_machine.specs.Requests as word
-use Rattle.word_machine.specs.Requests.{ask}
-use Rattle.word_machine.specs.World as machine
-use Rattle.word_machine.proofs.Sets.{put-same}
-use Rattle.collection_machine.specs.Boosted.{Boosted, writes_asked, longer}
+use Rattle.tx_machine.specs.Actor.{Actor}
+use Rattle.tx_machine.specs.Requests as word
+use Rattle.tx_machine.specs.Requests.{ask}
+use Rattle.tx_machine.specs.World as machine
+use Rattle.tx_machine.proofs.Sets.{put-same}
+use Rattle.tx_machine.specs.Boosted.{Boosted, writes_asked, longer}
 use Rattle.replay_log.specs.Contents.{content}
 use Rattle.replay_log.specs.Worlds.{outcome_at}
 use Rattle.actor_parts.specs.Accepts.{Accepts, written}

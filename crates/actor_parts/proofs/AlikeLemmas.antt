@@ -10,7 +10,7 @@ use Rattle.conflict.specs.declared.outcome.Outcome.{Outcome}
 use Rattle.conflict.specs.declared.change.Change.{Change}
 use Rattle.replay_log.specs.Base.{Shown, OfMap, OfBag, OfPq, OfQueue, after, outcome_of, reads_of, shown_of, stripes_of, writes_of}
 use Rattle.replay_log.specs.Parts.{kind_of}
-use Rattle.word_machine.specs.Opacity.{first_read}
+use Rattle.tx_machine.specs.Opacity.{first_read}
 use Rattle.replay_log.specs.Contents.{Block, first_of}
 use Rattle.replay_log.specs.Pieces.{Piece, Entry, Counts, piece_of}
 use Rattle.replay_log.specs.Pieces as pieces

@@ -5,16 +5,16 @@ use Rattle.std.proofs.Common.{◌≡◌, ℕ, ◌+◌, Bool, true, false, cond, 
 use Rattle.std.proofs.Common.{arith}
 use Rattle.std.specs.Prelude.{nat_lt}
 use Rattle.std.proofs.lemmas.Bool.{cond-true}
-use Rattle.word_machine.specs.Actor as machine
-use Rattle.word_machine.specs.Actor.{clock_limit}
-use Rattle.word_machine.specs.Notices as notice
-use Rattle.word_machine.specs.Opacity.{first_read}
-use Rattle.word_machine.specs.World as words
-use Rattle.word_machine.proofs.Sets.{put-same}
+use Rattle.tx_machine.specs.Actor as machine
+use Rattle.tx_machine.specs.Actor.{clock_limit}
+use Rattle.tx_machine.specs.Notices as notice
+use Rattle.tx_machine.specs.Opacity.{first_read}
+use Rattle.tx_machine.specs.World as words
+use Rattle.tx_machine.proofs.Sets.{put-same}
 use Rattle.seq_model.specs.declared.held.Held.{Held}
 use Rattle.seq_model.specs.declared.event.Event.{Event}
-use Rattle.collection_machine.specs.Boosted.{Boosted, Shadow as Part, fresh, opens, word_step}
-use Rattle.collection_machine.proofs.Schedules.{all-opening, opens_ok}
+use Rattle.tx_machine.specs.Boosted.{Boosted, Shadow as Part, fresh, opens, word_step}
+use Rattle.tx_machine.proofs.BoostedSchedules.{all-opening, opens_ok}
 use Rattle.replay_log.specs.Base.{Shown}
 use Rattle.replay_log.specs.Collections.{Suit, shown_at, viewed}
 use Rattle.replay_log.specs.Contents.{Answered, Block, HaveStripes, block_of, content, first_of}

@@ -4,15 +4,15 @@
 use Rattle.std.proofs.Common.{◌≡◌, ◌⊎◌, ℕ, Bool, true, false, ◌&&◌, cond, eqb, eq-eqb, eqb-true, List, [], ◌∷◌, Option, Some, None, inl}
 use Rattle.std.proofs.Common.{inr, refl, sym, ap, subst, ◌∙◌}
 use Rattle.tx_sets.specs.Entries.{Entries, lookup}
-use Rattle.word_machine.specs.Actor as machine
-use Rattle.word_machine.specs.Opacity.{first_read}
-use Rattle.word_machine.proofs.Quiet.{lookup-none, none_if}
-use Rattle.word_machine.proofs.Invariant.{HasBegun, IsKept}
+use Rattle.tx_machine.specs.Actor as machine
+use Rattle.tx_machine.specs.Opacity.{first_read}
+use Rattle.tx_machine.proofs.Quiet.{lookup-none, none_if}
+use Rattle.tx_machine.proofs.Invariant.{HasBegun, IsKept}
 use Rattle.seq_model.specs.declared.held.Held.{Held}
 use Rattle.seq_model.specs.declared.event.Event.{Event}
 use Rattle.conflict.specs.declared.outcome.Outcome.{Outcome}
-use Rattle.collection_machine.specs.Content.{IsIn}
-use Rattle.collection_machine.specs.Boosted.{Accept, changes, is_edition, is_open, is_sound}
+use Rattle.tx_machine.specs.Content.{IsIn}
+use Rattle.tx_machine.specs.Boosted.{Accept, changes, is_edition, is_open, is_sound}
 use Rattle.replay_log.specs.Base.{Shown}
 use Rattle.replay_log.specs.Contents.{Asked, Block, HaveStripes, answer, blank, block_of, content, first_of, is_plain, seen, shifted}
 use Rattle.replay_log.specs.Contents.{writes_in}

@@ -5,16 +5,16 @@ use Rattle.std.proofs.Common.{◌≡◌, ℕ, Bool, true, false, true≢false, c
 use Rattle.std.proofs.Common.{None, inl, inr, refl, sym, ap, subst, ◌∙◌}
 use Rattle.std.proofs.lemmas.List.Elements.{filter-append}
 use Rattle.tx_sets.specs.Entries.{Entries, lookup}
-use Rattle.word_machine.specs.Actor as machine
-use Rattle.word_machine.specs.Actor.{Actor, Call}
-use Rattle.word_machine.specs.Requests as requests
-use Rattle.word_machine.specs.Requests.{AskRead, ask}
-use Rattle.word_machine.specs.Opacity.{first_read}
-use Rattle.word_machine.proofs.Sets.{put-same}
+use Rattle.tx_machine.specs.Actor as machine
+use Rattle.tx_machine.specs.Actor.{Actor, Call}
+use Rattle.tx_machine.specs.Requests as requests
+use Rattle.tx_machine.specs.Requests.{AskRead, ask}
+use Rattle.tx_machine.specs.Opacity.{first_read}
+use Rattle.tx_machine.proofs.Sets.{put-same}
 use Rattle.seq_model.specs.declared.call.Call as model
 use Rattle.seq_model.specs.declared.call.Reply.{Reply}
-use Rattle.collection_machine.specs.Boosted.{Accept, Boosted, every, is_open, is_sound, may_write}
-use Rattle.collection_machine.specs.Content.{IsIn}
+use Rattle.tx_machine.specs.Boosted.{Accept, Boosted, every, is_open, is_sound, may_write}
+use Rattle.tx_machine.specs.Content.{IsIn}
 use Rattle.replay_log.specs.Base.{Shown}
 use Rattle.replay_log.specs.Contents.{Answered, Block, content, is_plain}
 use Rattle.replay_log.specs.Guards.{Allows}

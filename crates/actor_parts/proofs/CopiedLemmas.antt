@@ -15,8 +15,8 @@ use Rattle.conflict.specs.declared.outcome.Outcome.{Outcome}
 use Rattle.conflict.specs.Places.{none_some, some_same, of_none, of_single, in_range, key_itself, same_key}
 use Rattle.conflict.specs.Footprints.{all_below, key_place, map_reads, multiset_reads}
 use Rattle.conflict.specs.Table.{Room}
-use Rattle.collection_machine.specs.Boosted.{Shadow as Part}
-use Rattle.collection_machine.specs.Content.{IsIn}
+use Rattle.tx_machine.specs.Boosted.{Shadow as Part}
+use Rattle.tx_machine.specs.Content.{IsIn}
 use Rattle.replay_log.specs.declared.base.Base.{Base}
 use Rattle.replay_log.specs.declared.touch.Touch.{Touch}
 use Rattle.replay_log.specs.declared.touch.Touched.{Touched}

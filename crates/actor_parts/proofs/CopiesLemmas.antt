@@ -13,7 +13,7 @@ use Rattle.conflict.specs.Places.{none_some}
 use Rattle.replay_log.specs.Pieces.{piece_of}
 use Rattle.conflict.specs.declared.change.Change.{Change}
 use Rattle.conflict.specs.declared.outcome.Outcome.{Outcome}
-use Rattle.collection_machine.specs.Boosted.{Shadow, changes, longer}
+use Rattle.tx_machine.specs.Boosted.{Shadow, changes, longer}
 use Rattle.replay_log.specs.Base.{Shown, OfMap, OfBag, OfPq, OfQueue, after, changes_of, outcome_of, shown_of, stripes_of, writes_of}
 use Rattle.replay_log.specs.Parts.{kind_of, part, whole}
 use Rattle.replay_log.specs.Contents.{Answered, Block, HaveStripes, answer, blank, block_of, content, first_of, seen}

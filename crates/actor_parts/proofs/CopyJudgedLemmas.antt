@@ -4,9 +4,9 @@ use Rattle.std.proofs.Common.{◌≡◌, ◌⊎◌, ℕ, ◌+◌, Bool, true, fa
 use Rattle.std.proofs.Common.{subst, ◌∙◌, eqb, ne_eqb}
 use Rattle.std.proofs.lemmas.Bool.{cases_eq, cond-true, cond-false}
 use Rattle.tx_sets.specs.Entries.{Entries, lookup}
-use Rattle.word_machine.specs.Actor.{Call}
-use Rattle.word_machine.specs.Opacity.{first_read}
-use Rattle.collection_machine.specs.Content.{IsIn}
+use Rattle.tx_machine.specs.Actor.{Call}
+use Rattle.tx_machine.specs.Opacity.{first_read}
+use Rattle.tx_machine.specs.Content.{IsIn}
 use Rattle.replay_log.specs.Contents.{shifted}
 use Rattle.replay_log.specs.Worlds.{differs, is_stale, with_editions}
 use Rattle.actor_parts.specs.Loading.{IsDoomed}

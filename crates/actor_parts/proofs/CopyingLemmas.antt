@@ -15,8 +15,8 @@ use Rattle.base_map.specs.Conflicts as map
 use Rattle.base_bag.specs.Conflicts as bag
 use Rattle.base_pq.specs.Conflicts as pq
 use Rattle.base_queue.specs.Conflicts as queue
-use Rattle.word_machine.proofs.Sets.{put-same}
-use Rattle.collection_machine.specs.Boosted.{Boosted, copied}
+use Rattle.tx_machine.proofs.Sets.{put-same}
+use Rattle.tx_machine.specs.Boosted.{Boosted, copied}
 use Rattle.replay_log.specs.declared.touch.Touched.{Touched}
 use Rattle.replay_log.specs.declared.touch.Touched.TheVariants.{Entry, Copies}
 use Rattle.replay_log.specs.Base.{Shown, OfMap, OfBag, OfPq, OfQueue, after, outcome_of, reads_of, shown_of}

@@ -2,8 +2,8 @@
 -- definitions leaves, by the stage of the event's actor. A load of a call's location reads nothing of another collection, since the
 -- locations that are left are in the call's own.
 use Rattle.std.proofs.Common.{◌≡◌, ◌≢◌, ℕ, ◌+◌, ◌≤◌, [], ◌∷◌, Option, Some, None, inl, inr, refl, sym, ap, subst, ◌∙◌}
-use Rattle.word_machine.specs.Actor.{Actor}
-use Rattle.word_machine.specs.Opacity.{first_read}
+use Rattle.tx_machine.specs.Actor.{Actor}
+use Rattle.tx_machine.specs.Opacity.{first_read}
 use Rattle.seq_model.specs.declared.event.Event.{Event}
 use Rattle.seq_model.specs.declared.event.Event.TheVariants.{Ask, Step, Starve}
 use Rattle.replay_log.specs.Contents.{Answered, Asked, first_of, home_of}

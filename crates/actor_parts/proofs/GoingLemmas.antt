@@ -3,14 +3,14 @@
 use Rattle.std.proofs.Common.{◌≡◌, ℕ, Bool, true, false, cond, eqb, not, ◌&&◌, List, Option, Some, None, [], ◌∷◌, refl, sym, ap, subst, ◌∙◌}
 use Rattle.std.proofs.lemmas.Bool.{cond-true, cond_both}
 use Rattle.tx_sets.specs.Entries.{Entries, lookup}
-use Rattle.word_machine.specs.Actor.{Actor, Call}
-use Rattle.word_machine.specs.Opacity.{first_read}
-use Rattle.word_machine.specs.World.{put}
-use Rattle.word_machine.proofs.Sets.{put-same}
+use Rattle.tx_machine.specs.Actor.{Actor, Call}
+use Rattle.tx_machine.specs.Opacity.{first_read}
+use Rattle.tx_machine.specs.World.{put}
+use Rattle.tx_machine.proofs.Sets.{put-same}
 use Rattle.seq_model.specs.declared.event.Event.TheVariants.{Step}
 use Rattle.seq_model.specs.declared.event.Notice.TheVariants.{Refused}
 use Rattle.seq_model.specs.declared.refusal.Refusal.TheVariants as refusal
-use Rattle.collection_machine.specs.Boosted.{Boosted, PutGate, changes, copied, gated, is_actor, is_committing, is_open}
+use Rattle.tx_machine.specs.Boosted.{Boosted, PutGate, changes, copied, gated, is_actor, is_committing, is_open}
 use Rattle.replay_log.specs.Base.{Shown}
 use Rattle.replay_log.specs.Contents.{Answered, Asked, block_of, content, first_of, is_plain}
 use Rattle.replay_log.specs.Pieces.{piece_at}

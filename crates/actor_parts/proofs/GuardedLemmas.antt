@@ -2,15 +2,15 @@
 -- request of the first store change none, and the base that is put back last gives back the one that is left.
 use Rattle.std.proofs.Common.{◌≡◌, ℕ, cond, eqb, Bool, true, false, not, ◌||◌, Option, List, [], ◌∷◌, refl, ap, ◌∙◌}
 use Rattle.tx_sets.specs.Entries.{locations}
-use Rattle.word_machine.specs.Actor.{Store}
-use Rattle.word_machine.specs.Requests.{AskStore}
-use Rattle.word_machine.specs.World as machine
-use Rattle.word_machine.specs.World.{Outcome, GoesOn, Commits, Aborts}
+use Rattle.tx_machine.specs.Actor.{Store}
+use Rattle.tx_machine.specs.Requests.{AskStore}
+use Rattle.tx_machine.specs.World as machine
+use Rattle.tx_machine.specs.World.{Outcome, GoesOn, Commits, Aborts}
 use Rattle.seq_model.specs.declared.held.Held.{Held}
 use Rattle.seq_model.specs.declared.event.Event.{Event}
-use Rattle.collection_machine.specs.Content.{has}
-use Rattle.collection_machine.specs.Boosted.{Boosted, GoHome, every, is_actor, is_given, is_held, is_stored, recorded, requested}
-use Rattle.collection_machine.specs.Boosted.{shadows_after}
+use Rattle.tx_machine.specs.Content.{has}
+use Rattle.tx_machine.specs.Boosted.{Boosted, GoHome, every, is_actor, is_given, is_held, is_stored, recorded, requested}
+use Rattle.tx_machine.specs.Boosted.{shadows_after}
 use Rattle.replay_log.specs.Contents.{Block, HaveStripes, content, home_of, is_plain}
 use Rattle.replay_log.specs.Worlds.{World, Seat, Stage, Idle, Beginning, Open, Locking, Releasing, Closing, Cancelling, Leaving, Reading}
 use Rattle.replay_log.specs.Worlds.{Trying}

@@ -6,9 +6,9 @@ use Rattle.std.proofs.Common.{sym, subst, eqb, length}
 use Rattle.std.specs.Prelude.{nat_lt}
 use Rattle.std.proofs.lemmas.Bool.{cases_eq}
 use Rattle.tx_sets.specs.Entries.{Entries, lookup}
-use Rattle.word_machine.specs.Notices as told
-use Rattle.word_machine.specs.Requests as word
-use Rattle.word_machine.proofs.Sets.{put-same}
+use Rattle.tx_machine.specs.Notices as told
+use Rattle.tx_machine.specs.Requests as word
+use Rattle.tx_machine.proofs.Sets.{put-same}
 use Rattle.seq_model.specs.declared.call.Op.{Op}
 use Rattle.seq_model.specs.declared.call.Op.TheVariants as op
 use Rattle.seq_model.specs.declared.event.Event.{Event}
@@ -21,8 +21,8 @@ use Rattle.seq_model.specs.declared.held.Held.{Held}
 use Rattle.seq_model.specs.declared.limits.TheConstants.{CALL_LIMIT}
 use Rattle.seq_model.specs.declared.refusal.Refusal.TheVariants as refusal
 use Rattle.conflict.specs.declared.outcome.Outcome.{Outcome}
-use Rattle.collection_machine.specs.Boosted.{Accept, GoHome, PutGate, TakeGate, changes, is_none}
-use Rattle.collection_machine.specs.Content.{IsIn}
+use Rattle.tx_machine.specs.Boosted.{Accept, GoHome, PutGate, TakeGate, changes, is_none}
+use Rattle.tx_machine.specs.Content.{IsIn}
 use Rattle.replay_log.specs.Base.{Shown}
 use Rattle.replay_log.specs.Contents.{Answered, Asked, Block, HaveStripes, block_of, content, first_of, home_of, reads_in}
 use Rattle.replay_log.specs.Pieces.{piece_at}

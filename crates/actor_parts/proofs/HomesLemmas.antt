@@ -8,7 +8,7 @@ use Rattle.std.proofs.lemmas.List.{drop_more}
 use Rattle.std.specs.List.{All}
 use Rattle.std.proofs.lemmas.List.Elements.{All-cons, All-nil}
 use Rattle.tx_sets.specs.Entries.{Entries, IsRising, locations}
-use Rattle.collection_machine.specs.Content.{has}
+use Rattle.tx_machine.specs.Content.{has}
 use Rattle.replay_log.specs.Contents.{Block, end_of, home_of, is_plain, size}
 use Rattle.replay_log.specs.Worlds.{all_of, distinct, with_new}
 use Rattle.actor_parts.specs.Blocks.{BlocksView, home_in, homes_in, is_first, with_home}

@@ -2,7 +2,7 @@
 use Rattle.std.proofs.Common.{◌≡◌, ℕ, cond, Bool, true, false, Option, Some, None, [], ◌∷◌, ◌==◌, eq-eqb, refl, ◌∙◌}
 use Rattle.std.proofs.lemmas.Bool.{cond-true}
 use Rattle.tx_sets.specs.Entries.{Entries, lookup}
-use Rattle.word_machine.specs.Notices as notice
+use Rattle.tx_machine.specs.Notices as notice
 use Rattle.seq_model.specs.declared.refusal.Refusal.TheVariants as refusal
 use Rattle.replay_log.specs.Contents.{Answered}
 use Rattle.replay_log.specs.Worlds.{World, Seat, After, judges, because, gives_up, actor_of, has_loaded, loads}

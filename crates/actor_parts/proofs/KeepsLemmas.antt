@@ -9,7 +9,7 @@ use Rattle.seq_model.specs.declared.refusal.Refusal.TheVariants as refusal
 use Rattle.seq_model.specs.declared.event.Notice.TheVariants.{Refused}
 use Rattle.conflict.specs.declared.change.Change.{Change}
 use Rattle.conflict.specs.declared.outcome.Outcome.{Outcome}
-use Rattle.collection_machine.specs.Boosted.{Shadow}
+use Rattle.tx_machine.specs.Boosted.{Shadow}
 use Rattle.replay_log.specs.Base.{Shown, editions_of, reads_of, shown_of, writes_of}
 use Rattle.replay_log.specs.Contents.{Answered, Block, blank, content, first_of, reads_in as reads_at, writes_in as writes_at, shifted}
 use Rattle.replay_log.specs.Contents.{size}

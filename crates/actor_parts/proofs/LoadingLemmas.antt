@@ -7,19 +7,19 @@ use Rattle.std.proofs.Common.{subst, ◌∙◌, true≢false}
 use Rattle.std.specs.Prelude.{unwrap_or}
 use Rattle.std.proofs.lemmas.Bool.{cases_eq, cond-true, cond-false}
 use Rattle.tx_sets.specs.Entries.{Entries, lookup}
-use Rattle.word_machine.specs.Actor as machine
-use Rattle.word_machine.specs.Actor.{Actor, Call, Read, Write}
-use Rattle.word_machine.specs.Notices as told
-use Rattle.word_machine.specs.Opacity.{IsLegal, first_read}
-use Rattle.word_machine.specs.World as words
-use Rattle.word_machine.specs.World.{Memory, put}
-use Rattle.word_machine.proofs.Calls.{touched, first_read_is, first_read-more}
-use Rattle.word_machine.proofs.Invariant.{Saw}
-use Rattle.word_machine.proofs.Sets.{put-other}
+use Rattle.tx_machine.specs.Actor as machine
+use Rattle.tx_machine.specs.Actor.{Actor, Call, Read, Write}
+use Rattle.tx_machine.specs.Notices as told
+use Rattle.tx_machine.specs.Opacity.{IsLegal, first_read}
+use Rattle.tx_machine.specs.World as words
+use Rattle.tx_machine.specs.World.{Memory, put}
+use Rattle.tx_machine.proofs.Calls.{touched, first_read_is, first_read-more}
+use Rattle.tx_machine.proofs.Invariant.{Saw}
+use Rattle.tx_machine.proofs.Sets.{put-other}
 use Rattle.seq_model.specs.declared.event.Event.{Event}
 use Rattle.seq_model.specs.declared.event.Event.TheVariants.{Step}
 use Rattle.seq_model.specs.declared.held.Held.{Held}
-use Rattle.collection_machine.specs.Boosted.{Accept, changes}
+use Rattle.tx_machine.specs.Boosted.{Accept, changes}
 use Rattle.replay_log.specs.Contents.{Answered, Block, HaveStripes, content, is_plain}
 use Rattle.replay_log.specs.Guards.{Allows}
 use Rattle.replay_log.specs.Worlds.{World, Seat, Stage, Loading, After, acted, actor_of, has_loaded, moves, opened, outcome_at, run}

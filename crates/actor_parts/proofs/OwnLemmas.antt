@@ -4,10 +4,10 @@
 use Rattle.std.proofs.Common.{◌≡◌, ◌≢◌, ℕ, ◌+◌, ◌<◌, ◌==◌, ◌&&◌, ◌++◌, Bool, true, false, cond, not, [], Option, Some, None, append-nil}
 use Rattle.std.proofs.Common.{arith, refl, sym, ap, subst, ◌∙◌, ne_eqb}
 use Rattle.std.proofs.lemmas.Bool.{cond-false, cond_both}
-use Rattle.word_machine.specs.Opacity.{first_read}
-use Rattle.word_machine.specs.World.{World as Words, put}
-use Rattle.word_machine.proofs.Sets.{put-same}
-use Rattle.collection_machine.specs.Boosted.{Boosted, Shadow as Part, copied, gated, is_actor, is_committing, is_copied, is_open, longer}
+use Rattle.tx_machine.specs.Opacity.{first_read}
+use Rattle.tx_machine.specs.World.{World as Words, put}
+use Rattle.tx_machine.proofs.Sets.{put-same}
+use Rattle.tx_machine.specs.Boosted.{Boosted, Shadow as Part, copied, gated, is_actor, is_committing, is_copied, is_open, longer}
 use Rattle.replay_log.specs.Base.{Shown}
 use Rattle.replay_log.specs.Contents.{Answered, Asked, Block, HaveStripes, block_of, content, first_of, home_of, size}
 use Rattle.replay_log.specs.Pieces.{covers_at}

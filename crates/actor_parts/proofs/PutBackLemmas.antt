@@ -5,12 +5,12 @@
 use Rattle.std.proofs.Common.{◌≡◌, ◌⊎◌, ℕ, ◌+◌, Bool, true, false, true≢false, cond, List, [], ◌∷◌, Option, Some, None, inl, inr, sym, ap}
 use Rattle.std.proofs.Common.{subst, ◌∙◌}
 use Rattle.tx_sets.specs.Entries.{Entries}
-use Rattle.word_machine.specs.Actor.{Actor, Call}
-use Rattle.word_machine.specs.Opacity.{first_read}
-use Rattle.word_machine.specs.World.{World as Words}
+use Rattle.tx_machine.specs.Actor.{Actor, Call}
+use Rattle.tx_machine.specs.Opacity.{first_read}
+use Rattle.tx_machine.specs.World.{World as Words}
 use Rattle.conflict.specs.Table.{Room}
 use Rattle.conflict.specs.declared.outcome.Outcome.{Outcome}
-use Rattle.collection_machine.specs.Boosted.{PutGate, Shadow as Part}
+use Rattle.tx_machine.specs.Boosted.{PutGate, Shadow as Part}
 use Rattle.replay_log.specs.declared.base.Base.{Base}
 use Rattle.replay_log.specs.Base.{Shown}
 use Rattle.replay_log.specs.Contents.{Answered, Asked, Block, block_of, content, first_of}

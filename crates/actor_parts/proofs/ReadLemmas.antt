@@ -2,7 +2,7 @@
 -- and more reads keep it. An accepted outcome leaves which calls are held and what they read, so it keeps it too.
 use Rattle.std.proofs.Common.{◌≡◌, ℕ, ◌+◌, true, List, Option, Some, None, Contains, refl, sym, ap, subst, ◌∙◌}
 use Rattle.std.specs.FinMap.{get}
-use Rattle.word_machine.specs.Opacity.{first_read}
+use Rattle.tx_machine.specs.Opacity.{first_read}
 use Rattle.seq_model.specs.declared.call.Op.{Op}
 use Rattle.conflict.specs.declared.outcome.Outcome.{Outcome}
 use Rattle.replay_log.specs.Base.{Shown, changes_of, reads_of, shown_of, stripes_of}

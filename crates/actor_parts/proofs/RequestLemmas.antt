@@ -6,7 +6,7 @@ use Rattle.step_core.specs.Phases.{if_new}
 use Rattle.step_core.specs.Sound.{Keeps}
 use Rattle.step_core.specs.declared.actor.Actor.{Actor}
 use Rattle.step_core.specs.declared.answer.WordRefusal.TheVariants.{TooLong}
-use Rattle.collection_machine.specs.Boosted.{is_none}
+use Rattle.tx_machine.specs.Boosted.{is_none}
 use Rattle.replay_log.specs.Worlds.{fits}
 
 is_below : (n : ℕ) → leb (n + 1) 4096 ≡ true → ltb n 4096 ≡ true

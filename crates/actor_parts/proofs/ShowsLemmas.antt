@@ -1,12 +1,12 @@
 -- What aborting and the request of the stores make of an actor in every world that shows it.
 use Rattle.std.proofs.Common.{◌≡◌, ℕ, cond, Bool, true, false, Option, None, [], ◌∷◌, refl, sym, ap, true≢false, ◌∙◌}
 use Rattle.tx_sets.specs.Entries.{lookup, locations}
-use Rattle.word_machine.specs.Actor.{Actor}
-use Rattle.word_machine.specs.Requests as word
-use Rattle.word_machine.specs.Requests.{ask}
-use Rattle.word_machine.specs.World as machine
-use Rattle.word_machine.proofs.Sets.{put-same}
-use Rattle.collection_machine.specs.Boosted.{Boosted, Shadow, every, is_held, on_words, gated}
+use Rattle.tx_machine.specs.Actor.{Actor}
+use Rattle.tx_machine.specs.Requests as word
+use Rattle.tx_machine.specs.Requests.{ask}
+use Rattle.tx_machine.specs.World as machine
+use Rattle.tx_machine.proofs.Sets.{put-same}
+use Rattle.tx_machine.specs.Boosted.{Boosted, Shadow, every, is_held, on_words, gated}
 use Rattle.replay_log.specs.Contents.{content}
 use Rattle.replay_log.specs.Pieces.{piece_at}
 use Rattle.seq_model.specs.declared.event.Notice.TheVariants.{Refused}

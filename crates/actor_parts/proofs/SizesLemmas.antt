@@ -13,7 +13,7 @@ use Rattle.seq_model.specs.declared.call.Op.TheVariants.{Get, Put, Remove, Len, 
 use Rattle.conflict.specs.Places.{none_some}
 use Rattle.conflict.specs.Table.{Room}
 use Rattle.conflict.specs.declared.outcome.Outcome.{Outcome}
-use Rattle.collection_machine.specs.Boosted.{PutGate}
+use Rattle.tx_machine.specs.Boosted.{PutGate}
 use Rattle.replay_log.specs.declared.base.Base.{Base}
 use Rattle.replay_log.specs.declared.touch.Touch.{Touch}
 use Rattle.replay_log.specs.declared.touch.Touched.{Touched}

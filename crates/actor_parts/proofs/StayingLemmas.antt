@@ -5,11 +5,11 @@ use Rattle.std.proofs.Common.{◌≡◌, ◌⊎◌, ℕ, ◌+◌, ◌<◌, Bool,
 use Rattle.std.proofs.Common.{inr, refl, sym, ap, subst, ◌∙◌}
 use Rattle.std.specs.Prelude.{nat_lt}
 use Rattle.tx_sets.specs.Entries.{Entries, lookup}
-use Rattle.word_machine.specs.Actor as machine
-use Rattle.word_machine.specs.Actor.{Actor}
-use Rattle.word_machine.specs.Notices as told
-use Rattle.word_machine.specs.Requests as word
-use Rattle.word_machine.specs.Requests.{ask}
+use Rattle.tx_machine.specs.Actor as machine
+use Rattle.tx_machine.specs.Actor.{Actor}
+use Rattle.tx_machine.specs.Notices as told
+use Rattle.tx_machine.specs.Requests as word
+use Rattle.tx_machine.specs.Requests.{ask}
 use Rattle.seq_model.specs.declared.call.Op.{Op}
 use Rattle.seq_model.specs.declared.call.Op.TheVariants as op
 use Rattle.seq_model.specs.declared.event.Answer.TheVariants.{Replied}
@@ -19,8 +19,8 @@ use Rattle.seq_model.specs.declared.event.Request.TheVariants as request
 use Rattle.seq_model.specs.declared.limits.TheConstants.{CALL_LIMIT}
 use Rattle.seq_model.specs.declared.refusal.Refusal.{Refusal}
 use Rattle.seq_model.specs.declared.refusal.Refusal.TheVariants as refusal
-use Rattle.collection_machine.specs.Content.{has}
-use Rattle.collection_machine.specs.Boosted.{longer}
+use Rattle.tx_machine.specs.Content.{has}
+use Rattle.tx_machine.specs.Boosted.{longer}
 use Rattle.replay_log.specs.Contents.{Answered, Asked, block_of, content}
 use Rattle.replay_log.specs.Pieces.{piece_at}
 use Rattle.replay_log.specs.Worlds.{World, Seat, Stage, Idle, Beginning, Open, Locking, Closing, Reading, Trying, Copying, Loading, Gating}

@@ -1,9 +1,9 @@
 -- The step of the definitions is the atomic action that is next, and then what is made of it: stage by stage both compute to the same, and
 -- where another action is next there is nothing to show.
 use Rattle.std.proofs.Common.{◌≡◌, ℕ, false, true≢false, List, [], ◌∷◌, refl, ap}
-use Rattle.word_machine.specs.Notices as notice
-use Rattle.word_machine.specs.Requests.{AskStore}
-use Rattle.collection_machine.specs.Boosted.{TakeGate, PutGate, GoHome, is_none}
+use Rattle.tx_machine.specs.Notices as notice
+use Rattle.tx_machine.specs.Requests.{AskStore}
+use Rattle.tx_machine.specs.Boosted.{TakeGate, PutGate, GoHome, is_none}
 use Rattle.replay_log.specs.Guards.{step_action}
 use Rattle.replay_log.specs.Pieces.{covers_at}
 use Rattle.replay_log.specs.Worlds.{World, Seat, Stage, Idle, Beginning, Open, Locking, Releasing, Closing, Cancelling, Leaving, Reading}

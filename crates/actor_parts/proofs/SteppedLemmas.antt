@@ -2,16 +2,16 @@
 -- definitions to which a step leads. The places of a stage begin no transaction, and end no read but that of the stage.
 use Rattle.std.proofs.Common.{◌≡◌, ℕ, zero, suc, Bool, true, false, cond, List, [], ◌∷◌, ◌++◌, Some, inl, refl, sym, ap, subst, ◌∙◌, eqb}
 use Rattle.tx_sets.specs.Entries.{Entries}
-use Rattle.word_machine.specs.Actor as machine
-use Rattle.word_machine.specs.Actor.{Actor, Call, Place, Read}
-use Rattle.word_machine.specs.Notices as told
-use Rattle.word_machine.specs.Opacity.{first_read}
-use Rattle.word_machine.specs.Requests as word
-use Rattle.word_machine.specs.World.{World as Words, plan}
-use Rattle.word_machine.proofs.Calls.{first_read-more}
+use Rattle.tx_machine.specs.Actor as machine
+use Rattle.tx_machine.specs.Actor.{Actor, Call, Place, Read}
+use Rattle.tx_machine.specs.Notices as told
+use Rattle.tx_machine.specs.Opacity.{first_read}
+use Rattle.tx_machine.specs.Requests as word
+use Rattle.tx_machine.specs.World.{World as Words, plan}
+use Rattle.tx_machine.proofs.Calls.{first_read-more}
 use Rattle.seq_model.specs.declared.refusal.Refusal.TheVariants as refusal
-use Rattle.collection_machine.specs.Content.{has}
-use Rattle.collection_machine.specs.Boosted.{GoHome, PutGate, TakeGate, changes, is_none}
+use Rattle.tx_machine.specs.Content.{has}
+use Rattle.tx_machine.specs.Boosted.{GoHome, PutGate, TakeGate, changes, is_none}
 use Rattle.replay_log.specs.Contents.{Answered, Asked, content}
 use Rattle.replay_log.specs.Pieces.{covers_at, piece_at}
 use Rattle.replay_log.specs.Worlds.{World, Seat, Stage, Idle, Beginning, Open, Locking, Releasing, Closing, Cancelling, Leaving, Reading}

@@ -8,18 +8,18 @@ use Rattle.std.proofs.lemmas.Bool.{cond_both}
 use Rattle.vlock_word.specs.declared.lock_word.LockWord.{LockWord}
 use Rattle.vlock_word.specs.declared.lock_word.LockWord.TheVariants.{Free, Locked}
 use Rattle.tx_sets.specs.Entries.{Entries, lookup, locations}
-use Rattle.word_machine.specs.Actor as machine
-use Rattle.word_machine.specs.Actor.{Actor, Call, Place, Read, goes}
-use Rattle.word_machine.specs.Opacity.{first_read}
-use Rattle.word_machine.specs.Requests as word
-use Rattle.word_machine.specs.Requests.{Request, ask}
-use Rattle.word_machine.specs.World as world
-use Rattle.word_machine.specs.World.{World as Words, Outcome, plan, put}
-use Rattle.word_machine.proofs.Sets.{put-same}
-use Rattle.collection_machine.specs.Content.{Content}
-use Rattle.collection_machine.specs.Boosted.{Boosted, GoHome, OnWords, PutGate, Shadow, TakeGate, acts, copied, every, gated, homed}
-use Rattle.collection_machine.specs.Boosted.{is_actor, is_committing, is_given, is_held, is_none, is_open, is_stored, on_words, recorded}
-use Rattle.collection_machine.specs.Boosted.{shadows_after, word_step}
+use Rattle.tx_machine.specs.Actor as machine
+use Rattle.tx_machine.specs.Actor.{Actor, Call, Place, Read, goes}
+use Rattle.tx_machine.specs.Opacity.{first_read}
+use Rattle.tx_machine.specs.Requests as word
+use Rattle.tx_machine.specs.Requests.{Request, ask}
+use Rattle.tx_machine.specs.World as world
+use Rattle.tx_machine.specs.World.{World as Words, Outcome, plan, put}
+use Rattle.tx_machine.proofs.Sets.{put-same}
+use Rattle.tx_machine.specs.Content.{Content}
+use Rattle.tx_machine.specs.Boosted.{Boosted, GoHome, OnWords, PutGate, Shadow, TakeGate, acts, copied, every, gated, homed}
+use Rattle.tx_machine.specs.Boosted.{is_actor, is_committing, is_given, is_held, is_none, is_open, is_stored, on_words, recorded}
+use Rattle.tx_machine.specs.Boosted.{shadows_after, word_step}
 use Rattle.replay_log.proofs.ActionLemmas.{exchanges, learns}
 use Rattle.replay_log.proofs.ReadLemmas.{first_read-other, first_read-write}
 use Rattle.replay_log.proofs.SetLemmas.{home_words, moved_is, put_words, take_words}

@@ -15,11 +15,11 @@ use Rattle.replay_log.proofs.EndingLemmas.{put_keeps}
 use Rattle.replay_log.proofs.PartLemmas.{whole_local}
 use Rattle.replay_log.proofs.ReadLemmas.{in_set}
 use Rattle.actor_parts.proofs.CallingLemmas.{no_none}
-use Rattle.word_machine.specs.Actor.{Actor, Call}
-use Rattle.word_machine.specs.Opacity.{first_read}
-use Rattle.word_machine.specs.World.{World as Words}
-use Rattle.collection_machine.specs.Boosted.{PutGate, changes, Shadow as Part, is_copied, is_none, is_open}
-use Rattle.collection_machine.specs.Content.{IsIn}
+use Rattle.tx_machine.specs.Actor.{Actor, Call}
+use Rattle.tx_machine.specs.Opacity.{first_read}
+use Rattle.tx_machine.specs.World.{World as Words}
+use Rattle.tx_machine.specs.Boosted.{PutGate, changes, Shadow as Part, is_copied, is_none, is_open}
+use Rattle.tx_machine.specs.Content.{IsIn}
 use Rattle.conflict.specs.declared.outcome.Outcome.{Outcome}
 use Rattle.replay_log.specs.declared.base.Base.{Base}
 use Rattle.replay_log.specs.Base.{Shown, OfMap, OfBag, OfPq, OfQueue, editions_of, outcome_of, reads_of, shown_of, stripes_of, writes_of}

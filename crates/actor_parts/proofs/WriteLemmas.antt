@@ -4,7 +4,7 @@ use Rattle.std.proofs.Common.{lt-ltb, refl, sym, subst, arith, ◌∙◌}
 use Rattle.std.specs.Prelude.{nat_lt}
 use Rattle.tx_sets.specs.Entries.{Entries, IsRising, locations, lookup, with_entry}
 use Rattle.tx_sets.proofs.EntryLemmas.{length-with_entry_new, length-with_entry_there}
-use Rattle.collection_machine.specs.Boosted.{is_none}
+use Rattle.tx_machine.specs.Boosted.{is_none}
 use Rattle.replay_log.specs.Worlds.{new_in}
 use Rattle.replay_log.proofs.CountLemmas.{locations-cons, new_fewer}
 use Rattle.std.proofs.Math.Seq.{drop-cons}

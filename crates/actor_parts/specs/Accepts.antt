@@ -1,10 +1,10 @@
 -- What a call on a collection makes of its actor in a world: what is copied for it, and once it is accepted the writes of the editions and
 -- one outcome more in its shadow.
 use Rattle.std.specs.Prelude.{◌≡◌, ℕ, ◌+◌, List, [], ◌∷◌, true}
-use Rattle.word_machine.specs.Actor.{Actor}
-use Rattle.word_machine.specs.Requests as word
-use Rattle.word_machine.specs.Requests.{ask}
-use Rattle.collection_machine.specs.Boosted.{Accept, PutGate, copied, is_open, longer}
+use Rattle.tx_machine.specs.Actor.{Actor}
+use Rattle.tx_machine.specs.Requests as word
+use Rattle.tx_machine.specs.Requests.{ask}
+use Rattle.tx_machine.specs.Boosted.{Accept, PutGate, copied, is_open, longer}
 use Rattle.replay_log.specs.Contents.{Asked, content}
 use Rattle.replay_log.specs.Guards.{Allows}
 use Rattle.replay_log.specs.Pieces.{covers_at}

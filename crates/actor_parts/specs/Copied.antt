@@ -1,11 +1,11 @@
 -- What is copied for a call while its gate is held, and what its transaction has of the collection then.
 use Rattle.std.specs.Prelude.{◌≡◌, ◌⊎◌, ℕ, ◌+◌, ◌<◌, true, false, List, [], ◌∷◌, Option, Some, None, Contains}
 use Rattle.tx_sets.specs.Entries.{lookup}
-use Rattle.word_machine.specs.Actor.{Call, Open as AtRest}
-use Rattle.word_machine.specs.Opacity.{first_read}
+use Rattle.tx_machine.specs.Actor.{Call, Open as AtRest}
+use Rattle.tx_machine.specs.Opacity.{first_read}
 use Rattle.seq_model.specs.declared.call.Op.{Op}
 use Rattle.conflict.specs.declared.outcome.Outcome.{Outcome}
-use Rattle.collection_machine.specs.Boosted.{Accept, Shadow as Part}
+use Rattle.tx_machine.specs.Boosted.{Accept, Shadow as Part}
 use Rattle.replay_log.specs.declared.base.Base.{Base}
 use Rattle.replay_log.specs.Base.{Shown, editions_of, shown_of}
 use Rattle.replay_log.specs.Contents.{Answered, Asked, Block, HaveStripes, block_of, content, first_of, shifted, size}
@@ -31,7 +31,7 @@ use Rattle.actor_parts.specs.Shows.{put_back}
 use Rattle.seq_model.specs.declared.event.Event.{Event}
 use Rattle.seq_model.specs.declared.held.Held.{Held}
 use Rattle.actor_laws.specs.Bases.{IsBaseOf, ShowsBase}
-use Rattle.word_machine.specs.Notices as notice
+use Rattle.tx_machine.specs.Notices as notice
 use Rattle.replay_log.specs.Collections.{Suit}
 use Rattle.replay_log.specs.Worlds.{Beginning, Copying, World, acted, actor_of, has_room, is_known, may_ask, moves, opened, outcome_at, run}
 use Rattle.replay_log.specs.Worlds.{sized_by}

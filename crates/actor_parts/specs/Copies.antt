@@ -13,7 +13,7 @@ use Rattle.replay_log.specs.Pieces as pieces
 use Rattle.replay_log.specs.Pieces.{Piece, is_piece}
 use Rattle.replay_log.specs.Touches.{editions_at, summed_by, touched_places}
 use Rattle.replay_log.specs.Contents.{Answered, Block, size}
-use Rattle.collection_machine.specs.Boosted.{Shadow as Part}
+use Rattle.tx_machine.specs.Boosted.{Shadow as Part}
 use Rattle.actor_laws.specs.Bases.{log_changes, log_locations}
 use Rattle.shadow.specs.Memo as memo
 use Rattle.shadow.specs.Memo.{MemoView, IsCopyBy, answer_with, copies_kept, copies_without, entries_kept, entries_without, grown_kept}

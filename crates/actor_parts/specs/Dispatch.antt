@@ -1,8 +1,8 @@
 -- What a step makes of a seat at each stage, once its atomic action is done, and which action is next.
 use Rattle.std.specs.Prelude.{◌≡◌, ℕ, Bool, true, false, List, [], ◌∷◌, ◌++◌, Option, Some, None, Result, Ok, Err}
 use Rattle.tx_sets.specs.Entries.{Entries, locations}
-use Rattle.word_machine.specs.Notices as notice
-use Rattle.word_machine.specs.Requests.{AskStore}
+use Rattle.tx_machine.specs.Notices as notice
+use Rattle.tx_machine.specs.Requests.{AskStore}
 use Rattle.seq_model.specs.declared.event.Answer.TheVariants as answer
 use Rattle.seq_model.specs.declared.event.Notice.TheVariants.{Quiet, Answered}
 use Rattle.step_core.specs.declared.answer.WordAnswer.{WordAnswer}
@@ -10,7 +10,7 @@ use Rattle.step_core.specs.declared.answer.WordAnswer.TheVariants as word
 use Rattle.step_core.specs.declared.answer.WordRefusal.{WordRefusal}
 use Rattle.step_core.specs.declared.answer.WordRefusal.TheVariants as stop
 use Rattle.step_core.specs.Answers.{result_of}
-use Rattle.collection_machine.specs.Boosted.{Action, TakeGate, PutGate, GoHome, every, is_given, is_none}
+use Rattle.tx_machine.specs.Boosted.{Action, TakeGate, PutGate, GoHome, every, is_given, is_none}
 use Rattle.replay_log.specs.Contents.{Asked, content}
 use Rattle.replay_log.specs.Guards.{step_action}
 use Rattle.replay_log.specs.Worlds as worlds

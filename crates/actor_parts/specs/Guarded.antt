@@ -1,7 +1,7 @@
 -- The world after what the next step of a commit does, of which it is asked whether the locks may be given back.
 use Rattle.std.specs.Prelude.{ℕ, [], ◌∷◌}
-use Rattle.word_machine.specs.Requests.{AskStore}
-use Rattle.collection_machine.specs.Boosted.{GoHome}
+use Rattle.tx_machine.specs.Requests.{AskStore}
+use Rattle.tx_machine.specs.Boosted.{GoHome}
 use Rattle.replay_log.specs.Worlds.{World, Stage, Ready, Homing, acted, asks, moves}
 
 module _ {V : Type 0} where

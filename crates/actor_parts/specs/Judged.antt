@@ -1,10 +1,10 @@
 -- The locations of a call that are judged by the read set alone.
 use Rattle.std.specs.Prelude.{◌≡◌, ℕ, Option, Some, None, [], ◌∷◌, ◌==◌, if◌then◌else◌}
 use Rattle.tx_sets.specs.Entries.{Entries, lookup}
-use Rattle.word_machine.specs.Requests as word
+use Rattle.tx_machine.specs.Requests as word
 use Rattle.seq_model.specs.declared.refusal.Refusal.TheVariants as refusal
 use Rattle.seq_model.specs.declared.event.Notice.TheVariants.{Quiet}
-use Rattle.collection_machine.specs.Boosted.{Accept}
+use Rattle.tx_machine.specs.Boosted.{Accept}
 use Rattle.replay_log.specs.Contents.{Answered}
 use Rattle.replay_log.specs.Worlds.{World, Seat, After, Loading, at_stage, because, seated, acted, asks, actor_of, gives_up, replied}
 use Rattle.replay_log.specs.Worlds.{call_of, reply_of, loads}

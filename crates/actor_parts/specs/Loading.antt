@@ -2,12 +2,12 @@
 -- may be accepted.
 use Rattle.std.specs.Prelude.{◌≡◌, ◌≢◌, ◌⊎◌, ℕ, List, [], ◌∷◌, None, Some}
 use Rattle.tx_sets.specs.Entries.{Entries, lookup}
-use Rattle.word_machine.specs.Actor.{Call, Open as AtRest}
-use Rattle.word_machine.specs.Notices as notice
-use Rattle.word_machine.specs.Opacity.{first_read}
+use Rattle.tx_machine.specs.Actor.{Call, Open as AtRest}
+use Rattle.tx_machine.specs.Notices as notice
+use Rattle.tx_machine.specs.Opacity.{first_read}
 use Rattle.seq_model.specs.declared.event.Event.{Event}
 use Rattle.seq_model.specs.declared.held.Held.{Held}
-use Rattle.collection_machine.specs.Boosted.{Accept}
+use Rattle.tx_machine.specs.Boosted.{Accept}
 use Rattle.replay_log.specs.Contents.{Answered, Block, HaveStripes, content}
 use Rattle.replay_log.specs.Guards.{Allows}
 use Rattle.replay_log.specs.Worlds.{World, Loading, acted, actor_of, moves, opened, outcome_at, run, word_notice}

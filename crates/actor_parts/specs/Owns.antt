@@ -2,8 +2,8 @@
 -- meets in each world that events have reached.
 use Rattle.std.specs.Prelude.{◌≡◌, ℕ, ◌<◌, true, List, [], ◌∷◌, Option, Some, None}
 use Rattle.tx_sets.specs.Entries.{lookup}
-use Rattle.word_machine.specs.Actor.{Open as AtRest}
-use Rattle.collection_machine.specs.Boosted.{Accept, Shadow as Part}
+use Rattle.tx_machine.specs.Actor.{Open as AtRest}
+use Rattle.tx_machine.specs.Boosted.{Accept, Shadow as Part}
 use Rattle.replay_log.specs.Base.{Shown, shown_of, stripes_of}
 use Rattle.replay_log.specs.Parts.{kind_of}
 use Rattle.replay_log.specs.Contents.{Answered, Asked, Block, block_of, content, first_of}

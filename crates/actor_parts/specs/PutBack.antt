@@ -1,6 +1,6 @@
 -- What a transaction has of the collection of a call once the call's gate is put back, and before the call is made.
 use Rattle.std.specs.Prelude.{◌≡◌, ℕ, false, List, Option, Some}
-use Rattle.word_machine.specs.Opacity.{first_read}
+use Rattle.tx_machine.specs.Opacity.{first_read}
 use Rattle.seq_model.specs.declared.event.Event.{Event}
 use Rattle.seq_model.specs.declared.held.Held.{Held}
 use Rattle.conflict.specs.declared.outcome.Outcome.{Outcome}

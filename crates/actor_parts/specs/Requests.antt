@@ -1,11 +1,11 @@
 -- What a request of a word actor asks of its sets, and what it keeps of the actor.
 use Rattle.std.specs.Prelude.{◌≡◌, ℕ, ◌||◌, ◌≤◌, Bool, true, not, [], ◌∷◌, Option, Some, None}
 use Rattle.tx_sets.specs.Entries.{lookup}
-use Rattle.word_machine.specs.Actor as machine
-use Rattle.word_machine.specs.Notices as notice
+use Rattle.tx_machine.specs.Actor as machine
+use Rattle.tx_machine.specs.Notices as notice
 use Rattle.step_core.specs.Sound.{Fits, due, owed}
 use Rattle.step_core.specs.declared.actor.Actor.{Actor}
-use Rattle.collection_machine.specs.Boosted.{is_none}
+use Rattle.tx_machine.specs.Boosted.{is_none}
 use Rattle.replay_log.specs.Worlds.{fits}
 
 -- a location that is in no set and finds no room in the read set is not read; a declared reader has no sets

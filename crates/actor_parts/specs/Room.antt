@@ -2,7 +2,7 @@
 use Rattle.std.specs.Prelude.{ℕ, ◌+◌, Bool, ◌&&◌, ◌||◌, nat_le, length}
 use Rattle.tx_sets.specs.Entries.{Entries}
 use Rattle.tx_sets.specs.declared.access_set.TheConstants.{LOCATION_LIMIT}
-use Rattle.word_machine.specs.Actor.{Actor}
+use Rattle.tx_machine.specs.Actor.{Actor}
 
 -- the set takes n locations more
 abbrev pub takes_more : Entries → ℕ → Bool

@@ -2,13 +2,13 @@
 -- shows it.
 use Rattle.std.specs.Prelude.{◌≡◌, ℕ, true, None, List, [], ◌∷◌, if◌then◌else◌}
 use Rattle.tx_sets.specs.Entries.{Entries, lookup, locations}
-use Rattle.word_machine.specs.Actor.{Actor, Open as AtRest, Look, Check, First, goes}
-use Rattle.word_machine.specs.Requests as word
-use Rattle.word_machine.specs.Requests.{ask}
+use Rattle.tx_machine.specs.Actor.{Actor, Open as AtRest, Look, Check, First, goes}
+use Rattle.tx_machine.specs.Requests as word
+use Rattle.tx_machine.specs.Requests.{ask}
 use Rattle.seq_model.specs.declared.event.Notice.{Notice}
 use Rattle.seq_model.specs.declared.event.Notice.TheVariants.{Quiet, Refused}
 use Rattle.seq_model.specs.declared.refusal.Refusal.TheVariants as refusal
-use Rattle.collection_machine.specs.Boosted.{PutGate, every, is_held}
+use Rattle.tx_machine.specs.Boosted.{PutGate, every, is_held}
 use Rattle.replay_log.specs.Contents.{Asked, content}
 use Rattle.replay_log.specs.Worlds.{World, Seat, After, Leaving, Cancelling, Loading, is_leaving, at_stage, acted, asks, moves, actor_of}
 use Rattle.replay_log.specs.Worlds.{word_notice, gives_up, recorded, stores, has_stored, has_room, with_editions, with_piece, outcome_at}

@@ -1,6 +1,6 @@
 -- What an event leaves of what a transaction has of collections, and of what it has read of them.
 use Rattle.std.specs.Prelude.{◌≡◌, ◌≢◌, ◌⊎◌, ℕ, ◌≤◌, List, ◌∷◌, [], Option, Some, None}
-use Rattle.word_machine.specs.Opacity.{first_read}
+use Rattle.tx_machine.specs.Opacity.{first_read}
 use Rattle.seq_model.specs.declared.call.Op.{Op}
 use Rattle.seq_model.specs.declared.call.Op.TheVariants.{Read, Write}
 use Rattle.seq_model.specs.declared.event.Answer.TheVariants.{Replied}
@@ -11,7 +11,7 @@ use Rattle.seq_model.specs.declared.event.Notice.TheVariants as notice
 use Rattle.seq_model.specs.declared.event.Request.{Request}
 use Rattle.seq_model.specs.declared.event.Request.TheVariants as request
 use Rattle.seq_model.specs.declared.held.Held.{Held}
-use Rattle.collection_machine.specs.Boosted.{longer}
+use Rattle.tx_machine.specs.Boosted.{longer}
 use Rattle.replay_log.specs.Contents.{Answered, Asked, Block, HaveStripes}
 use Rattle.replay_log.specs.Worlds.{After, Beginning, Copying, Loading, Stage, World, acted, actor_of, happens, moves, opened, outcome_at}
 use Rattle.replay_log.specs.Worlds.{reply_of, run}

@@ -2,7 +2,7 @@
 use Rattle.std.specs.Prelude.{◌≡◌, ℕ, Bool, true}
 use Rattle.tx_sets.specs.Entries.{Entries}
 use Rattle.conflict.specs.declared.outcome.Outcome.{Outcome}
-use Rattle.word_machine.specs.Actor.{Actor}
+use Rattle.tx_machine.specs.Actor.{Actor}
 use Rattle.replay_log.specs.Contents.{shifted}
 use Rattle.replay_log.specs.Worlds as worlds
 use Rattle.actor_parts.specs.declared.copies.Copied.{Copied}

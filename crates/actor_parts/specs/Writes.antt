@@ -3,10 +3,10 @@ use Rattle.std.specs.Prelude.{◌≡◌, ℕ, ◌+◌, ◌<◌, ◌≤◌, Bool,
 use Rattle.std.specs.Vec.{vec_capacity, vec_len}
 use Rattle.tx_sets.specs.Entries.{Entries, lookup, locations}
 use Rattle.tx_sets.specs.declared.access_set.TheConstants.{LOCATION_LIMIT}
-use Rattle.word_machine.specs.Actor as machine
-use Rattle.word_machine.specs.Requests as word
-use Rattle.word_machine.specs.Requests.{ask}
-use Rattle.collection_machine.specs.Boosted.{is_none}
+use Rattle.tx_machine.specs.Actor as machine
+use Rattle.tx_machine.specs.Requests as word
+use Rattle.tx_machine.specs.Requests.{ask}
+use Rattle.tx_machine.specs.Boosted.{is_none}
 use Rattle.replay_log.specs.Worlds.{new_in}
 use Rattle.step_core.specs.declared.actor.Actor.{Actor}
 use Rattle.step_core.specs.declared.actor.Place.TheVariants as place

@@ -1,6 +1,6 @@
 //! The end of a transaction that is aborted and holds no gate.
 ghost use Rattle.std.specs.Prelude.{◌≡◌};
-ghost use Rattle.word_machine.specs.Requests.{ask, AskCancel, AskAbort, AskRelease};
+ghost use Rattle.tx_machine.specs.Requests.{ask, AskCancel, AskAbort, AskRelease};
 ghost use Rattle.step_core.specs.Shown.{actor_of};
 ghost use Rattle.step_core.specs.Sound.{Keeps};
 ghost use Rattle.actor_parts.specs.Shows.{cancelled};

@@ -2,9 +2,9 @@
 //! need first: where it is refused, the word actor is as it was.
 ghost use Rattle.std.specs.Prelude.{◌≡◌, ℕ, [], ◌∷◌, IfOk, IfSome, IsSome, OnErr, OnOk, ◌↔◌, true, false, ◌<◌, ◌≤◌};
 ghost use Rattle.std.specs.Vec.{vec_capacity, vec_len};
-ghost use Rattle.word_machine.specs.Notices.{read_reply, reply};
+ghost use Rattle.tx_machine.specs.Notices.{read_reply, reply};
 ghost use Rattle.tx_sets.specs.Entries.{lookup};
-ghost use Rattle.word_machine.specs.Requests.{ask, AskClose, AskLock, AskRead, AskStore, AskWrite};
+ghost use Rattle.tx_machine.specs.Requests.{ask, AskClose, AskLock, AskRead, AskStore, AskWrite};
 ghost use Rattle.replay_log.specs.Worlds.{fits};
 ghost use Rattle.step_core.specs.Shown.{actor_of};
 ghost use Rattle.step_core.specs.Sound.{Fits};

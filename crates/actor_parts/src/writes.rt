@@ -2,7 +2,7 @@
 ghost use Rattle.std.specs.Prelude.{◌≡◌, ◌+◌, ◌<◌, ◌≤◌, ◌^◌, ◌∷◌, [], All, OnOk, length, true, false};
 ghost use Rattle.std.specs.Vec.{vec_capacity, vec_len};
 ghost use Rattle.tx_sets.specs.Entries.{IsRising, with_entry};
-ghost use Rattle.word_machine.specs.Requests.{ask, AskWrite};
+ghost use Rattle.tx_machine.specs.Requests.{ask, AskWrite};
 ghost use Rattle.step_core.specs.Shown.{actor_of};
 ghost use Rattle.step_core.specs.declared.actor.Place.TheVariants as place;
 ghost use Rattle.actor_parts.specs.Footprints.{places_in};

@@ -6,7 +6,7 @@
 use Rattle.std.proofs.Common.{◌≡◌, ℕ, zero, suc, arith, ◌<◌, Bool, true, false, List, [], ◌∷◌, Option, Some, None, refl, sym, ap, ◌∙◌}
 use Rattle.std.proofs.Common.{subst}
 use Rattle.std.specs.Prelude.{length}
-use Rattle.word_machine.specs.Actor as machine
+use Rattle.tx_machine.specs.Actor as machine
 use Rattle.seq_model.specs.Contents.{Contents}
 use Rattle.seq_model.specs.declared.event.Event.TheVariants.{Starve, Step}
 use Rattle.seq_model.specs.declared.event.Notice.TheVariants.{Quiet}
@@ -48,7 +48,7 @@ use Rattle.actor_turns.specs.Reached.{IsReached}
 use Rattle.actor_turns.proofs.OwnLemmas.{BlocksLaw, rests_at}
 use Rattle.actor_turns.proofs.SeatLemmas.{seated_by, stage_by}
 use Rattle.actor_turns.proofs.StepLemmas.{no_reads_at}
-use Rattle.collection_machine.specs.Boosted.{Action, PutGate}
+use Rattle.tx_machine.specs.Boosted.{Action, PutGate}
 
 pub block_here : (bs : List Block) (k : ℕ) → k < length bs → (b : Block) × (block_of bs k ≡ Some b)
 block_here [] k low = let z : ⊥ = omega (arith, low) in absurd z

@@ -7,12 +7,12 @@ use Rattle.std.proofs.Common.{eq-eqb}
 use Rattle.std.proofs.lemmas.Bool.{cond_both, cond-true}
 use Rattle.std.specs.Prelude.{◌==◌, if◌then◌else◌}
 use Rattle.tx_sets.specs.Entries.{Entries, lookup}
-use Rattle.word_machine.proofs.Sets.{put-same}
-use Rattle.word_machine.specs.Notices as told
-use Rattle.word_machine.specs.Requests as word
+use Rattle.tx_machine.proofs.Sets.{put-same}
+use Rattle.tx_machine.specs.Notices as told
+use Rattle.tx_machine.specs.Requests as word
 use Rattle.seq_model.specs.declared.refusal.Refusal.TheVariants as refusal
-use Rattle.collection_machine.specs.Content.{has}
-use Rattle.collection_machine.specs.Boosted.{Accept, GoHome, PutGate, TakeGate, is_none}
+use Rattle.tx_machine.specs.Content.{has}
+use Rattle.tx_machine.specs.Boosted.{Accept, GoHome, PutGate, TakeGate, is_none}
 use Rattle.seq_model.specs.declared.event.Event.TheVariants.{Starve, Step}
 use Rattle.seq_model.specs.declared.event.Notice.TheVariants.{Refused}
 use Rattle.replay_log.specs.Pieces.{covers_at, piece_at}
@@ -35,7 +35,7 @@ use Rattle.tx_actor.specs.declared.actor.TxActor.{TxActor}
 use Rattle.actor_turns.proofs.CopyLemmas.{copy_is}
 use Rattle.actor_turns.proofs.LoadLemmas.{load_is}
 use Rattle.actor_turns.proofs.StepLemmas.{first_is}
-use Rattle.word_machine.specs.Cells.{Cell}
+use Rattle.tx_machine.specs.Cells.{Cell}
 use Rattle.actor_laws.specs.Spots.{Gate, spot_of}
 
 -- a location of the words is no gate

@@ -15,7 +15,7 @@ use Rattle.seq_model.specs.declared.event.Event.{Event}
 use Rattle.seq_model.specs.declared.event.Event.TheVariants.{Step}
 use Rattle.seq_model.specs.declared.held.Held.{Held}
 use Rattle.seq_model.specs.Contents.{Contents}
-use Rattle.collection_machine.specs.Boosted.{Boosted, Action, GoHome, homed}
+use Rattle.tx_machine.specs.Boosted.{Boosted, Action, GoHome, homed}
 use Rattle.replay_log.specs.declared.base.Base.{Base}
 use Rattle.replay_log.specs.Base.{Shown, editions_of, locations_of, shown_of, stripes_of}
 use Rattle.replay_log.specs.Collections.{Suit}

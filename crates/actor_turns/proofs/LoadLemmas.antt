@@ -3,7 +3,7 @@
 -- copy, or is never accepted.
 use Rattle.std.proofs.Common.{◌≡◌, ℕ, true, true≢false, List, [], ◌∷◌, Option, Result, sym, ap, ◌∙◌, subst, refl}
 use Rattle.tx_sets.specs.Entries.{Entries}
-use Rattle.word_machine.specs.Notices as notice
+use Rattle.tx_machine.specs.Notices as notice
 use Rattle.seq_model.specs.declared.event.Event.TheVariants.{Step}
 use Rattle.seq_model.specs.Contents.{Contents}
 use Rattle.replay_log.specs.Worlds.{World, actor_of, Seat, Stage, After, Loading, acted, happens, moves, step_at, word_notice}

@@ -3,7 +3,7 @@
 use Rattle.std.proofs.Common.{◌≡◌, ℕ, false, true≢false, List, refl, sym, ap, ◌∙◌, subst}
 use Rattle.std.specs.Prelude.{not, filter, if◌then◌else◌}
 use Rattle.tx_sets.specs.Entries.{locations}
-use Rattle.word_machine.specs.Actor.{Actor}
+use Rattle.tx_machine.specs.Actor.{Actor}
 use Rattle.seq_model.specs.declared.event.Request.{Request}
 use Rattle.seq_model.specs.declared.record.Record.{Record}
 use Rattle.seq_model.specs.Contents.{Contents}

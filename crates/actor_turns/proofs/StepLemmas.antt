@@ -12,12 +12,12 @@ use Rattle.std.proofs.lemmas.Bool.{cond_both}
 use Rattle.vlock_word.specs.declared.lock_word.LockWord.{LockWord}
 use Rattle.vlock_word.specs.declared.lock_word.LockWord.TheVariants.{Free, Locked}
 use Rattle.tx_sets.specs.Entries.{Entries, locations, lookup}
-use Rattle.word_machine.specs.Actor as machine
-use Rattle.word_machine.specs.Actor.{Actor, Place, goes, seen_to_lock, seen_in_check, stamped_at, taken}
-use Rattle.word_machine.specs.World as machine_world
-use Rattle.word_machine.specs.World.{now, exchanged, put}
-use Rattle.word_machine.proofs.Declared.{has_no_sets}
-use Rattle.word_machine.proofs.Sets.{put-same}
+use Rattle.tx_machine.specs.Actor as machine
+use Rattle.tx_machine.specs.Actor.{Actor, Place, goes, seen_to_lock, seen_in_check, stamped_at, taken}
+use Rattle.tx_machine.specs.World as machine_world
+use Rattle.tx_machine.specs.World.{now, exchanged, put}
+use Rattle.tx_machine.proofs.Declared.{has_no_sets}
+use Rattle.tx_machine.proofs.Sets.{put-same}
 use Rattle.seq_model.specs.declared.call.Call.{Call}
 use Rattle.seq_model.specs.declared.call.Reply.{Reply}
 use Rattle.seq_model.specs.declared.event.Event.{Event}
@@ -26,8 +26,8 @@ use Rattle.seq_model.specs.declared.event.Notice.TheVariants.{Refused}
 use Rattle.seq_model.specs.declared.refusal.Refusal.TheVariants.{NoTransaction}
 use Rattle.seq_model.specs.declared.held.Held.{Held}
 use Rattle.seq_model.specs.Contents.{Contents}
-use Rattle.collection_machine.specs.Boosted.{Boosted, Action, TakeGate, PutGate, gated, is_none, shadows_copied}
-use Rattle.collection_machine.specs.Boosted.{word_step}
+use Rattle.tx_machine.specs.Boosted.{Boosted, Action, TakeGate, PutGate, gated, is_none, shadows_copied}
+use Rattle.tx_machine.specs.Boosted.{word_step}
 use Rattle.replay_log.specs.Base.{Shown}
 use Rattle.replay_log.specs.Contents.{Answered, Asked, Block, HaveStripes, content, end_of, home_of, is_plain}
 use Rattle.replay_log.specs.Guards.{IsAllowed, step_action}

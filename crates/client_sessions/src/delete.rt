@@ -299,9 +299,6 @@ impl<'a> Walk<'a> {
         self.forget_all(who.waits())?;
         self.remove_customer(customer)?;
         let served = self.serve_all(who)?;
-        Ok(ActionReply::Deleted {
-            bill: who.bill(),
-            served,
-        })
+        Ok(ActionReply::Deleted(who.bill(), served))
     }
 }

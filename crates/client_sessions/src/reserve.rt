@@ -43,7 +43,7 @@ struct Draft<'a> {
 fn is_change(part: Part) -> bool
     ensures { result ≡ programs.is_change part }
 {
-    matches!(part, Part::Booked { .. } | Part::Waits { .. })
+    matches!(part, Part::Booked(..) | Part::Waits(..))
 }
 
 /// Whether the part adds a booking of the item or a wait for it.
@@ -51,8 +51,8 @@ fn adds(part: Part, id: u64) -> bool
     ensures { result ≡ adds id part }
 {
     match part {
-        Part::Booked { id: booked, .. } => booked == id,
-        Part::Waits { id: awaited, .. } => awaited == id,
+        Part::Booked(booked, ..) => booked == id,
+        Part::Waits(awaited, _) => awaited == id,
         _ => false,
     }
 }
@@ -71,13 +71,13 @@ fn add_part(who: &mut SplitCustomer, units: u64, kind: Kind, part: Part) -> Resu
     ensures { OnOk result (who.new ≡ with_part units kind part who.old) }
 {
     match part {
-        Part::Booked { id, price, .. } => who.book(Booking {
+        Part::Booked(id, _, price) => who.book(Booking {
             kind,
             id,
             units,
             price,
         }),
-        Part::Waits { id, ticket } => who.wait(Wait {
+        Part::Waits(id, ticket) => who.wait(Wait {
             kind,
             id,
             units,
@@ -332,7 +332,7 @@ impl<'a> Walk<'a> {
     {
         let ticket = self.read_next()?;
         if ticket == TICKET_LIMIT {
-            return Ok(Part::NoFree { id });
+            return Ok(Part::NoFree(id));
         }
         let wait = Ticket {
             customer: draft.number,
@@ -343,7 +343,7 @@ impl<'a> Walk<'a> {
         self.write_next(ticket + 1)?;
         self.put_ticket(ticket, wait)?;
         self.enqueue(kind, ticket)?;
-        Ok(Part::Waits { id, ticket })
+        Ok(Part::Waits(id, ticket))
     }
 
     /// What becomes of the candidate of a kind.
@@ -364,21 +364,17 @@ impl<'a> Walk<'a> {
         };
         let id = *id;
         if draft.has(kind, id) {
-            return Ok(Part::Already { id });
+            return Ok(Part::Already(id));
         }
         if draft.is_full() {
-            return Ok(Part::Full { id });
+            return Ok(Part::Full(id));
         }
         let units = draft.units;
         if units > item.free {
             return self.line_up(draft, kind, id);
         }
         if self.passes() {
-            return Ok(Part::Booked {
-                id,
-                units,
-                price: item.price,
-            });
+            return Ok(Part::Booked(id, units, item.price));
         }
         Err(asks_units(kind, id, units, item))
     }
@@ -420,13 +416,11 @@ impl<'a> Walk<'a> {
         draft.flight = self.decide(&draft, Kind::Flight, &best.flight)?;
         draft.room = self.decide(&draft, Kind::Room, &best.room)?;
         self.put_changed(&draft)?;
-        Ok(ActionReply::Reserved {
-            parts: Each {
-                car: draft.car,
-                flight: draft.flight,
-                room: draft.room,
-            },
-        })
+        Ok(ActionReply::Reserved(Each {
+            car: draft.car,
+            flight: draft.flight,
+            room: draft.room,
+        }))
     }
 
     pub(crate) fn reserve(
@@ -444,13 +438,11 @@ impl<'a> Walk<'a> {
         };
         self.gather(asks, &mut best)?;
         if no_candidate(&best) {
-            return Ok(ActionReply::Reserved {
-                parts: Each {
-                    car: Part::Nothing,
-                    flight: Part::Nothing,
-                    room: Part::Nothing,
-                },
-            });
+            return Ok(ActionReply::Reserved(Each {
+                car: Part::Nothing,
+                flight: Part::Nothing,
+                room: Part::Nothing,
+            }));
         }
         let found = self.get_customer(customer)?;
         self.decide_all(customer, units, &best, found)

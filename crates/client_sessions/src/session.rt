@@ -39,28 +39,18 @@ fn copy_of(alloc: Global, action: &Action) -> Result<Action, Memory>
     ensures { IfOk result (λ copy. copy ≡ action.now) }
 {
     Ok(match action {
-        Action::Reserve {
-            customer,
-            units,
-            asks,
-        } => Action::Reserve {
-            customer: *customer,
-            units: *units,
-            asks: Items::from_vec(Vec::from_slice(alloc, asks.as_slice())?),
-        },
-        Action::Delete { customer } => Action::Delete {
-            customer: *customer,
-        },
-        Action::Update { changes } => Action::Update {
-            changes: Items::from_vec(Vec::from_slice(alloc, changes.as_slice())?),
-        },
-        Action::QueryItem { kind, id } => Action::QueryItem {
-            kind: *kind,
-            id: *id,
-        },
-        Action::QueryBill { customer } => Action::QueryBill {
-            customer: *customer,
-        },
+        Action::Reserve(customer, units, asks) => Action::Reserve(
+            *customer,
+            *units,
+            Items::from_vec(Vec::from_slice(alloc, asks.as_slice())?),
+        ),
+        Action::Delete(customer) => Action::Delete(*customer),
+        Action::Update(changes) => Action::Update(Items::from_vec(Vec::from_slice(
+            alloc,
+            changes.as_slice(),
+        )?)),
+        Action::QueryItem(kind, id) => Action::QueryItem(*kind, *id),
+        Action::QueryBill(customer) => Action::QueryBill(*customer),
     })
 }
 
@@ -69,7 +59,7 @@ impl<'a> Walk<'a> {
         ensures { Comes (after (programs.query_item kind id) self.old) result (λ reply. Answers reply) }
     {
         match self.get_item(kind, id)? {
-            Some(item) => Ok(ActionReply::Found { item }),
+            Some(item) => Ok(ActionReply::Found(item)),
             None => Ok(ActionReply::Absent),
         }
     }
@@ -78,7 +68,7 @@ impl<'a> Walk<'a> {
         ensures { Comes (after (programs.query_bill customer) self.old) result (λ reply. Answers reply) }
     {
         match self.get_customer(customer)? {
-            Some(who) => Ok(ActionReply::Bill { sum: who.bill() }),
+            Some(who) => Ok(ActionReply::Bill(who.bill())),
             None => Ok(ActionReply::Absent),
         }
     }
@@ -105,18 +95,18 @@ impl Session {
     {
         let mut walk = Walk::new(self.alloc, left);
         match &self.action {
-            Action::Reserve {
-                customer,
-                units,
-                asks,
-            } => walk.reserve(*customer, *units, asks.as_slice()),
-            Action::Delete { customer } => walk.delete(*customer),
-            Action::Update { changes } => {
+            Action::Reserve(customer, units, asks) => walk.reserve(
+                *customer,
+                *units,
+                asks.as_slice(),
+            ),
+            Action::Delete(customer) => walk.delete(*customer),
+            Action::Update(changes) => {
                 let changes = walk.update(changes.as_slice())?;
-                Ok(ActionReply::Updated { changes })
+                Ok(ActionReply::Updated(changes))
             }
-            Action::QueryItem { kind, id } => walk.query_item(*kind, *id),
-            Action::QueryBill { customer } => walk.query_bill(*customer),
+            Action::QueryItem(kind, id) => walk.query_item(*kind, *id),
+            Action::QueryBill(customer) => walk.query_bill(*customer),
         }
     }
 
@@ -138,7 +128,7 @@ impl Session {
         ensures { IfSome result (λ due. asked (after (programs.session self.now) replies.now) ≡ ask.Call (get_due due)) }
     {
         match &self.action {
-            Action::Reserve { asks, .. } => due_of(asks.as_slice(), replies),
+            Action::Reserve(_, _, asks) => due_of(asks.as_slice(), replies),
             _ => None,
         }
     }

@@ -12,8 +12,8 @@ use Rattle.seq_model.specs.declared.call.Reply.{Reply}
 use Rattle.seq_model.specs.declared.event.Request.{Request}
 use Rattle.seq_model.specs.declared.event.Request.TheVariants as request
 use Rattle.seq_model.specs.declared.limits.TheConstants.{CALL_LIMIT}
-use Rattle.collection_machine.specs.Boosted.{is_actor}
-use Rattle.collection_machine.specs.Content.{has}
+use Rattle.tx_machine.specs.Boosted.{is_actor}
+use Rattle.tx_machine.specs.Content.{has}
 use Rattle.replay_log.specs.declared.base.Base.{Base}
 use Rattle.replay_log.specs.Seats as worlds
 use Rattle.replay_log.specs.Seats.{Seat, World}

@@ -6,7 +6,7 @@ use Rattle.std.proofs.Common.{◌≡◌, ℕ, ◌-◌, Bool, true, false, List, 
 use Rattle.std.proofs.Common.{◌<◌, arith, eq-eqb, length}
 use Rattle.std.specs.Prelude.{◌==◌, remove, slice_index, slice_index_or}
 use Rattle.std.proofs.lemmas.Bool.{cond_both, cond-true}
-use Rattle.collection_machine.specs.Content.{has}
+use Rattle.tx_machine.specs.Content.{has}
 use Rattle.replay_log.specs.declared.base.Base.{Base}
 use Rattle.replay_log.specs.Base.{Shown, editions_of, shown_of, stripes_of}
 use Rattle.replay_log.specs.Parts.{part}
@@ -15,8 +15,8 @@ use Rattle.replay_log.specs.Seats.{World, Seat, Stage, Copying, Gating, Ready, S
 use Rattle.replay_log.specs.Worlds.{happens}
 use Rattle.replay_log.proofs.SeatLemmas.{Copy, Differ, Differ-front, StageOk, gates_of}
 use Rattle.seq_model.specs.declared.event.Event.TheVariants.{Step}
-use Rattle.word_machine.specs.Actor.{Actor, Place}
-use Rattle.collection_machine.specs.Boosted.{is_actor, is_committing}
+use Rattle.tx_machine.specs.Actor.{Actor, Place}
+use Rattle.tx_machine.specs.Boosted.{is_actor, is_committing}
 use Rattle.actor_laws.specs.Bases.{ShowsBase}
 use Rattle.actor_laws.specs.Gates.{Tries, Puts}
 use Rattle.actor_laws.specs.Own.{Alike}

@@ -1,9 +1,9 @@
 -- The load of the clock by which a transaction begins, in straight code.
 use Rattle.std.proofs.Common.{◌≡◌, ℕ, ◌≤◌, List, Option, None, Result, refl, sym, ap, ◌∙◌, subst}
-use Rattle.word_machine.specs.Actor as machine
-use Rattle.word_machine.specs.Actor.{begun}
-use Rattle.word_machine.specs.Cells.{ClockCell}
-use Rattle.word_machine.specs.Notices.{begin_notice}
+use Rattle.tx_machine.specs.Actor as machine
+use Rattle.tx_machine.specs.Actor.{begun}
+use Rattle.tx_machine.specs.Cells.{ClockCell}
+use Rattle.tx_machine.specs.Notices.{begin_notice}
 use Rattle.replay_log.specs.declared.base.Base.{Base}
 use Rattle.replay_log.specs.WorldProgress.{AreSmall}
 use Rattle.step_core.specs.Answers.{result_of}

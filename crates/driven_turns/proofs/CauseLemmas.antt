@@ -4,9 +4,9 @@
 -- word of a read is loaded nothing is copied, and no gate is tried; what is copied, and tried, is a collection's.
 use Rattle.std.proofs.Common.{◌≡◌, ℕ, false, true≢false, List, [], ◌∷◌, sym, ap, subst}
 use Rattle.vlock_word.specs.declared.lock_word.LockWord.{LockWord}
-use Rattle.word_machine.specs.Actor as machine
-use Rattle.word_machine.specs.Actor.{Actor, Place}
-use Rattle.word_machine.specs.Refusals.{StopsRead, StopsLock, StopsCheck}
+use Rattle.tx_machine.specs.Actor as machine
+use Rattle.tx_machine.specs.Actor.{Actor, Place}
+use Rattle.tx_machine.specs.Refusals.{StopsRead, StopsLock, StopsCheck}
 use Rattle.seq_model.specs.declared.call.Call.{Call}
 use Rattle.seq_model.specs.declared.call.Op.{Op}
 use Rattle.seq_model.specs.declared.call.Op.TheVariants.{Read, Write}

@@ -5,17 +5,17 @@
 -- what an open transaction is asked (`PassLemmas` of `actor_laws`).
 use Rattle.std.proofs.Common.{◌≡◌, ℕ, Bool, true, false, cond, [], ◌∷◌, Option, refl, sym, ap, ◌∙◌, subst}
 use Rattle.std.specs.Prelude.{nat_lt}
-use Rattle.word_machine.specs.Actor as machine
-use Rattle.word_machine.specs.Actor.{Actor, Place, begun, clock_limit, goes, opened}
-use Rattle.word_machine.specs.Notices as notice
-use Rattle.word_machine.specs.Requests as word
-use Rattle.word_machine.specs.World as world
-use Rattle.word_machine.specs.World.{World as Words}
-use Rattle.word_machine.proofs.Declared.{stays_declared}
-use Rattle.word_machine.proofs.Sets.{put-same}
+use Rattle.tx_machine.specs.Actor as machine
+use Rattle.tx_machine.specs.Actor.{Actor, Place, begun, clock_limit, goes, opened}
+use Rattle.tx_machine.specs.Notices as notice
+use Rattle.tx_machine.specs.Requests as word
+use Rattle.tx_machine.specs.World as world
+use Rattle.tx_machine.specs.World.{World as Words}
+use Rattle.tx_machine.proofs.Declared.{stays_declared}
+use Rattle.tx_machine.proofs.Sets.{put-same}
 use Rattle.seq_model.specs.declared.event.Event.TheVariants.{Ask, Starve}
 use Rattle.seq_model.specs.declared.event.Request.{Request}
-use Rattle.collection_machine.specs.Boosted.{word_step}
+use Rattle.tx_machine.specs.Boosted.{word_step}
 use Rattle.replay_log.specs.declared.base.Base.{Base}
 use Rattle.replay_log.specs.Worlds.{World, Seat, Stage, Beginning, Open, acted, actor_of, ask_at, happens, has_begun, moves, step_at, word_notice}
 use Rattle.actor_laws.proofs.PassLemmas.{IsPlainAsk, ask_open_keeps, starve_keeps, step_keeps}

@@ -3,13 +3,13 @@
 -- Only the last step of a transaction that is aborted adds one, and answers why; there is none after it. It is answered nowhere else: a
 -- request under way that ends so was being aborted (`steps_move`), and every other step of that answers nothing.
 use Rattle.std.proofs.Common.{◌≡◌, ℕ, Bool, true, false, List, [], ◌∷◌, ◌++◌, Option, Some, None, inl, inr, refl, sym, ap, ◌∙◌, subst, true≢false, append-nil}
-use Rattle.word_machine.specs.Notices as told
-use Rattle.word_machine.proofs.Sets.{put-same}
+use Rattle.tx_machine.specs.Notices as told
+use Rattle.tx_machine.proofs.Sets.{put-same}
 use Rattle.seq_model.specs.declared.event.Answer.TheVariants as answer
 use Rattle.seq_model.specs.declared.event.Event.TheVariants.{Step}
 use Rattle.seq_model.specs.declared.event.Notice.TheVariants.{Answered, Quiet}
 use Rattle.seq_model.specs.declared.refusal.Refusal.{Refusal}
-use Rattle.collection_machine.specs.Boosted.{PutGate}
+use Rattle.tx_machine.specs.Boosted.{PutGate}
 use Rattle.replay_log.specs.Seats.{Ended, Seat, Stage, World}
 use Rattle.replay_log.specs.WorldRefusals.{is_ending}
 use Rattle.replay_log.specs.WorldTraces.{ended_by}

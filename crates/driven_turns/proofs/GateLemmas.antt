@@ -8,10 +8,10 @@ use Rattle.std.proofs.Common.{sym, ap, ◌∙◌, subst, arith}
 use Rattle.std.specs.Prelude.{if◌then◌else◌, slice_index_or}
 use Rattle.std.proofs.lemmas.Bool.{cases_eq}
 use Rattle.atomic_table.specs.Table.{rest}
-use Rattle.word_machine.specs.Cells.{ClockCell}
+use Rattle.tx_machine.specs.Cells.{ClockCell}
 use Rattle.seq_model.specs.declared.event.Event.TheVariants.{Step}
-use Rattle.collection_machine.specs.Boosted.{is_actor, is_committing, is_none}
-use Rattle.collection_machine.specs.Content.{has}
+use Rattle.tx_machine.specs.Boosted.{is_actor, is_committing, is_none}
+use Rattle.tx_machine.specs.Content.{has}
 use Rattle.replay_log.specs.declared.base.Base.{Base}
 use Rattle.replay_log.specs.Contents.{Asked}
 use Rattle.replay_log.specs.Seats.{World, Copying, actor_of}

@@ -14,7 +14,7 @@ use Rattle.std.proofs.lemmas.List.Elements.{All-contains, Contains-append_right}
 use Rattle.atomic_table.specs.Table.{rest}
 use Rattle.conflict.specs.declared.change.Change.{Change}
 use Rattle.seq_model.specs.declared.event.Event.TheVariants.{Step}
-use Rattle.collection_machine.specs.Content.{has}
+use Rattle.tx_machine.specs.Content.{has}
 use Rattle.replay_log.specs.declared.base.Base.{Base}
 use Rattle.replay_log.specs.Base.{IsPreparedFor, after, editions_of, locations_of, shown_of, stripes_of}
 use Rattle.replay_log.specs.Log.{AreRaised}

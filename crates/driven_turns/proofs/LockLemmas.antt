@@ -6,11 +6,11 @@ use Rattle.std.specs.declared.collections.VecDeque.{VecDeque}
 use Rattle.tx_sets.specs.Entries.{locations}
 use Rattle.vlock_word.specs.LockWord.{unbits}
 use Rattle.vlock_word.specs.declared.lock_word.LockWord.TheVariants.{Free}
-use Rattle.word_machine.specs.Actor as machine
-use Rattle.word_machine.specs.Actor.{goes, seen_to_lock, stamped_at, taken, to_check}
-use Rattle.word_machine.specs.Cells.{LockCell}
-use Rattle.word_machine.specs.Notices as notice
-use Rattle.word_machine.specs.Notices.{lock_notice, when_none_left}
+use Rattle.tx_machine.specs.Actor as machine
+use Rattle.tx_machine.specs.Actor.{goes, seen_to_lock, stamped_at, taken, to_check}
+use Rattle.tx_machine.specs.Cells.{LockCell}
+use Rattle.tx_machine.specs.Notices as notice
+use Rattle.tx_machine.specs.Notices.{lock_notice, when_none_left}
 use Rattle.replay_log.specs.declared.base.Base.{Base}
 use Rattle.replay_log.specs.Seats.{World}
 use Rattle.replay_log.specs.WorldProgress.{AreSmall}

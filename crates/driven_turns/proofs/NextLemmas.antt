@@ -3,8 +3,8 @@
 -- Where a request is under way its actor is not idle, and the world with it alone has no stage with nothing left to try, to load, to take
 -- home or to put back: so some step is next. One that takes memory is next for a call, or for a commit without a record.
 use Rattle.std.proofs.Common.{◌≡◌, ℕ, true, false, true≢false, List, [], ◌∷◌, Option, inl, inr, refl, sym, ◌∙◌}
-use Rattle.word_machine.specs.Actor as machine
-use Rattle.word_machine.specs.Actor.{Place}
+use Rattle.tx_machine.specs.Actor as machine
+use Rattle.tx_machine.specs.Actor.{Place}
 use Rattle.seq_model.specs.declared.call.Call.{Call}
 use Rattle.seq_model.specs.declared.call.Reply.{Reply}
 use Rattle.seq_model.specs.declared.record.Record.{Record}

@@ -1,7 +1,7 @@
 -- A step on the words that answered nothing leaves an actor as its word actor left it, where its stage waits for the answer.
 use Rattle.std.proofs.Common.{◌≡◌, ℕ, true, true≢false, [], ◌∷◌, length, refl, sym, subst}
 use Rattle.tx_sets.specs.Entries.{Entries}
-use Rattle.word_machine.specs.Notices as notice
+use Rattle.tx_machine.specs.Notices as notice
 use Rattle.seq_model.specs.declared.event.Notice.TheVariants.{Quiet}
 use Rattle.replay_log.specs.Contents as contents
 use Rattle.replay_log.specs.Seats as worlds

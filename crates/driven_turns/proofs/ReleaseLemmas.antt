@@ -1,10 +1,10 @@
 -- The locks of a commit, given back in straight code.
 use Rattle.std.proofs.Common.{◌≡◌, ℕ, ◌*◌, ◌<◌, true, false, List, Option, Some, None, Result, Ok, length, drop, get_or, refl, sym, ap, ◌∙◌, subst, arith}
 use Rattle.std.specs.VecDeque.{deque_len}
-use Rattle.word_machine.specs.Actor.{after_release, freed}
-use Rattle.word_machine.specs.Cells.{LockCell}
-use Rattle.word_machine.specs.Notices as notice
-use Rattle.word_machine.specs.Notices.{when_none_left}
+use Rattle.tx_machine.specs.Actor.{after_release, freed}
+use Rattle.tx_machine.specs.Cells.{LockCell}
+use Rattle.tx_machine.specs.Notices as notice
+use Rattle.tx_machine.specs.Notices.{when_none_left}
 use Rattle.replay_log.specs.declared.base.Base.{Base}
 use Rattle.replay_log.specs.Seats as worlds
 use Rattle.replay_log.specs.Seats.{World, After}

@@ -11,8 +11,8 @@ use Rattle.seq_model.specs.declared.event.Event.TheVariants.{Ask, Step, Starve}
 use Rattle.seq_model.specs.declared.event.Notice.{Notice}
 use Rattle.seq_model.specs.declared.event.Notice.TheVariants.{Answered, Refused}
 use Rattle.seq_model.specs.declared.record.Record.{Record}
-use Rattle.collection_machine.specs.Boosted.{is_actor}
-use Rattle.collection_machine.specs.Content.{has}
+use Rattle.tx_machine.specs.Boosted.{is_actor}
+use Rattle.tx_machine.specs.Content.{has}
 use Rattle.replay_log.specs.declared.base.Base.{Base}
 use Rattle.replay_log.proofs.SeatLemmas.{gates_of}
 use Rattle.replay_log.specs.Seats as worlds

@@ -10,15 +10,15 @@ use Rattle.tx_sets.specs.Entries.{lookup}
 use Rattle.vlock_word.specs.declared.lock_word.LockWord.{LockWord}
 use Rattle.vlock_word.specs.declared.lock_word.LockWord.TheVariants.{Free, Locked}
 use Rattle.vlock_word.specs.LockWord.{bits, unbits}
-use Rattle.word_machine.specs.Actor as machine
-use Rattle.word_machine.specs.Actor.{Actor, Place, clock_limit, goes, seen_in_check, seen_to_lock, taken}
-use Rattle.word_machine.specs.Cells.{Cell, ClockCell, LockCell, becomes, learns, word_of}
-use Rattle.word_machine.specs.Notices as notice
-use Rattle.word_machine.specs.Requests as word
-use Rattle.word_machine.specs.World as world
-use Rattle.word_machine.specs.World.{plan, put}
-use Rattle.word_machine.proofs.Invariant.{PlaceOk}
-use Rattle.word_machine.proofs.Sets.{put-same}
+use Rattle.tx_machine.specs.Actor as machine
+use Rattle.tx_machine.specs.Actor.{Actor, Place, clock_limit, goes, seen_in_check, seen_to_lock, taken}
+use Rattle.tx_machine.specs.Cells.{Cell, ClockCell, LockCell, becomes, learns, word_of}
+use Rattle.tx_machine.specs.Notices as notice
+use Rattle.tx_machine.specs.Requests as word
+use Rattle.tx_machine.specs.World as world
+use Rattle.tx_machine.specs.World.{plan, put}
+use Rattle.tx_machine.proofs.Invariant.{PlaceOk}
+use Rattle.tx_machine.proofs.Sets.{put-same}
 use Rattle.seq_model.specs.declared.call.Call.{Call}
 use Rattle.seq_model.specs.declared.call.Reply.{Reply}
 use Rattle.seq_model.specs.declared.event.Answer.TheVariants as answer
@@ -28,7 +28,7 @@ use Rattle.seq_model.specs.declared.event.Notice.TheVariants.{Quiet, Answered, R
 use Rattle.seq_model.specs.declared.record.Record.{Record}
 use Rattle.seq_model.specs.declared.refusal.Refusal.{Refusal}
 use Rattle.seq_model.specs.declared.refusal.Refusal.TheVariants as refusal
-use Rattle.collection_machine.specs.Boosted.{Boosted, TakeGate, gated, is_committing, is_none}
+use Rattle.tx_machine.specs.Boosted.{Boosted, TakeGate, gated, is_committing, is_none}
 use Rattle.replay_log.proofs.EventLemmas.{opened_linked, run_linked}
 use Rattle.replay_log.proofs.SeatLemmas.{AtLocking, StageOk}
 use Rattle.replay_log.specs.declared.base.Base.{Base}

@@ -4,7 +4,7 @@
 -- next step is as it was. Each turn leads on from those before it, and one that answered nothing brings the request nearer to its answer.
 use Rattle.std.proofs.Common.{◌≡◌, ℕ, ◌<◌, ◌≤◌, Bool, true, false, true≢false, List, Option, None, Result, refl, sym, ap}
 use Rattle.std.proofs.Common.{◌∙◌, subst, arith}
-use Rattle.word_machine.specs.Notices as notice
+use Rattle.tx_machine.specs.Notices as notice
 use Rattle.seq_model.specs.declared.event.Event.TheVariants.{Step}
 use Rattle.seq_model.specs.declared.event.Notice.{Notice}
 use Rattle.seq_model.specs.declared.record.Record.{Record}

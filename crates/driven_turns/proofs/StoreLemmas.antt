@@ -2,12 +2,12 @@
 use Rattle.std.proofs.Common.{◌≡◌, ℕ, ◌+◌, ◌<◌, true, false, true≢false, List, Option, None, Result, Ok, length, drop, get_or, refl, sym, ap, ◌∙◌, subst, arith}
 use Rattle.std.specs.List.{All}
 use Rattle.tx_sets.specs.Entries.{IsRising, locations}
-use Rattle.word_machine.proofs.Sets.{put-same}
-use Rattle.word_machine.specs.Actor as machine
-use Rattle.word_machine.specs.Actor.{goes}
-use Rattle.word_machine.specs.Cells.{ValueCell}
-use Rattle.word_machine.specs.Notices as notice
-use Rattle.word_machine.specs.Notices.{when_none_left}
+use Rattle.tx_machine.proofs.Sets.{put-same}
+use Rattle.tx_machine.specs.Actor as machine
+use Rattle.tx_machine.specs.Actor.{goes}
+use Rattle.tx_machine.specs.Cells.{ValueCell}
+use Rattle.tx_machine.specs.Notices as notice
+use Rattle.tx_machine.specs.Notices.{when_none_left}
 use Rattle.replay_log.specs.declared.base.Base.{Base}
 use Rattle.replay_log.specs.Seats as worlds
 use Rattle.replay_log.specs.Seats.{World}

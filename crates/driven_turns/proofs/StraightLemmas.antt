@@ -10,12 +10,12 @@ use Rattle.std.specs.Vec.{vec_len, vec_capacity}
 use Rattle.vlock_word.specs.LockWord.{bits, unbits}
 use Rattle.vlock_word.specs.declared.lock_word.LockWord.{LockWord}
 use Rattle.vlock_word.specs.declared.lock_word.LockWord.TheVariants.{Free, Locked}
-use Rattle.word_machine.specs.Actor as machine
-use Rattle.word_machine.specs.Actor.{goes, seen}
-use Rattle.word_machine.specs.Cells.{learns}
-use Rattle.word_machine.specs.Notices as notice
-use Rattle.word_machine.specs.Notices.{look_notice}
-use Rattle.word_machine.specs.World.{plan}
+use Rattle.tx_machine.specs.Actor as machine
+use Rattle.tx_machine.specs.Actor.{goes, seen}
+use Rattle.tx_machine.specs.Cells.{learns}
+use Rattle.tx_machine.specs.Notices as notice
+use Rattle.tx_machine.specs.Notices.{look_notice}
+use Rattle.tx_machine.specs.World.{plan}
 use Rattle.replay_log.specs.declared.base.Base.{Base}
 use Rattle.replay_log.specs.Seats as worlds
 use Rattle.replay_log.specs.Seats.{World, After}
@@ -53,7 +53,7 @@ use Rattle.actor_turns.proofs.StepLemmas.{running_moved}
 use Rattle.tx_table.specs.declared.seat.Seat.{Seat}
 use Rattle.tx_table.specs.declared.table.TxTable.{TxTable}
 use Rattle.tx_table.specs.Seated.{Loads, Stepped, acts, actor, blocks_in, opening_of, view}
-use Rattle.word_machine.specs.Cells.{LockCell, ValueCell}
+use Rattle.tx_machine.specs.Cells.{LockCell, ValueCell}
 use Rattle.tx_turns.specs.Touches.{StepsWords}
 use Rattle.tx_turns.specs.declared.due.Due.TheVariants as due
 use Rattle.tx_turns.proofs.TurnLemmas.{word_is_next, word_turned}

@@ -7,8 +7,8 @@ use Rattle.std.proofs.Common.{◌≡◌, ℕ, true, List, Option, sym, ap, ◌�
 use Rattle.seq_model.specs.Contents.{Contents}
 use Rattle.seq_model.specs.declared.event.Event.{Event}
 use Rattle.seq_model.specs.declared.event.Event.TheVariants.{Step}
-use Rattle.collection_machine.specs.Boosted.{is_actor}
-use Rattle.collection_machine.specs.Content.{has}
+use Rattle.tx_machine.specs.Boosted.{is_actor}
+use Rattle.tx_machine.specs.Content.{has}
 use Rattle.replay_log.specs.declared.base.Base.{Base}
 use Rattle.replay_log.specs.Contents.{Block}
 use Rattle.replay_log.specs.Seats.{World, After}

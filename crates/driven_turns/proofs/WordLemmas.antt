@@ -3,8 +3,8 @@
 -- None of them is on a gate, so the actor holds the gates that it held, and each base stands; what the actor has of collections is stated
 -- in the world in which the step has happened. While a call is read for no gate is held.
 use Rattle.std.proofs.Common.{◌≡◌, ℕ, true, false, true≢false, List, [], Option, None, Result, refl, sym, ap, ◌∙◌, subst}
-use Rattle.word_machine.specs.World.{plan}
-use Rattle.word_machine.specs.Cells.{Cell, cell, learns, word_of}
+use Rattle.tx_machine.specs.World.{plan}
+use Rattle.tx_machine.specs.Cells.{Cell, cell, learns, word_of}
 use Rattle.replay_log.specs.declared.base.Base.{Base}
 use Rattle.replay_log.specs.Contents.{Asked}
 use Rattle.replay_log.specs.Seats.{World, Copying, Ready, Stage}

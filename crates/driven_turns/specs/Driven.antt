@@ -1,6 +1,6 @@
 -- The turns that a seat takes for a request of its actor, and the result of the request.
 use Rattle.std.specs.Prelude.{◌≡◌, ◌≢◌, ◌⊎◌, ℕ, ◌<◌, ◌≤◌, Bool, true, false, not, List, [], ◌∷◌, ◌++◌, Option, Some, None}
-use Rattle.word_machine.specs.Actor.{Actor, Place, Check, clock_limit}
+use Rattle.tx_machine.specs.Actor.{Actor, Place, Check, clock_limit}
 use Rattle.seq_model.specs.declared.call.Call.{Call}
 use Rattle.seq_model.specs.declared.call.Op.{Op}
 use Rattle.seq_model.specs.declared.call.Op.TheVariants.{Read, Write}

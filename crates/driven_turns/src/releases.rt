@@ -1,7 +1,7 @@
 //! The locks of a commit, given back in straight code.
 ghost use Rattle.std.specs.Prelude.{◌≡◌, ◌≢◌, ℕ, ◌+◌, ◌<◌, drop, false, true};
 ghost use Rattle.std.specs.VecDeque.{deque_len};
-ghost use Rattle.word_machine.specs.Actor.{after_release, freed};
+ghost use Rattle.tx_machine.specs.Actor.{after_release, freed};
 ghost use Rattle.replay_log.specs.WorldProgress.{AreSmall};
 ghost use Rattle.step_core.specs.Shown.{actor_of};
 ghost use Rattle.step_core.specs.Sound.{Fits};

@@ -1,6 +1,6 @@
 //! Steps on the words, one after another.
 ghost use Rattle.std.specs.Prelude.{◌≡◌, ◌≢◌, false, true};
-ghost use Rattle.word_machine.specs.Notices as notice;
+ghost use Rattle.tx_machine.specs.Notices as notice;
 ghost use Rattle.actor_parts.specs.Dispatch.{next_of, notice_told};
 ghost use Rattle.replay_log.specs.WorldProgress.{AreSmall};
 ghost use Rattle.tx_actor.specs.Running.{stage_of};

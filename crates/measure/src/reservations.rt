@@ -77,17 +77,12 @@ fn opening_of(alloc: Global, id: u64) -> Result<Action, Memory> {
     changes.push(added(Kind::Car, id, 10, id))?;
     changes.push(added(Kind::Flight, id, 10, id))?;
     changes.push(added(Kind::Room, id, 10, id))?;
-    Ok(Action::Update { changes })
+    Ok(Action::Update(changes))
 }
 
 /// So many units more of an item, at a price drawn.
 fn added(kind: Kind, id: u64, units: u64, random: u64) -> Change {
-    Change::Add {
-        kind,
-        id,
-        units,
-        price: 50 + random % 500,
-    }
+    Change::Add(kind, id, units, 50 + random % 500)
 }
 
 fn run(
@@ -114,18 +109,14 @@ fn drawn(alloc: Global, items: u64, random: &mut Xoshiro256PlusPlus) -> Result<A
 {
     let customer = random.next_u64() % items;
     match random.next_u64() % 100 {
-        0..=79 => Ok(Action::Reserve {
-            customer,
-            units: 1,
-            asks: asks(alloc, items, random)?,
-        }),
-        80..=89 => Ok(Action::Delete { customer }),
+        0..=79 => Ok(Action::Reserve(customer, 1, asks(alloc, items, random)?)),
+        80..=89 => Ok(Action::Delete(customer)),
         _ => {
             let mut changes = Items::new(alloc);
             let id = random.next_u64() % items;
             let kind = kind_of(random.next_u64());
             changes.push(added(kind, id, 0, random.next_u64()))?;
-            Ok(Action::Update { changes })
+            Ok(Action::Update(changes))
         }
     }
 }

@@ -8,22 +8,22 @@ use Rattle.std.proofs.lemmas.Bool.{cond_both, cond-true, cases_eq}
 use Rattle.vlock_word.specs.declared.lock_word.LockWord.{LockWord}
 use Rattle.vlock_word.specs.declared.lock_word.LockWord.TheVariants.{Free, Locked}
 use Rattle.tx_sets.specs.Entries.{locations}
-use Rattle.word_machine.specs.Actor as machine
-use Rattle.word_machine.specs.Actor.{Place, Begin, Open, Actor, goes}
-use Rattle.word_machine.specs.Requests.{Request, AskBegin, AskBeginRead, AskRead, AskWrite, AskLock, AskStore, AskRelease, AskCancel}
-use Rattle.word_machine.specs.Requests.{AskAbort, AskClose, ask, write, wrote}
-use Rattle.word_machine.specs.World as world
-use Rattle.word_machine.specs.World.{World, put, plan, does, noted, outcome, step, Deed, Outcome, Ask}
-use Rattle.word_machine.proofs.Sets.{put-same, put-other}
+use Rattle.tx_machine.specs.Actor as machine
+use Rattle.tx_machine.specs.Actor.{Place, Begin, Open, Actor, goes}
+use Rattle.tx_machine.specs.Requests.{Request, AskBegin, AskBeginRead, AskRead, AskWrite, AskLock, AskStore, AskRelease, AskCancel}
+use Rattle.tx_machine.specs.Requests.{AskAbort, AskClose, ask, write, wrote}
+use Rattle.tx_machine.specs.World as world
+use Rattle.tx_machine.specs.World.{World, put, plan, does, noted, outcome, step, Deed, Outcome, Ask}
+use Rattle.tx_machine.proofs.Sets.{put-same, put-other}
 use Rattle.std.proofs.lemmas.List.{append-nil}
 use Rattle.std.proofs.lemmas.List.Elements.{filter-append}
-use Rattle.collection_machine.specs.Content.{Content, IsIn}
-use Rattle.collection_machine.specs.Boosted.{Shadow, Boosted, OnWords, TakeGate, PutGate, GoHome, is_open, is_stored, is_committing}
-use Rattle.collection_machine.specs.Boosted.{is_actor, is_none, every, may_write, insert_commit, on_words, fresh, shadows_after, recorded}
-use Rattle.collection_machine.specs.Boosted.{word_step, gated, copied, is_held, is_given, is_sound, writes_asked, longer, accepted, homed}
-use Rattle.collection_machine.specs.Boosted.{acts}
-use Rattle.collection_machine.proofs.Steady.{IsFreeAsk}
-use Rattle.word_machine.specs.Opacity.{first_read}
+use Rattle.tx_machine.specs.Content.{Content, IsIn}
+use Rattle.tx_machine.specs.Boosted.{Shadow, Boosted, OnWords, TakeGate, PutGate, GoHome, is_open, is_stored, is_committing}
+use Rattle.tx_machine.specs.Boosted.{is_actor, is_none, every, may_write, insert_commit, on_words, fresh, shadows_after, recorded}
+use Rattle.tx_machine.specs.Boosted.{word_step, gated, copied, is_held, is_given, is_sound, writes_asked, longer, accepted, homed}
+use Rattle.tx_machine.specs.Boosted.{acts}
+use Rattle.tx_machine.proofs.Steady.{IsFreeAsk}
+use Rattle.tx_machine.specs.Opacity.{first_read}
 use Rattle.replay_log.proofs.ReadLemmas.{first_read-write}
 
 -- ---- a step of the word machine

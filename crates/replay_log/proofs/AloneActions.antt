@@ -8,22 +8,22 @@ use Rattle.std.proofs.lemmas.Bool.{cond_both, cases_eq}
 use Rattle.vlock_word.specs.declared.lock_word.LockWord.{LockWord}
 use Rattle.vlock_word.specs.declared.lock_word.LockWord.TheVariants.{Free, Locked}
 use Rattle.tx_sets.specs.Entries.{Entries, lookup, locations}
-use Rattle.word_machine.specs.Actor as machine
-use Rattle.word_machine.specs.Actor.{Place, Actor, goes}
-use Rattle.word_machine.specs.Requests as word
-use Rattle.word_machine.specs.World as world
-use Rattle.word_machine.specs.World.{World as Words, plan, put, Outcome}
-use Rattle.word_machine.specs.Progress.{IsAlone}
-use Rattle.word_machine.proofs.Sets.{put-same, put-other}
-use Rattle.word_machine.proofs.Alone.{AloneAt, run_alone}
-use Rattle.collection_machine.specs.Content.{Content}
-use Rattle.collection_machine.specs.Boosted.{Boosted, Shadow, Action, OnWords, TakeGate, PutGate, Accept, GoHome, recorded, word_step}
-use Rattle.collection_machine.specs.Boosted.{shadows_after, on_words, gated, homed, fresh, copied, is_copied, longer, writes_asked}
-use Rattle.collection_machine.specs.Boosted.{accepted, is_none, is_actor, is_open, is_stored, is_committing, is_held, is_given, is_sound}
-use Rattle.collection_machine.specs.Boosted.{every, may_write, changes, acts}
-use Rattle.collection_machine.proofs.Invariant.{Inv}
-use Rattle.collection_machine.proofs.Quiet.{both, open_is}
-use Rattle.collection_machine.proofs.Runs.{recorded_words}
+use Rattle.tx_machine.specs.Actor as machine
+use Rattle.tx_machine.specs.Actor.{Place, Actor, goes}
+use Rattle.tx_machine.specs.Requests as word
+use Rattle.tx_machine.specs.World as world
+use Rattle.tx_machine.specs.World.{World as Words, plan, put, Outcome}
+use Rattle.tx_machine.specs.Progress.{IsAlone}
+use Rattle.tx_machine.proofs.Sets.{put-same, put-other}
+use Rattle.tx_machine.proofs.Alone.{AloneAt, run_alone}
+use Rattle.tx_machine.specs.Content.{Content}
+use Rattle.tx_machine.specs.Boosted.{Boosted, Shadow, Action, OnWords, TakeGate, PutGate, Accept, GoHome, recorded, word_step}
+use Rattle.tx_machine.specs.Boosted.{shadows_after, on_words, gated, homed, fresh, copied, is_copied, longer, writes_asked}
+use Rattle.tx_machine.specs.Boosted.{accepted, is_none, is_actor, is_open, is_stored, is_committing, is_held, is_given, is_sound}
+use Rattle.tx_machine.specs.Boosted.{every, may_write, changes, acts}
+use Rattle.tx_machine.proofs.BoostedInvariant.{Inv}
+use Rattle.tx_machine.proofs.BoostedQuiet.{both, open_is}
+use Rattle.tx_machine.proofs.Runs.{recorded_words}
 use Rattle.replay_log.proofs.ActionLemmas.{learns, exchanges}
 use Rattle.replay_log.proofs.RequestLemmas.{IsOf}
 use Rattle.replay_log.proofs.SetLemmas.{moved_is}

@@ -13,19 +13,19 @@ use Rattle.vlock_word.specs.declared.lock_word.LockWord.{LockWord}
 use Rattle.vlock_word.specs.declared.lock_word.LockWord.TheVariants.{Free, Locked}
 use Rattle.vlock_word.specs.LockWord.{version_of, bits}
 use Rattle.tx_sets.specs.Entries.{Entries, lookup}
-use Rattle.word_machine.specs.Actor as machine
-use Rattle.word_machine.specs.Actor.{Place, Actor}
-use Rattle.word_machine.specs.Requests as word
-use Rattle.word_machine.specs.World.{World as Words, plan}
-use Rattle.word_machine.specs.Notices as told
-use Rattle.word_machine.specs.Notices.{notice}
-use Rattle.word_machine.specs.Opacity.{IsHalfDone}
-use Rattle.word_machine.specs.Progress as progress
-use Rattle.word_machine.proofs.Sets.{put-same, lookup-head}
-use Rattle.word_machine.proofs.Records.{finals, stamp, settled_all}
-use Rattle.word_machine.proofs.Invariant.{PlaceOk, IsSomeEntry, Good, latest}
-use Rattle.word_machine.proofs.Invariant as words
-use Rattle.word_machine.proofs.Alone.{AlonePlace, AloneOk, AloneAt, Low, step_alone}
+use Rattle.tx_machine.specs.Actor as machine
+use Rattle.tx_machine.specs.Actor.{Place, Actor}
+use Rattle.tx_machine.specs.Requests as word
+use Rattle.tx_machine.specs.World.{World as Words, plan}
+use Rattle.tx_machine.specs.Notices as told
+use Rattle.tx_machine.specs.Notices.{notice}
+use Rattle.tx_machine.specs.Opacity.{IsHalfDone}
+use Rattle.tx_machine.specs.Progress as progress
+use Rattle.tx_machine.proofs.Sets.{put-same, lookup-head}
+use Rattle.tx_machine.proofs.Records.{finals, stamp, settled_all}
+use Rattle.tx_machine.proofs.Invariant.{PlaceOk, IsSomeEntry, Good, latest}
+use Rattle.tx_machine.proofs.Invariant as words
+use Rattle.tx_machine.proofs.Alone.{AlonePlace, AloneOk, AloneAt, Low, step_alone}
 use Rattle.seq_model.specs.declared.call.Op.{Op}
 use Rattle.seq_model.specs.declared.call.Op.TheVariants.{Read, Write}
 use Rattle.seq_model.specs.declared.call.Reply.TheVariants as reply
@@ -39,11 +39,11 @@ use Rattle.seq_model.specs.declared.event.Request.TheVariants as request
 use Rattle.seq_model.specs.declared.event.Notice.{Notice}
 use Rattle.seq_model.specs.declared.event.Notice.TheVariants.{Refused}
 use Rattle.seq_model.specs.declared.limits.TheConstants.{CALL_LIMIT}
-use Rattle.collection_machine.specs.Content.{Content, IsIn, has}
-use Rattle.collection_machine.specs.Boosted.{Boosted, Shadow, Action, TakeGate, PutGate, GoHome, Accept, is_none, is_actor, changes, acts}
-use Rattle.collection_machine.specs.Boosted.{act_all}
-use Rattle.collection_machine.proofs.Invariant.{Inv}
-use Rattle.collection_machine.proofs.Schedules.{acts_led}
+use Rattle.tx_machine.specs.Content.{Content, IsIn, has}
+use Rattle.tx_machine.specs.Boosted.{Boosted, Shadow, Action, TakeGate, PutGate, GoHome, Accept, is_none, is_actor, changes, acts}
+use Rattle.tx_machine.specs.Boosted.{act_all}
+use Rattle.tx_machine.proofs.BoostedInvariant.{Inv}
+use Rattle.tx_machine.proofs.BoostedSchedules.{acts_led}
 use Rattle.replay_log.specs.Base.{Shown}
 use Rattle.replay_log.specs.Contents.{Block, Asked, Answered, HaveStripes, is_plain, block_of, first_of, content}
 use Rattle.replay_log.specs.Pieces.{piece_at, covers_at}

@@ -6,11 +6,11 @@ use Rattle.std.proofs.Common.{◌⊎◌, inl, inr, refl, sym, subst, arith, eqb,
 use Rattle.std.specs.Prelude.{nat_lt}
 use Rattle.std.proofs.lemmas.Bool.{cond-true, cond-false, cases_eq}
 use Rattle.tx_sets.specs.Entries.{Entries, lookup}
-use Rattle.word_machine.specs.Actor.{Actor}
-use Rattle.word_machine.specs.Requests as word
-use Rattle.word_machine.specs.World.{put}
-use Rattle.word_machine.specs.Notices as told
-use Rattle.word_machine.proofs.Sets.{put-same}
+use Rattle.tx_machine.specs.Actor.{Actor}
+use Rattle.tx_machine.specs.Requests as word
+use Rattle.tx_machine.specs.World.{put}
+use Rattle.tx_machine.specs.Notices as told
+use Rattle.tx_machine.proofs.Sets.{put-same}
 use Rattle.seq_model.specs.declared.call.Op.{Op}
 use Rattle.seq_model.specs.declared.call.Op.TheVariants.{Read, Write}
 use Rattle.seq_model.specs.declared.call.Reply.TheVariants as reply
@@ -23,7 +23,7 @@ use Rattle.seq_model.specs.declared.event.Request.TheVariants as request
 use Rattle.seq_model.specs.declared.event.Notice.{Notice}
 use Rattle.seq_model.specs.declared.event.Notice.TheVariants.{Quiet, Refused}
 use Rattle.seq_model.specs.declared.limits.TheConstants.{CALL_LIMIT}
-use Rattle.collection_machine.specs.Boosted.{TakeGate, PutGate, GoHome, is_none}
+use Rattle.tx_machine.specs.Boosted.{TakeGate, PutGate, GoHome, is_none}
 use Rattle.replay_log.specs.Contents.{Block, Asked, Answered, HaveStripes, content}
 use Rattle.replay_log.specs.Pieces.{piece_at, covers_at}
 use Rattle.replay_log.specs.Worlds.{World, Seat, Stage, Idle, Beginning, Open, Locking, Releasing, Closing, Cancelling, Leaving, Reading}

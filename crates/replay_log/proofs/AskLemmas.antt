@@ -8,9 +8,9 @@ use Rattle.std.specs.Prelude.{nat_lt}
 use Rattle.std.proofs.lemmas.Bool.{cond-true, cond-false}
 use Rattle.std.proofs.lemmas.Bool.Decides.{nat_tests}
 use Rattle.tx_sets.specs.Entries.{Entries, lookup}
-use Rattle.word_machine.specs.Requests as word
-use Rattle.word_machine.specs.Notices as told
-use Rattle.word_machine.proofs.Sets.{put-same}
+use Rattle.tx_machine.specs.Requests as word
+use Rattle.tx_machine.specs.Notices as told
+use Rattle.tx_machine.proofs.Sets.{put-same}
 use Rattle.seq_model.specs.declared.call.Op.{Op}
 use Rattle.seq_model.specs.declared.call.Op.TheVariants.{Read, Write}
 use Rattle.seq_model.specs.declared.call.Reply.TheVariants as reply
@@ -20,8 +20,8 @@ use Rattle.seq_model.specs.declared.event.Request.{Request}
 use Rattle.seq_model.specs.declared.event.Request.TheVariants as request
 use Rattle.seq_model.specs.declared.event.Notice.TheVariants.{Refused}
 use Rattle.seq_model.specs.declared.limits.TheConstants.{CALL_LIMIT}
-use Rattle.collection_machine.specs.Content.{IsIn}
-use Rattle.collection_machine.specs.Boosted.{Accept}
+use Rattle.tx_machine.specs.Content.{IsIn}
+use Rattle.tx_machine.specs.Boosted.{Accept}
 use Rattle.replay_log.specs.Contents.{Asked, Answered, content}
 use Rattle.replay_log.specs.Pieces.{piece_at}
 use Rattle.replay_log.specs.Guards.{IsAtRest}

@@ -7,16 +7,16 @@ use Rattle.std.specs.Ordering.{nat_cmp}
 use Rattle.std.specs.FinMap.{FinMap, empty}
 use Rattle.std.proofs.lemmas.Bool.{cases_eq, cases_Bool, cond_both, cond-true, cond-false}
 use Rattle.tx_sets.specs.Entries.{Entries, lookup}
-use Rattle.word_machine.specs.Actor as machine
-use Rattle.word_machine.specs.Actor.{Place, Actor, goes}
-use Rattle.word_machine.specs.Requests as word
-use Rattle.word_machine.specs.Requests.{ask}
-use Rattle.word_machine.specs.World.{World as Words, put}
-use Rattle.word_machine.specs.Notices as told
-use Rattle.word_machine.proofs.Quiet.{none_if, lookup-none}
-use Rattle.word_machine.specs.Opacity.{first_read}
-use Rattle.word_machine.proofs.Calls.{touched, first_read-more}
-use Rattle.word_machine.proofs.Invariant.{PlaceOk, HasBegun, IsKept}
+use Rattle.tx_machine.specs.Actor as machine
+use Rattle.tx_machine.specs.Actor.{Place, Actor, goes}
+use Rattle.tx_machine.specs.Requests as word
+use Rattle.tx_machine.specs.Requests.{ask}
+use Rattle.tx_machine.specs.World.{World as Words, put}
+use Rattle.tx_machine.specs.Notices as told
+use Rattle.tx_machine.proofs.Quiet.{none_if, lookup-none}
+use Rattle.tx_machine.specs.Opacity.{first_read}
+use Rattle.tx_machine.proofs.Calls.{touched, first_read-more}
+use Rattle.tx_machine.proofs.Invariant.{PlaceOk, HasBegun, IsKept}
 use Rattle.seq_model.specs.declared.call.Op.{Op}
 use Rattle.seq_model.specs.declared.call.Op.TheVariants.{Get, Put, Remove, Len, Count, Add, Take, Least, Insert, TakeLeast, Enqueue}
 use Rattle.seq_model.specs.declared.call.Op.TheVariants.{Dequeue, Peek}
@@ -32,9 +32,9 @@ use Rattle.base_map.specs.Conflicts as map_rules
 use Rattle.base_bag.specs.Conflicts as bag_rules
 use Rattle.base_pq.specs.Conflicts as pq_rules
 use Rattle.base_queue.specs.Conflicts as queue_rules
-use Rattle.collection_machine.specs.Content.{IsIn, has}
-use Rattle.collection_machine.specs.Boosted.{Boosted, PutGate, Accept, is_open, is_committing, is_actor, is_edition, is_sound, is_none}
-use Rattle.collection_machine.specs.Boosted.{is_copied, may_write, copied, gated, longer, accepted, changes, acts}
+use Rattle.tx_machine.specs.Content.{IsIn, has}
+use Rattle.tx_machine.specs.Boosted.{Boosted, PutGate, Accept, is_open, is_committing, is_actor, is_edition, is_sound, is_none}
+use Rattle.tx_machine.specs.Boosted.{is_copied, may_write, copied, gated, longer, accepted, changes, acts}
 use Rattle.replay_log.specs.Base.{Shown, OfMap, outcome_of, reads_of, writes_of}
 use Rattle.replay_log.specs.Parts.{Kind, MapKind, BagKind, PqKind, QueueKind, whole}
 use Rattle.replay_log.specs.Contents.{Block, Asked, Answered, block_of, first_of, end_of, home_of, is_plain, HaveStripes, shifted, blank}

@@ -12,9 +12,9 @@ use Rattle.seq_model.specs.declared.held.Held.TheVariants.{Map, Bag, Pq, Queue}
 use Rattle.seq_model.specs.Calls.{held_call, IsWithinLimits}
 use Rattle.conflict.specs.declared.change.Change.{Change}
 use Rattle.conflict.specs.declared.outcome.Outcome.{Outcome}
-use Rattle.collection_machine.specs.Content.{IsIn, has}
-use Rattle.collection_machine.proofs.States.{Model}
-use Rattle.collection_machine.proofs.Parts.{is_in, in_has, out_has}
+use Rattle.tx_machine.specs.Content.{IsIn, has}
+use Rattle.tx_machine.proofs.States.{Model}
+use Rattle.tx_machine.proofs.Parts.{is_in, in_has, out_has}
 use Rattle.replay_log.specs.Base.{Shown, OfMap, after, changes_of, outcome_of, writes_of}
 use Rattle.replay_log.specs.Parts.{Kind, MapKind, BagKind, PqKind, QueueKind, kind_of, part, whole}
 use Rattle.replay_log.specs.Contents.{Block, size, block_of, first_of, HaveStripes, shifted, blank, seen, answer, changed, content}

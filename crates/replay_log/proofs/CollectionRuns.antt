@@ -5,9 +5,9 @@ use Rattle.seq_model.specs.declared.call.Op.{Op}
 use Rattle.seq_model.specs.declared.call.Reply.{Reply}
 use Rattle.seq_model.specs.declared.held.Held.{Held}
 use Rattle.seq_model.specs.Calls.{held_call}
-use Rattle.collection_machine.specs.Boosted.{Committed}
-use Rattle.collection_machine.proofs.States as states
-use Rattle.collection_machine.proofs.States.{Sequential}
+use Rattle.tx_machine.specs.Boosted.{Committed}
+use Rattle.tx_machine.proofs.States as states
+use Rattle.tx_machine.proofs.States.{Sequential}
 use Rattle.replay_log.specs.Contents.{Asked, Answered}
 
 module _ {V : Type 0} where

@@ -11,8 +11,8 @@ use Rattle.base_map.specs.FrameLemmas as map_laws
 use Rattle.base_bag.specs.FrameLemmas as bag_laws
 use Rattle.base_pq.specs.FrameLemmas as pq_laws
 use Rattle.base_queue.specs.FrameLemmas as queue_laws
-use Rattle.collection_machine.specs.Content.{Frame, IsIn, has}
-use Rattle.collection_machine.proofs.Parts.{in_has, out_has}
+use Rattle.tx_machine.specs.Content.{Frame, IsIn, has}
+use Rattle.tx_machine.proofs.Parts.{in_has, out_has}
 use Rattle.replay_log.specs.Base.{Shown, after, changes_of, outcome_of, reads_of, writes_of}
 use Rattle.replay_log.specs.Parts.{Kind, MapKind, BagKind, PqKind, QueueKind, part, whole}
 use Rattle.replay_log.specs.Contents.{Block, size_by, size, block_of, first_of, end_of, home_of, is_plain, HaveStripes, shifted, Answered}

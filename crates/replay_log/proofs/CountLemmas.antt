@@ -6,8 +6,8 @@ use Rattle.std.proofs.lemmas.Bool.{cases_eq, cond-false, cond_both}
 use Rattle.std.proofs.lemmas.List.FromFn.{length-range_with_len}
 use Rattle.std.specs.FinMap.{empty}
 use Rattle.tx_sets.specs.Entries.{Entries, lookup, with_entry, locations}
-use Rattle.word_machine.specs.Actor as machine
-use Rattle.word_machine.proofs.Sets.{lookup-with_entry_same, lookup-with_entry_other}
+use Rattle.tx_machine.specs.Actor as machine
+use Rattle.tx_machine.proofs.Sets.{lookup-with_entry_same, lookup-with_entry_other}
 use Rattle.seq_model.specs.declared.call.Op.{Op}
 use Rattle.seq_model.specs.declared.call.Op.TheVariants.{Get, Put, Remove, Len, Count, Add, Take, Least, Insert, TakeLeast}
 use Rattle.seq_model.specs.declared.call.Op.TheVariants.{Enqueue, Dequeue, Peek}
@@ -17,8 +17,8 @@ use Rattle.conflict.specs.declared.outcome.Outcome.{Outcome}
 use Rattle.conflict.specs.declared.outcome.Note.{Note}
 use Rattle.conflict.specs.declared.outcome.Note.TheVariants.{Index}
 use Rattle.conflict.specs.Footprints.{all_below, map_reads, multiset_reads, priority_queue_reads, queue_reads}
-use Rattle.collection_machine.specs.Content.{has}
-use Rattle.collection_machine.specs.Boosted.{is_none}
+use Rattle.tx_machine.specs.Content.{has}
+use Rattle.tx_machine.specs.Boosted.{is_none}
 use Rattle.replay_log.specs.Base.{Shown, OfMap, reads_of}
 use Rattle.replay_log.specs.Parts.{Kind, MapKind, BagKind, PqKind, QueueKind, whole}
 use Rattle.replay_log.specs.Contents.{Block, Answered, HaveStripes, block_of, first_of, blank, shifted, reads_in, content}

@@ -1,9 +1,9 @@
 -- A declared reader asks for no change, and has no sets. The first is read off the definition of a request; the second is
 -- the word machine's law, at the places at which a transaction is open.
 use Rattle.std.proofs.Common.{◌≡◌, ℕ, Bool, true, false, not, ◌&&◌, List, [], refl, sym, ap, ◌∙◌, subst, true≢false}
-use Rattle.word_machine.specs.Actor as machine
-use Rattle.word_machine.specs.Actor.{Place, Actor}
-use Rattle.word_machine.proofs.Invariant.{HasBegun, IsKept, ActorOk}
+use Rattle.tx_machine.specs.Actor as machine
+use Rattle.tx_machine.specs.Actor.{Place, Actor}
+use Rattle.tx_machine.proofs.Invariant.{HasBegun, IsKept, ActorOk}
 use Rattle.seq_model.specs.declared.call.Op.{Op}
 use Rattle.seq_model.specs.declared.call.Op.TheVariants.{Write, Put, Remove, Add, Take, Insert, TakeLeast, Enqueue, Dequeue}
 use Rattle.seq_model.specs.declared.call.Call.{Call}

@@ -9,12 +9,12 @@ use Rattle.std.specs.Option.{option_map_or}
 use Rattle.std.proofs.lemmas.Bool.{cases_Bool}
 use Rattle.std.proofs.lemmas.Bool.Decides.{nat_tests}
 use Rattle.std.proofs.lemmas.List.{get_or_past}
-use Rattle.word_machine.specs.Actor.{Place, Actor}
-use Rattle.word_machine.specs.World.{Memory, Record as WordRecord}
-use Rattle.word_machine.specs.Opacity.{IsInOrder, first_read}
-use Rattle.word_machine.proofs.Invariant.{Good}
-use Rattle.word_machine.proofs.Records.{settled}
-use Rattle.word_machine.proofs.Saw.{first_read_good}
+use Rattle.tx_machine.specs.Actor.{Place, Actor}
+use Rattle.tx_machine.specs.World.{Memory, Record as WordRecord}
+use Rattle.tx_machine.specs.Opacity.{IsInOrder, first_read}
+use Rattle.tx_machine.proofs.Invariant.{Good}
+use Rattle.tx_machine.proofs.Records.{settled}
+use Rattle.tx_machine.proofs.Saw.{first_read_good}
 use Rattle.seq_model.specs.declared.call.Op.{Op}
 use Rattle.seq_model.specs.declared.call.Op.TheVariants.{Read, Write}
 use Rattle.seq_model.specs.declared.call.Call.{Call}
@@ -25,16 +25,16 @@ use Rattle.seq_model.specs.declared.record.Record.{Record}
 use Rattle.seq_model.specs.declared.event.Event.{Event}
 use Rattle.seq_model.specs.Contents.{Contents}
 use Rattle.seq_model.specs.Runs.{after_call, after_calls, state_at}
-use Rattle.collection_machine.specs.Content.{Content, Frame, IsIn, has}
-use Rattle.collection_machine.specs.Boosted.{Committed, Boosted, Action, act_all, changes, opens}
-use Rattle.collection_machine.specs.Serial as serial
-use Rattle.collection_machine.specs.Serial.{AreLegal, AreRun, IsRead, after_actions, does_write, view, words}
-use Rattle.collection_machine.proofs.States.{Model}
-use Rattle.collection_machine.proofs.Models.{fits_after, replies_of, view_state}
-use Rattle.collection_machine.proofs.Stated.{Opened, reached}
-use Rattle.collection_machine.proofs.Quiet.{saw_open}
-use Rattle.collection_machine.proofs.Schedules.{all_keeps, all_ok, all_saw, all-opening, edition_read, legal_parts, opens_ok}
-use Rattle.collection_machine.proofs.Stated as stated
+use Rattle.tx_machine.specs.Content.{Content, Frame, IsIn, has}
+use Rattle.tx_machine.specs.Boosted.{Committed, Boosted, Action, act_all, changes, opens}
+use Rattle.tx_machine.specs.Serial as serial
+use Rattle.tx_machine.specs.Serial.{AreLegal, AreRun, IsRead, after_actions, does_write, view, words}
+use Rattle.tx_machine.proofs.States.{Model}
+use Rattle.tx_machine.proofs.Models.{fits_after, replies_of, view_state}
+use Rattle.tx_machine.proofs.Stated.{Opened, reached}
+use Rattle.tx_machine.proofs.BoostedQuiet.{saw_open}
+use Rattle.tx_machine.proofs.BoostedSchedules.{all_keeps, all_ok, all_saw, all-opening, edition_read, legal_parts, opens_ok}
+use Rattle.tx_machine.proofs.Stated as stated
 use Rattle.replay_log.specs.Base.{Shown, OfMap, OfBag, OfPq, OfQueue, outcome_of}
 use Rattle.replay_log.specs.Contents.{Block, Asked, Answered, HaveStripes, answer, block_of, content, first_of, is_plain, reads_in, writes_in}
 use Rattle.replay_log.specs.Collections.{Suit, shown_at}

@@ -4,14 +4,14 @@ use Rattle.std.proofs.Common.{◌≡◌, ℕ, ◌<◌, Bool, true, false, not, �
 use Rattle.std.proofs.Common.{ap, subst, true≢false}
 use Rattle.std.specs.Prelude.{nat_lt, get_or}
 use Rattle.tx_sets.specs.Entries.{Entries, lookup, locations}
-use Rattle.word_machine.specs.Actor as machine
-use Rattle.word_machine.specs.Actor.{Place, Actor, goes}
-use Rattle.word_machine.specs.Requests as word
-use Rattle.word_machine.specs.Requests.{ask}
-use Rattle.word_machine.specs.World.{plan}
-use Rattle.word_machine.specs.Notices as told
-use Rattle.word_machine.specs.Notices.{notice, read_reply}
-use Rattle.word_machine.proofs.Invariant.{PlaceOk}
+use Rattle.tx_machine.specs.Actor as machine
+use Rattle.tx_machine.specs.Actor.{Place, Actor, goes}
+use Rattle.tx_machine.specs.Requests as word
+use Rattle.tx_machine.specs.Requests.{ask}
+use Rattle.tx_machine.specs.World.{plan}
+use Rattle.tx_machine.specs.Notices as told
+use Rattle.tx_machine.specs.Notices.{notice, read_reply}
+use Rattle.tx_machine.proofs.Invariant.{PlaceOk}
 use Rattle.seq_model.specs.declared.call.Op.{Op}
 use Rattle.seq_model.specs.declared.call.Op.TheVariants.{Read, Write}
 use Rattle.seq_model.specs.declared.call.Reply.TheVariants as reply
@@ -22,9 +22,9 @@ use Rattle.seq_model.specs.declared.event.Event.TheVariants.{Ask, Step, Starve}
 use Rattle.seq_model.specs.declared.event.Request.{Request}
 use Rattle.seq_model.specs.declared.event.Request.TheVariants as request
 use Rattle.seq_model.specs.declared.limits.TheConstants.{CALL_LIMIT}
-use Rattle.collection_machine.specs.Content.{has}
-use Rattle.collection_machine.proofs.Schedules.{opens_ok}
-use Rattle.collection_machine.proofs.Steady.{IsFreeAsk}
+use Rattle.tx_machine.specs.Content.{has}
+use Rattle.tx_machine.proofs.BoostedSchedules.{opens_ok}
+use Rattle.tx_machine.proofs.Steady.{IsFreeAsk}
 use Rattle.replay_log.specs.Contents.{Block, Answered, block_of, HaveStripes, content}
 use Rattle.replay_log.specs.Collections.{shown_at}
 use Rattle.replay_log.specs.Worlds.{World, Seat, Stage, Idle, Beginning, Open, Locking, Releasing, Closing, Cancelling, Leaving, Reading}

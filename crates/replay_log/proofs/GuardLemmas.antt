@@ -4,15 +4,15 @@ use Rattle.std.proofs.Common.{◌≡◌, ℕ, Bool, true, false, ◌||◌, List,
 use Rattle.std.specs.Prelude.{nat_lt, if◌then◌else◌}
 use Rattle.std.proofs.lemmas.Bool.{cases_Bool}
 use Rattle.tx_sets.specs.Entries.{locations}
-use Rattle.word_machine.specs.Actor as machine
-use Rattle.word_machine.specs.Actor.{Place, Actor}
-use Rattle.word_machine.specs.World.{World as Words, plan}
-use Rattle.word_machine.specs.Notices as told
-use Rattle.word_machine.specs.Notices.{notice}
-use Rattle.word_machine.proofs.Sets.{locations_member}
-use Rattle.word_machine.proofs.Invariant.{PlaceOk}
-use Rattle.collection_machine.specs.Content.{has}
-use Rattle.collection_machine.specs.Boosted.{is_actor, is_committing, is_stored, is_held, every}
+use Rattle.tx_machine.specs.Actor as machine
+use Rattle.tx_machine.specs.Actor.{Place, Actor}
+use Rattle.tx_machine.specs.World.{World as Words, plan}
+use Rattle.tx_machine.specs.Notices as told
+use Rattle.tx_machine.specs.Notices.{notice}
+use Rattle.tx_machine.proofs.Sets.{locations_member}
+use Rattle.tx_machine.proofs.Invariant.{PlaceOk}
+use Rattle.tx_machine.specs.Content.{has}
+use Rattle.tx_machine.specs.Boosted.{is_actor, is_committing, is_stored, is_held, every}
 use Rattle.seq_model.specs.declared.held.Held.{Held}
 use Rattle.seq_model.specs.declared.event.Event.{Event}
 use Rattle.replay_log.specs.Contents.{Block, HaveStripes, home_of, is_plain, content}

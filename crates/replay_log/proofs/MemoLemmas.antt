@@ -2,16 +2,16 @@
 -- first: both copies are what the commits up to its number leave there. So a table of single keys answers as the copies of whole
 -- locations do.
 use Rattle.std.proofs.Common.{◌≡◌, ℕ, true, false, List, Some, sym, ◌∙◌, ap}
-use Rattle.word_machine.specs.Opacity.{first_read}
-use Rattle.word_machine.proofs.Saw.{first_read_good}
-use Rattle.word_machine.specs.World.{Record}
-use Rattle.word_machine.proofs.Records.{settled}
-use Rattle.collection_machine.specs.Content.{Content}
-use Rattle.collection_machine.specs.Boosted.{Boosted}
-use Rattle.collection_machine.specs.Serial as serial
-use Rattle.collection_machine.proofs.Invariant.{Inv}
+use Rattle.tx_machine.specs.Opacity.{first_read}
+use Rattle.tx_machine.proofs.Saw.{first_read_good}
+use Rattle.tx_machine.specs.World.{Record}
+use Rattle.tx_machine.proofs.Records.{settled}
+use Rattle.tx_machine.specs.Content.{Content}
+use Rattle.tx_machine.specs.Boosted.{Boosted}
+use Rattle.tx_machine.specs.Serial as serial
+use Rattle.tx_machine.proofs.BoostedInvariant.{Inv}
 use Rattle.std.proofs.Common.{true≢false}
-use Rattle.word_machine.specs.Actor.{Place, Actor}
+use Rattle.tx_machine.specs.Actor.{Place, Actor}
 use Rattle.seq_model.specs.declared.held.Held.{Held}
 use Rattle.seq_model.specs.declared.event.Event.{Event}
 use Rattle.replay_log.specs.Contents.{Block, HaveStripes, is_plain, content}

@@ -23,13 +23,13 @@ use Rattle.seq_model.specs.Runs.{reply_of, after_call, after_calls, insert_recor
 use Rattle.seq_model.specs.Runs.{after_run, state_at}
 use Rattle.seq_model.specs.Runs.{IsLegal as AreLegal, IsRun as IsRunOf}
 use Rattle.seq_model.proofs.RunLemmas.{answered}
-use Rattle.word_machine.specs.Actor as machine
-use Rattle.word_machine.specs.World as world
-use Rattle.word_machine.specs.World.{Memory, put}
-use Rattle.word_machine.specs.Opacity.{after, IsLegal, memory_after, IsRun, upto, InOrder, AllFrom, IsInOrder}
-use Rattle.word_machine.proofs.Sets.{put-same, put-other}
-use Rattle.collection_machine.specs.Boosted.{Committed, insert_commit}
-use Rattle.collection_machine.specs.Serial.{words}
+use Rattle.tx_machine.specs.Actor as machine
+use Rattle.tx_machine.specs.World as world
+use Rattle.tx_machine.specs.World.{Memory, put}
+use Rattle.tx_machine.specs.Opacity.{after, IsLegal, memory_after, IsRun, upto, InOrder, AllFrom, IsInOrder}
+use Rattle.tx_machine.proofs.Sets.{put-same, put-other}
+use Rattle.tx_machine.specs.Boosted.{Committed, insert_commit}
+use Rattle.tx_machine.specs.Serial.{words}
 use Rattle.replay_log.specs.Contents.{Answered}
 use Rattle.replay_log.proofs.CollectionRuns as collections
 use Rattle.replay_log.proofs.CollectionRuns.{reply_at, called, AreReplies, IsRunOn, held_at}

@@ -5,21 +5,21 @@ use Rattle.std.proofs.Common.{◌≡◌, ℕ, Bool, true, false, cond, List, [],
 use Rattle.std.proofs.Common.{true≢false}
 use Rattle.std.specs.Prelude.{get_or}
 use Rattle.std.proofs.lemmas.Bool.{cases_eq}
-use Rattle.word_machine.specs.Actor as machine
-use Rattle.word_machine.specs.Actor.{Place, Actor}
-use Rattle.word_machine.specs.Requests as word
-use Rattle.word_machine.specs.Opacity.{NoWriterHas}
-use Rattle.word_machine.specs.Refusals.{IsEnding}
-use Rattle.word_machine.proofs.Numbers.{GivesUp}
-use Rattle.word_machine.proofs.Sets.{put-same}
+use Rattle.tx_machine.specs.Actor as machine
+use Rattle.tx_machine.specs.Actor.{Place, Actor}
+use Rattle.tx_machine.specs.Requests as word
+use Rattle.tx_machine.specs.Opacity.{NoWriterHas}
+use Rattle.tx_machine.specs.Refusals.{IsEnding}
+use Rattle.tx_machine.proofs.Numbers.{GivesUp}
+use Rattle.tx_machine.proofs.Sets.{put-same}
 use Rattle.seq_model.specs.declared.held.Held.{Held}
 use Rattle.seq_model.specs.declared.record.Record.{Record}
 use Rattle.seq_model.specs.declared.event.Event.{Event}
 use Rattle.seq_model.specs.declared.event.Event.TheVariants.{Ask, Step, Starve}
-use Rattle.collection_machine.specs.Content.{has}
-use Rattle.collection_machine.specs.Boosted.{Committed, Boosted, PutGate, act_all}
-use Rattle.collection_machine.specs.Serial as serial
-use Rattle.collection_machine.proofs.Runs as runs
+use Rattle.tx_machine.specs.Content.{has}
+use Rattle.tx_machine.specs.Boosted.{Committed, Boosted, PutGate, act_all}
+use Rattle.tx_machine.specs.Serial as serial
+use Rattle.tx_machine.proofs.Runs as runs
 use Rattle.replay_log.specs.Base.{Shown}
 use Rattle.replay_log.specs.Contents.{Block, Answered, HaveStripes, content}
 use Rattle.replay_log.specs.Collections.{shown_at}

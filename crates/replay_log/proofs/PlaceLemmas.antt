@@ -6,15 +6,15 @@ use Rattle.vlock_word.specs.declared.lock_word.LockWord.{LockWord}
 use Rattle.vlock_word.specs.declared.lock_word.LockWord.TheVariants.{Free, Locked}
 use Rattle.vlock_word.specs.LockWord.{bits}
 use Rattle.tx_sets.specs.Entries.{Entries, lookup, locations}
-use Rattle.word_machine.specs.Actor as machine
-use Rattle.word_machine.specs.Actor.{Place, Actor, goes}
-use Rattle.word_machine.specs.World as world
-use Rattle.word_machine.specs.World.{World, plan, outcome}
-use Rattle.word_machine.specs.Notices as told
-use Rattle.word_machine.specs.Notices.{notice, look_notice, again_notice, lock_notice, take_notice, check_notice, when_none_left}
-use Rattle.word_machine.specs.Notices.{last_notice}
-use Rattle.word_machine.proofs.Invariant.{IsSomeEntry}
-use Rattle.collection_machine.specs.Boosted.{Boosted, shadows_after, is_committing}
+use Rattle.tx_machine.specs.Actor as machine
+use Rattle.tx_machine.specs.Actor.{Place, Actor, goes}
+use Rattle.tx_machine.specs.World as world
+use Rattle.tx_machine.specs.World.{World, plan, outcome}
+use Rattle.tx_machine.specs.Notices as told
+use Rattle.tx_machine.specs.Notices.{notice, look_notice, again_notice, lock_notice, take_notice, check_notice, when_none_left}
+use Rattle.tx_machine.specs.Notices.{last_notice}
+use Rattle.tx_machine.proofs.Invariant.{IsSomeEntry}
+use Rattle.tx_machine.specs.Boosted.{Boosted, shadows_after, is_committing}
 use Rattle.replay_log.proofs.ActionLemmas.{exchanges, learns}
 use Rattle.replay_log.proofs.SeatLemmas.{AtReading, AtLocking, AtStoring, CanLeave}
 

@@ -9,17 +9,17 @@ use Rattle.vlock_word.specs.declared.lock_word.LockWord.{LockWord}
 use Rattle.vlock_word.specs.declared.lock_word.LockWord.TheVariants.{Free, Locked}
 use Rattle.vlock_word.specs.LockWord.{bits}
 use Rattle.tx_sets.specs.Entries.{Entries, lookup, locations}
-use Rattle.word_machine.specs.Actor as machine
-use Rattle.word_machine.specs.Actor.{Place, Actor, goes}
-use Rattle.word_machine.specs.Requests as word
-use Rattle.word_machine.specs.World as world
-use Rattle.word_machine.specs.World.{World as Words, plan}
-use Rattle.word_machine.specs.Progress.{steps_left}
-use Rattle.word_machine.specs.Notices as told
-use Rattle.word_machine.specs.Notices.{notice, look_notice, again_notice, lock_notice, take_notice, check_notice, when_none_left}
-use Rattle.word_machine.specs.Notices.{last_notice}
-use Rattle.word_machine.proofs.Sets.{put-same}
-use Rattle.word_machine.proofs.Invariant.{IsSomeEntry, PlaceOk}
+use Rattle.tx_machine.specs.Actor as machine
+use Rattle.tx_machine.specs.Actor.{Place, Actor, goes}
+use Rattle.tx_machine.specs.Requests as word
+use Rattle.tx_machine.specs.World as world
+use Rattle.tx_machine.specs.World.{World as Words, plan}
+use Rattle.tx_machine.specs.Progress.{steps_left}
+use Rattle.tx_machine.specs.Notices as told
+use Rattle.tx_machine.specs.Notices.{notice, look_notice, again_notice, lock_notice, take_notice, check_notice, when_none_left}
+use Rattle.tx_machine.specs.Notices.{last_notice}
+use Rattle.tx_machine.proofs.Sets.{put-same}
+use Rattle.tx_machine.proofs.Invariant.{IsSomeEntry, PlaceOk}
 use Rattle.seq_model.specs.declared.refusal.Refusal.{Refusal}
 use Rattle.seq_model.specs.declared.refusal.Refusal.TheVariants as refusal
 use Rattle.seq_model.specs.declared.call.Op.{Op}
@@ -30,7 +30,7 @@ use Rattle.seq_model.specs.declared.event.Event.TheVariants.{Ask, Step}
 use Rattle.seq_model.specs.declared.event.Request.{Request}
 use Rattle.seq_model.specs.declared.event.Request.TheVariants as request
 use Rattle.seq_model.specs.declared.limits.TheConstants.{CALL_LIMIT}
-use Rattle.collection_machine.specs.Boosted.{TakeGate, PutGate, GoHome, is_none, is_open, is_committing, copied}
+use Rattle.tx_machine.specs.Boosted.{TakeGate, PutGate, GoHome, is_none, is_open, is_committing, copied}
 use Rattle.replay_log.specs.Contents.{Block, Asked, Answered, HaveStripes, home_of, is_plain}
 use Rattle.replay_log.specs.Contents.{content}
 use Rattle.replay_log.specs.Worlds.{World, Seat, Stage, Idle, Beginning, Open, Locking, Releasing, Closing, Cancelling, Leaving, Reading}
@@ -46,7 +46,7 @@ use Rattle.replay_log.specs.Pieces.{piece_at, covers_at}
 use Rattle.replay_log.specs.WorldProgress as measure
 use Rattle.replay_log.specs.WorldProgress.{AreSmall, unlocked, whose, IsQuiet, left_of, Nears}
 use Rattle.replay_log.proofs.RequestLemmas.{happens_by, run_by}
-use Rattle.collection_machine.specs.Content.{has}
+use Rattle.tx_machine.specs.Content.{has}
 use Rattle.replay_log.proofs.ActionLemmas.{mine, without_gate, exchanges, learns}
 use Rattle.replay_log.proofs.PlaceLemmas.{SameTx, AfterRead, read_after, AfterLock, lock_after, AfterStore, store_after, first_after}
 use Rattle.replay_log.proofs.PlaceLemmas.{reading_quiet, locking_quiet, storing_quiet, leaving_rests}

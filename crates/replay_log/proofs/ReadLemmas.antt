@@ -5,10 +5,10 @@ use Rattle.std.proofs.Common.{true≢false, eqb, eq-eqb, ne_eqb}
 use Rattle.std.specs.Prelude.{◌==◌, if◌then◌else◌}
 use Rattle.std.proofs.lemmas.Bool.{cases_eq, cond-true, cond-false}
 use Rattle.tx_sets.specs.Entries.{Entries, lookup, with_entry}
-use Rattle.word_machine.specs.Actor.{Call, Read, Write, with_read}
-use Rattle.word_machine.specs.Opacity.{first_read}
-use Rattle.word_machine.proofs.Sets.{lookup-with_entry_same, lookup-with_entry_other}
-use Rattle.word_machine.proofs.Calls.{touched}
+use Rattle.tx_machine.specs.Actor.{Call, Read, Write, with_read}
+use Rattle.tx_machine.specs.Opacity.{first_read}
+use Rattle.tx_machine.proofs.Sets.{lookup-with_entry_same, lookup-with_entry_other}
+use Rattle.tx_machine.proofs.Calls.{touched}
 
 no_some : (v : ℕ) → Some v ≡ None → ⊥
 no_some v e = cc

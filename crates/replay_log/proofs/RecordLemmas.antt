@@ -8,9 +8,9 @@ use Rattle.std.proofs.Common.{inl, inr, refl, sym, ◌∙◌, ap, subst, true≢
 use Rattle.std.specs.Prelude.{nat_lt}
 use Rattle.std.proofs.lemmas.Bool.{cases_eq, cond_both, cond-true, cond-false}
 use Rattle.tx_sets.specs.Entries.{Entries, lookup}
-use Rattle.word_machine.specs.Requests as word
-use Rattle.word_machine.specs.Notices as told
-use Rattle.word_machine.proofs.Sets.{put-same}
+use Rattle.tx_machine.specs.Requests as word
+use Rattle.tx_machine.specs.Notices as told
+use Rattle.tx_machine.proofs.Sets.{put-same}
 use Rattle.seq_model.specs.declared.call.Op.{Op}
 use Rattle.seq_model.specs.declared.call.Op.TheVariants.{Read, Write}
 use Rattle.seq_model.specs.declared.call.Reply.TheVariants as reply
@@ -23,8 +23,8 @@ use Rattle.seq_model.specs.declared.event.Request.{Request}
 use Rattle.seq_model.specs.declared.event.Request.TheVariants as request
 use Rattle.seq_model.specs.declared.limits.TheConstants.{CALL_LIMIT}
 use Rattle.seq_model.specs.Runs.{insert_record, comes_before, NoneComesBefore, IsInCommitOrder}
-use Rattle.collection_machine.specs.Content.{has}
-use Rattle.collection_machine.specs.Boosted.{TakeGate, PutGate, Accept, GoHome, is_none}
+use Rattle.tx_machine.specs.Content.{has}
+use Rattle.tx_machine.specs.Boosted.{TakeGate, PutGate, Accept, GoHome, is_none}
 use Rattle.replay_log.specs.Contents.{Block, Asked, Answered, content}
 use Rattle.replay_log.specs.Pieces.{piece_at, covers_at}
 use Rattle.replay_log.specs.Worlds.{World, Seat, Stage, Idle, Beginning, Open, Locking, Releasing, Closing, Cancelling, Leaving, Reading}

@@ -1,7 +1,7 @@
 -- A step that begins to abort a transaction has found the cause that it notes: the word machine's refusals are true of the word that the
 -- step loads, a copy is stale where the two editions differ, and a gate that was tried in vain is another's. The last step of the request
 -- answers that cause.
-use Rattle.collection_machine.specs.Content.{IsIn, has}
+use Rattle.tx_machine.specs.Content.{IsIn, has}
 use Rattle.std.proofs.Common.{◌≡◌, ◌≢◌, ℕ, zero, suc, ◌+◌, Bool, true, false, cond, List, [], ◌∷◌, ◌++◌, Option, Some, None, ◌⊎◌, Contains}
 use Rattle.std.proofs.Common.{refl, sym, ◌∙◌, ap, subst, true≢false, eqb, eq-eqb, ne_eqb, inl, inr}
 use Rattle.std.specs.Prelude.{if◌then◌else◌, nat_le, nat_lt}
@@ -11,23 +11,23 @@ use Rattle.vlock_word.specs.declared.lock_word.LockWord.{LockWord}
 use Rattle.vlock_word.specs.declared.lock_word.LockWord.TheVariants.{Free, Locked}
 use Rattle.vlock_word.specs.LockWord.{bits}
 use Rattle.tx_sets.specs.Entries.{Entries, lookup, with_entry}
-use Rattle.word_machine.specs.Actor as machine
-use Rattle.word_machine.specs.Actor.{Place, Actor}
-use Rattle.word_machine.specs.World.{World as Words, plan}
-use Rattle.word_machine.specs.Cells.{LockCell, word_of}
-use Rattle.word_machine.specs.Opacity.{first_read}
-use Rattle.word_machine.specs.Requests as word
-use Rattle.word_machine.specs.Notices as told
-use Rattle.word_machine.specs.Notices.{notice}
-use Rattle.word_machine.specs.Refusals.{IsTrue}
-use Rattle.word_machine.proofs.Sets.{put-same, lookup-with_entry_same, lookup-with_entry_other}
-use Rattle.word_machine.proofs.Refusals.{notice_true}
+use Rattle.tx_machine.specs.Actor as machine
+use Rattle.tx_machine.specs.Actor.{Place, Actor}
+use Rattle.tx_machine.specs.World.{World as Words, plan}
+use Rattle.tx_machine.specs.Cells.{LockCell, word_of}
+use Rattle.tx_machine.specs.Opacity.{first_read}
+use Rattle.tx_machine.specs.Requests as word
+use Rattle.tx_machine.specs.Notices as told
+use Rattle.tx_machine.specs.Notices.{notice}
+use Rattle.tx_machine.specs.Refusals.{IsTrue}
+use Rattle.tx_machine.proofs.Sets.{put-same, lookup-with_entry_same, lookup-with_entry_other}
+use Rattle.tx_machine.proofs.Refusals.{notice_true}
 use Rattle.seq_model.specs.declared.held.Held.{Held}
 use Rattle.seq_model.specs.declared.refusal.Refusal.{Refusal}
 use Rattle.seq_model.specs.declared.refusal.Refusal.TheVariants as refusal
 use Rattle.seq_model.specs.declared.event.Event.{Event}
 use Rattle.seq_model.specs.declared.event.Event.TheVariants.{Step}
-use Rattle.collection_machine.specs.Boosted.{TakeGate, PutGate, GoHome, Accept, is_none, is_actor}
+use Rattle.tx_machine.specs.Boosted.{TakeGate, PutGate, GoHome, Accept, is_none, is_actor}
 use Rattle.replay_log.specs.Contents.{Block, Asked, Answered, HaveStripes, is_plain, content}
 use Rattle.replay_log.specs.Worlds.{World, Seat, Stage, Idle, Beginning, Open, Locking, Releasing, Closing, Cancelling, Leaving, Reading}
 use Rattle.replay_log.specs.Worlds.{Trying, Copying, Loading, Gating, Ready, Storing, Homing, Returning, After, has_room, with_editions}

@@ -6,9 +6,9 @@ use Rattle.std.proofs.Common.{subst, eqb, ltb, length}
 use Rattle.std.specs.Prelude.{get_or, not, if◌then◌else◌}
 use Rattle.std.proofs.lemmas.Bool.{cond_both}
 use Rattle.tx_sets.specs.Entries.{Entries, lookup, locations}
-use Rattle.word_machine.specs.Requests as word
-use Rattle.word_machine.specs.World as machine
-use Rattle.word_machine.specs.Notices as told
+use Rattle.tx_machine.specs.Requests as word
+use Rattle.tx_machine.specs.World as machine
+use Rattle.tx_machine.specs.Notices as told
 use Rattle.seq_model.specs.declared.call.Op.{Op}
 use Rattle.seq_model.specs.declared.call.Op.TheVariants.{Read, Write}
 use Rattle.seq_model.specs.declared.held.Held.{Held}
@@ -19,16 +19,16 @@ use Rattle.seq_model.specs.declared.event.Request.{Request}
 use Rattle.seq_model.specs.declared.event.Request.TheVariants as request
 use Rattle.seq_model.specs.declared.event.Notice.TheVariants.{Quiet, Refused}
 use Rattle.seq_model.specs.declared.limits.TheConstants.{CALL_LIMIT}
-use Rattle.word_machine.specs.Actor.{Place, Actor}
-use Rattle.word_machine.proofs.Sets.{put-other}
-use Rattle.collection_machine.specs.Content.{Content}
-use Rattle.collection_machine.specs.Boosted.{Boosted, Action, OnWords, TakeGate, PutGate, Accept, GoHome, acts, act_all, is_actor, is_none}
-use Rattle.collection_machine.specs.Boosted.{is_open, is_stored, is_committing, is_held, is_given, is_sound, every, may_write, on_words}
-use Rattle.collection_machine.specs.Boosted.{on_ask, shadows_after, recorded, word_step, gated, copied, homed, writes_asked, longer}
-use Rattle.collection_machine.specs.Boosted.{accepted, changes}
-use Rattle.collection_machine.proofs.Quiet.{both, open_is}
+use Rattle.tx_machine.specs.Actor.{Place, Actor}
+use Rattle.tx_machine.proofs.Sets.{put-other}
+use Rattle.tx_machine.specs.Content.{Content}
+use Rattle.tx_machine.specs.Boosted.{Boosted, Action, OnWords, TakeGate, PutGate, Accept, GoHome, acts, act_all, is_actor, is_none}
+use Rattle.tx_machine.specs.Boosted.{is_open, is_stored, is_committing, is_held, is_given, is_sound, every, may_write, on_words}
+use Rattle.tx_machine.specs.Boosted.{on_ask, shadows_after, recorded, word_step, gated, copied, homed, writes_asked, longer}
+use Rattle.tx_machine.specs.Boosted.{accepted, changes}
+use Rattle.tx_machine.proofs.BoostedQuiet.{both, open_is}
 use Rattle.replay_log.proofs.ActionLemmas.{does_rest, is_undeclared, writes_wrote}
-use Rattle.collection_machine.specs.Serial.{after_actions}
+use Rattle.tx_machine.specs.Serial.{after_actions}
 use Rattle.replay_log.specs.Base.{Shown}
 use Rattle.replay_log.specs.Contents.{Block, Asked, Answered, content}
 use Rattle.replay_log.specs.Collections.{shown_at}

@@ -5,12 +5,12 @@ use Rattle.std.proofs.Common.{◌≡◌, ℕ, Bool, true, false, cond, List, [],
 use Rattle.std.proofs.Common.{eqb, eq-eqb, ne_eqb}
 use Rattle.std.proofs.lemmas.Bool.{cases_eq, cond-true, cond-false}
 use Rattle.tx_sets.specs.Entries.{Entries, lookup}
-use Rattle.word_machine.specs.Actor.{Actor}
-use Rattle.word_machine.specs.World.{World as Words}
+use Rattle.tx_machine.specs.Actor.{Actor}
+use Rattle.tx_machine.specs.World.{World as Words}
 use Rattle.seq_model.specs.declared.refusal.Refusal.TheVariants as refusal
 use Rattle.seq_model.specs.declared.event.Event.TheVariants.{Step}
 use Rattle.seq_model.specs.declared.event.Notice.TheVariants.{Refused}
-use Rattle.collection_machine.specs.Boosted.{PutGate}
+use Rattle.tx_machine.specs.Boosted.{PutGate}
 use Rattle.replay_log.specs.Base.{Shown}
 use Rattle.replay_log.specs.Contents.{Asked, Answered, content}
 use Rattle.replay_log.specs.Pieces.{piece_at, covers_at}

@@ -14,20 +14,20 @@ use Rattle.std.proofs.lemmas.Bool.{cases_eq, cond-true, cond-false}
 use Rattle.std.proofs.lemmas.List.{map-append, append-nil}
 use Rattle.std.proofs.lemmas.List.Elements.{filter-append}
 use Rattle.tx_sets.specs.Entries.{Entries, lookup}
-use Rattle.word_machine.specs.Actor as machine
-use Rattle.word_machine.specs.Actor.{Place, Actor}
-use Rattle.word_machine.specs.Requests as word
-use Rattle.word_machine.specs.Requests.{Request, ask}
-use Rattle.word_machine.proofs.Sets.{put-same, put-other}
-use Rattle.word_machine.proofs.Invariant.{IsSomeEntry}
+use Rattle.tx_machine.specs.Actor as machine
+use Rattle.tx_machine.specs.Actor.{Place, Actor}
+use Rattle.tx_machine.specs.Requests as word
+use Rattle.tx_machine.specs.Requests.{Request, ask}
+use Rattle.tx_machine.proofs.Sets.{put-same, put-other}
+use Rattle.tx_machine.proofs.Invariant.{IsSomeEntry}
 use Rattle.seq_model.specs.declared.call.Call.{Call}
 use Rattle.seq_model.specs.declared.call.Reply.{Reply}
 use Rattle.conflict.specs.declared.outcome.Outcome.{Outcome}
-use Rattle.collection_machine.specs.Content.{IsIn, has}
-use Rattle.collection_machine.specs.Boosted.{Aborted, Shadow, Action, changes, acts}
-use Rattle.collection_machine.proofs.Invariant.{Inv}
-use Rattle.collection_machine.proofs.Schedules.{acts_led}
-use Rattle.collection_machine.proofs.Steady.{IsFreeAsk}
+use Rattle.tx_machine.specs.Content.{IsIn, has}
+use Rattle.tx_machine.specs.Boosted.{Aborted, Shadow, Action, changes, acts}
+use Rattle.tx_machine.proofs.BoostedInvariant.{Inv}
+use Rattle.tx_machine.proofs.BoostedSchedules.{acts_led}
+use Rattle.tx_machine.proofs.Steady.{IsFreeAsk}
 use Rattle.replay_log.specs.Base.{Shown}
 use Rattle.replay_log.specs.Contents.{Block, Asked, Answered, block_of, first_of, home_of, is_plain, HaveStripes, content}
 use Rattle.replay_log.specs.Pieces.{Piece, covers_in}
@@ -35,7 +35,7 @@ use Rattle.replay_log.specs.Worlds.{World, Seat, Stage, Idle, Beginning, Open, L
 use Rattle.replay_log.specs.Worlds.{Trying, Copying, Loading, Gating, Ready, Storing, Homing, Returning, Ended, at_stage, seated, acted}
 use Rattle.replay_log.specs.Worlds.{asks, cancels, gives_up, is_known, may_ask, is_leaving, call_of}
 use Rattle.replay_log.proofs.ContentLemmas.{content_frame}
-use Rattle.word_machine.specs.Opacity.{first_read}
+use Rattle.tx_machine.specs.Opacity.{first_read}
 use Rattle.replay_log.proofs.ReadLemmas.{in_set}
 use Rattle.replay_log.proofs.ActionLemmas.{Apart, Own, Goes, mine, as_mine, ask_goes}
 use Rattle.replay_log.proofs.MixedLemmas.{is_of_word, word_calls, is_word_op, is_on_word, on_words, on_held, pair_of, Told, Told-push}

@@ -4,34 +4,34 @@
 use Rattle.std.proofs.Common.{◌≡◌, ℕ, zero, suc, ◌<◌, max, Some, inl, inr, arith, true, false, List, [], ◌∷◌, length, refl, sym, ◌∙◌, ap}
 use Rattle.std.proofs.Common.{subst, true≢false}
 use Rattle.std.specs.Prelude.{get_or}
-use Rattle.word_machine.specs.Actor as machine
-use Rattle.word_machine.specs.Actor.{Place, Actor}
-use Rattle.word_machine.specs.World as world
-use Rattle.word_machine.specs.World.{Memory}
-use Rattle.word_machine.specs.Opacity.{IsLegal, IsRun, IsInOrder, IsHalfDone, IsNoneHalfDone, AllEnded, memory_at}
-use Rattle.word_machine.specs.Opacity.{memory_after, upto}
-use Rattle.word_machine.proofs.Schedules.{legal_of, actor_saw, words_at_rest}
+use Rattle.tx_machine.specs.Actor as machine
+use Rattle.tx_machine.specs.Actor.{Place, Actor}
+use Rattle.tx_machine.specs.World as world
+use Rattle.tx_machine.specs.World.{Memory}
+use Rattle.tx_machine.specs.Opacity.{IsLegal, IsRun, IsInOrder, IsHalfDone, IsNoneHalfDone, AllEnded, memory_at}
+use Rattle.tx_machine.specs.Opacity.{memory_after, upto}
+use Rattle.tx_machine.proofs.Schedules.{legal_of, actor_saw, words_at_rest}
 use Rattle.std.proofs.lemmas.Bool.{cases_eq, cases_lt, cases_Bool, cond-true, cond-false}
 use Rattle.tx_sets.specs.Entries.{Entries, lookup}
-use Rattle.word_machine.proofs.Calls.{touched}
-use Rattle.word_machine.proofs.Records.{stamp, AllRecords, AllRecords_map}
-use Rattle.word_machine.proofs.Sets.{lookup-head}
-use Rattle.word_machine.proofs.Invariant.{IsSomeEntry, Done, PlaceOk, RecordOk}
-use Rattle.word_machine.proofs.Schedules as word_schedules
+use Rattle.tx_machine.proofs.Calls.{touched}
+use Rattle.tx_machine.proofs.Records.{stamp, AllRecords, AllRecords_map}
+use Rattle.tx_machine.proofs.Sets.{lookup-head}
+use Rattle.tx_machine.proofs.Invariant.{IsSomeEntry, Done, PlaceOk, RecordOk}
+use Rattle.tx_machine.proofs.Schedules as word_schedules
 use Rattle.seq_model.specs.declared.held.Held.{Held}
 use Rattle.seq_model.specs.declared.record.Record.{Record}
 use Rattle.seq_model.specs.declared.event.Event.{Event}
 use Rattle.seq_model.specs.Contents.{Contents}
 use Rattle.seq_model.specs.Runs.{after_run, state_at}
 use Rattle.seq_model.specs.Runs.{IsLegal as AreLegal}
-use Rattle.collection_machine.specs.Boosted.{Committed, Aborted, Boosted, Action, act_all, opens}
-use Rattle.collection_machine.specs.Serial.{AllAborted, after_actions, ended}
-use Rattle.collection_machine.specs.Serial as serial
-use Rattle.collection_machine.proofs.Invariant.{Inv}
-use Rattle.collection_machine.proofs.States.{Model}
-use Rattle.collection_machine.proofs.Stated.{states_serial, states_left, states_saw, states_aborted}
-use Rattle.collection_machine.proofs.Models.{fits_all}
-use Rattle.collection_machine.proofs.Schedules.{edition_few, all_ok, all-opening, all_words_saw, opens_ok}
+use Rattle.tx_machine.specs.Boosted.{Committed, Aborted, Boosted, Action, act_all, opens}
+use Rattle.tx_machine.specs.Serial.{AllAborted, after_actions, ended}
+use Rattle.tx_machine.specs.Serial as serial
+use Rattle.tx_machine.proofs.BoostedInvariant.{Inv}
+use Rattle.tx_machine.proofs.States.{Model}
+use Rattle.tx_machine.proofs.Stated.{states_serial, states_left, states_saw, states_aborted}
+use Rattle.tx_machine.proofs.Models.{fits_all}
+use Rattle.tx_machine.proofs.BoostedSchedules.{edition_few, all_ok, all-opening, all_words_saw, opens_ok}
 use Rattle.replay_log.specs.Base.{Shown}
 use Rattle.replay_log.specs.Contents.{Block, Asked, Answered, HaveStripes, is_plain, content}
 use Rattle.replay_log.proofs.CollectionRuns as runs_on
@@ -42,8 +42,8 @@ use Rattle.replay_log.specs.Worlds.{Leaving, Reading, Trying, Copying, Loading, 
 use Rattle.replay_log.specs.Worlds.{opened}
 use Rattle.std.proofs.Common.{◌≤◌, cond, Bool}
 use Rattle.std.specs.Prelude.{nat_lt}
-use Rattle.word_machine.specs.Notices as told
-use Rattle.word_machine.specs.Notices.{begin_notice}
+use Rattle.tx_machine.specs.Notices as told
+use Rattle.tx_machine.specs.Notices.{begin_notice}
 use Rattle.seq_model.specs.declared.event.Event.TheVariants.{Step}
 use Rattle.seq_model.specs.declared.event.Answer.TheVariants as answer
 use Rattle.seq_model.specs.declared.event.Notice.TheVariants as note

@@ -9,17 +9,17 @@ use Rattle.vlock_word.specs.declared.lock_word.LockWord.{LockWord}
 use Rattle.vlock_word.specs.declared.lock_word.LockWord.TheVariants.{Free, Locked}
 use Rattle.tx_sets.specs.Entries.{Entries, IsRising, lookup, with_entry, locations}
 use Rattle.tx_sets.proofs.EntryLemmas.{length-with_entry_new, length-with_entry_there, IsRising-with_entry}
-use Rattle.word_machine.specs.Actor as machine
-use Rattle.word_machine.specs.Actor.{Place, Actor, goes}
-use Rattle.word_machine.specs.Requests as word
-use Rattle.word_machine.specs.Requests.{Request, ask, wrote}
-use Rattle.word_machine.specs.World as world
-use Rattle.word_machine.specs.World.{World as Words, plan, put, Outcome}
-use Rattle.word_machine.proofs.Sets.{put-same}
-use Rattle.collection_machine.specs.Content.{Content}
-use Rattle.collection_machine.specs.Boosted.{Boosted, OnWords, TakeGate, PutGate, GoHome, word_step, writes_asked, on_words, gated, copied}
-use Rattle.collection_machine.specs.Boosted.{homed, is_none, is_actor, is_open, is_stored, is_committing, is_held, is_given, every, acts}
-use Rattle.collection_machine.proofs.Runs.{recorded_words}
+use Rattle.tx_machine.specs.Actor as machine
+use Rattle.tx_machine.specs.Actor.{Place, Actor, goes}
+use Rattle.tx_machine.specs.Requests as word
+use Rattle.tx_machine.specs.Requests.{Request, ask, wrote}
+use Rattle.tx_machine.specs.World as world
+use Rattle.tx_machine.specs.World.{World as Words, plan, put, Outcome}
+use Rattle.tx_machine.proofs.Sets.{put-same}
+use Rattle.tx_machine.specs.Content.{Content}
+use Rattle.tx_machine.specs.Boosted.{Boosted, OnWords, TakeGate, PutGate, GoHome, word_step, writes_asked, on_words, gated, copied}
+use Rattle.tx_machine.specs.Boosted.{homed, is_none, is_actor, is_open, is_stored, is_committing, is_held, is_given, every, acts}
+use Rattle.tx_machine.proofs.Runs.{recorded_words}
 use Rattle.replay_log.specs.Worlds.{new_in}
 use Rattle.replay_log.proofs.ActionLemmas.{learns, exchanges, does_learns}
 use Rattle.replay_log.proofs.CountLemmas.{new_fewer}

@@ -11,14 +11,14 @@ use Rattle.std.proofs.lemmas.Bool.{cond_both, cond-true, cond-false, cases_eq}
 use Rattle.std.proofs.lemmas.Bool.Decides.{nat_tests}
 use Rattle.tx_sets.specs.Entries.{Entries, lookup, locations}
 use Rattle.tx_sets.proofs.EntryLemmas.{length-with_entry_new}
-use Rattle.word_machine.specs.Actor as machine
-use Rattle.word_machine.specs.Actor.{Place, Actor, goes}
-use Rattle.word_machine.specs.Requests as word
-use Rattle.word_machine.specs.World as world
-use Rattle.word_machine.specs.World.{plan}
-use Rattle.word_machine.specs.Notices as told
-use Rattle.word_machine.specs.Notices.{read_reply}
-use Rattle.word_machine.proofs.Sets.{put-same}
+use Rattle.tx_machine.specs.Actor as machine
+use Rattle.tx_machine.specs.Actor.{Place, Actor, goes}
+use Rattle.tx_machine.specs.Requests as word
+use Rattle.tx_machine.specs.World as world
+use Rattle.tx_machine.specs.World.{plan}
+use Rattle.tx_machine.specs.Notices as told
+use Rattle.tx_machine.specs.Notices.{read_reply}
+use Rattle.tx_machine.proofs.Sets.{put-same}
 use Rattle.seq_model.specs.declared.call.Op.{Op}
 use Rattle.seq_model.specs.declared.call.Op.TheVariants.{Read, Write}
 use Rattle.seq_model.specs.declared.call.Reply.TheVariants as reply
@@ -30,9 +30,9 @@ use Rattle.seq_model.specs.declared.event.Request.{Request}
 use Rattle.seq_model.specs.declared.event.Request.TheVariants as request
 use Rattle.seq_model.specs.declared.event.Notice.TheVariants.{Refused}
 use Rattle.seq_model.specs.declared.limits.TheConstants.{CALL_LIMIT}
-use Rattle.collection_machine.specs.Content.{Content}
-use Rattle.collection_machine.specs.Boosted.{Boosted, TakeGate, PutGate, GoHome, Accept, accepted, longer, writes_asked, is_open, is_none}
-use Rattle.collection_machine.specs.Boosted.{is_sound, is_held, every, may_write, changes, on_words}
+use Rattle.tx_machine.specs.Content.{Content}
+use Rattle.tx_machine.specs.Boosted.{Boosted, TakeGate, PutGate, GoHome, Accept, accepted, longer, writes_asked, is_open, is_none}
+use Rattle.tx_machine.specs.Boosted.{is_sound, is_held, every, may_write, changes, on_words}
 use Rattle.replay_log.specs.Base.{Shown}
 use Rattle.replay_log.specs.Contents.{Block, Asked, Answered, HaveStripes, content}
 use Rattle.replay_log.specs.Pieces.{piece_at, covers_at}

@@ -8,15 +8,15 @@ use Rattle.std.proofs.lemmas.Bool.{cases_eq, cases_Bool, cond_both, cond-true, c
 use Rattle.std.proofs.lemmas.Bool.Decides.{nat_tests}
 use Rattle.std.proofs.lemmas.List.{append-nil, append_assoc}
 use Rattle.tx_sets.specs.Entries.{Entries, lookup, locations}
-use Rattle.word_machine.specs.Actor as machine
-use Rattle.word_machine.specs.Actor.{Place, Actor, goes}
-use Rattle.word_machine.specs.Requests as word
-use Rattle.word_machine.specs.World as world
-use Rattle.word_machine.specs.World.{plan, outcome}
-use Rattle.word_machine.specs.Notices as told
-use Rattle.word_machine.specs.Notices.{notice}
-use Rattle.word_machine.proofs.Sets.{Member, member_locations, locations_member}
-use Rattle.word_machine.proofs.Invariant.{IsSomeEntry, PlaceOk}
+use Rattle.tx_machine.specs.Actor as machine
+use Rattle.tx_machine.specs.Actor.{Place, Actor, goes}
+use Rattle.tx_machine.specs.Requests as word
+use Rattle.tx_machine.specs.World as world
+use Rattle.tx_machine.specs.World.{plan, outcome}
+use Rattle.tx_machine.specs.Notices as told
+use Rattle.tx_machine.specs.Notices.{notice}
+use Rattle.tx_machine.proofs.Sets.{Member, member_locations, locations_member}
+use Rattle.tx_machine.proofs.Invariant.{IsSomeEntry, PlaceOk}
 use Rattle.seq_model.specs.declared.call.Op.TheVariants.{Read}
 use Rattle.seq_model.specs.declared.call.Reply.TheVariants as reply
 use Rattle.seq_model.specs.declared.record.Record.{Record}
@@ -24,10 +24,10 @@ use Rattle.seq_model.specs.declared.refusal.Refusal.{Refusal}
 use Rattle.seq_model.specs.declared.refusal.Refusal.TheVariants as refusal
 use Rattle.seq_model.specs.declared.event.Notice.TheVariants.{Quiet}
 use Rattle.seq_model.specs.Runs.{insert_record}
-use Rattle.collection_machine.specs.Content.{IsIn, has}
-use Rattle.collection_machine.specs.Boosted.{Boosted, TakeGate, PutGate, GoHome, shadows_after, is_open, is_stored, is_committing, is_actor}
-use Rattle.collection_machine.specs.Boosted.{is_held, is_given, every, fresh, copied, acts, is_none}
-use Rattle.collection_machine.proofs.Schedules.{acts_led}
+use Rattle.tx_machine.specs.Content.{IsIn, has}
+use Rattle.tx_machine.specs.Boosted.{Boosted, TakeGate, PutGate, GoHome, shadows_after, is_open, is_stored, is_committing, is_actor}
+use Rattle.tx_machine.specs.Boosted.{is_held, is_given, every, fresh, copied, acts, is_none}
+use Rattle.tx_machine.proofs.BoostedSchedules.{acts_led}
 use Rattle.replay_log.specs.Base.{Shown}
 use Rattle.replay_log.specs.Contents.{Block, Asked, Answered, end_of, home_of, is_plain, content}
 use Rattle.replay_log.specs.Worlds.{World, Seat, Stage, Open, Locking, Releasing, Cancelling, Leaving, Reading, Trying, Copying, Gating}
@@ -35,7 +35,7 @@ use Rattle.replay_log.specs.Worlds.{Ready, Storing, Homing, Ended, After, at_sta
 use Rattle.replay_log.specs.Worlds.{no_one, recorded, with_call, has_begun, has_read, has_tried, takes_gates, has_locked, goes_home}
 use Rattle.replay_log.specs.Worlds.{has_stored, has_released, has_cancelled, gives_up, stores, ended, all_of, distinct, with_new}
 use Rattle.replay_log.proofs.ContentLemmas.{content_frame}
-use Rattle.word_machine.specs.Opacity.{first_read}
+use Rattle.tx_machine.specs.Opacity.{first_read}
 use Rattle.replay_log.proofs.ReadLemmas.{in_set, first_read-other, kept_at}
 use Rattle.replay_log.proofs.ActionLemmas.{Commits, Leaves, Tried, mine, learns, with_gate, without_gate, begun_shadow, step_goes}
 use Rattle.replay_log.proofs.ActionLemmas.{step_commits, step_leaves, begin_goes, store_goes, release_goes, take_tried, put_goes, home_goes}

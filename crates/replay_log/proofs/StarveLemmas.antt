@@ -1,7 +1,7 @@
 -- A failed allocation of an actor takes its request no further from its answer. Up to the first value store of a commit it aborts the
 -- request, with the gates of its stage and the locks of its actor to be put back; and no stage is nearer to its answer than those are.
 use Rattle.std.proofs.Common.{◌≡◌, ℕ, ◌+◌, ◌<◌, ◌≤◌, List, [], ◌∷◌, length, refl, sym, ap, subst, arith}
-use Rattle.word_machine.proofs.Invariant.{PlaceOk}
+use Rattle.tx_machine.proofs.Invariant.{PlaceOk}
 use Rattle.seq_model.specs.declared.refusal.Refusal.TheVariants as refusal
 use Rattle.seq_model.specs.declared.event.Event.TheVariants.{Starve}
 use Rattle.replay_log.specs.Worlds.{World, Seat, Stage, Idle, Beginning, Open, Locking, Releasing, Closing, Cancelling, Leaving, Reading}

@@ -3,20 +3,20 @@
 use Rattle.std.proofs.Common.{◌≡◌, ℕ, ◌+◌, Bool, true, false, cond, ◌&&◌, List, [], ◌∷◌, length, Option, Some, None, refl, ◌∙◌, eqb}
 use Rattle.std.specs.Prelude.{nat_lt}
 use Rattle.tx_sets.specs.Entries.{Entries, lookup, locations}
-use Rattle.word_machine.specs.Requests as word
-use Rattle.word_machine.specs.World as world
-use Rattle.word_machine.specs.World.{World as Words}
-use Rattle.word_machine.specs.Notices as told
-use Rattle.word_machine.proofs.Sets.{put-other}
+use Rattle.tx_machine.specs.Requests as word
+use Rattle.tx_machine.specs.World as world
+use Rattle.tx_machine.specs.World.{World as Words}
+use Rattle.tx_machine.specs.Notices as told
+use Rattle.tx_machine.proofs.Sets.{put-other}
 use Rattle.seq_model.specs.declared.call.Op.{Op}
 use Rattle.seq_model.specs.declared.call.Op.TheVariants.{Read, Write}
 use Rattle.seq_model.specs.declared.refusal.Refusal.TheVariants as refusal
 use Rattle.seq_model.specs.declared.event.Request.{Request}
 use Rattle.seq_model.specs.declared.event.Request.TheVariants as request
 use Rattle.seq_model.specs.declared.limits.TheConstants.{CALL_LIMIT}
-use Rattle.collection_machine.specs.Content.{Content}
-use Rattle.collection_machine.specs.Boosted.{Boosted, OnWords, on_words, is_open, is_held, is_given, is_sound, every, may_write, longer}
-use Rattle.collection_machine.specs.Boosted.{writes_asked, accepted, acts}
+use Rattle.tx_machine.specs.Content.{Content}
+use Rattle.tx_machine.specs.Boosted.{Boosted, OnWords, on_words, is_open, is_held, is_given, is_sound, every, may_write, longer}
+use Rattle.tx_machine.specs.Boosted.{writes_asked, accepted, acts}
 use Rattle.replay_log.specs.Contents.{Asked, Answered, content}
 use Rattle.replay_log.specs.Pieces.{piece_at}
 use Rattle.replay_log.specs.WorldStill.{Still}

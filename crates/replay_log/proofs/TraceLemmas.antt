@@ -8,8 +8,8 @@ use Rattle.std.specs.Prelude.{not, ◌||◌, ◌&&◌, ◌==◌, nat_lt, map, ge
 use Rattle.std.proofs.lemmas.List.{append-nil, ext_get_or}
 use Rattle.std.proofs.lemmas.List.FromFn.{get_or-map-range_with_len, length-map-range_with_len}
 use Rattle.tx_sets.specs.Entries.{Entries, lookup}
-use Rattle.word_machine.specs.Requests as word
-use Rattle.word_machine.specs.Notices as told
+use Rattle.tx_machine.specs.Requests as word
+use Rattle.tx_machine.specs.Notices as told
 use Rattle.seq_model.specs.declared.call.Op.{Op}
 use Rattle.seq_model.specs.declared.call.Op.TheVariants.{Read, Write}
 use Rattle.seq_model.specs.declared.held.Held.{Held}
@@ -25,7 +25,7 @@ use Rattle.seq_model.specs.Contents.{Contents}
 use Rattle.conflict.specs.Footprints.{all_below}
 use Rattle.base_queue.specs.Conflicts.{queue_view}
 use Rattle.base_queue.specs.FrameLemmas as queue_laws
-use Rattle.collection_machine.specs.Boosted.{TakeGate, PutGate, GoHome, is_none}
+use Rattle.tx_machine.specs.Boosted.{TakeGate, PutGate, GoHome, is_none}
 use Rattle.replay_log.specs.Base.{Shown, held_of}
 use Rattle.replay_log.specs.Parts.{part, whole}
 use Rattle.replay_log.specs.Contents.{Block, Asked, Answered, block_of, size, end_of, is_plain, HaveStripes, seen, content}

@@ -6,13 +6,13 @@ use Rattle.std.proofs.Common.{◌≡◌, ◌≢◌, ℕ, suc, ◌+◌, true, fal
 use Rattle.std.proofs.Common.{ap, subst, true≢false, eq-eqb, ne_eqb, arith}
 use Rattle.std.proofs.lemmas.Bool.{cases_eq}
 use Rattle.std.proofs.lemmas.List.{append-nil, append_assoc}
-use Rattle.word_machine.specs.Actor.{Place, Actor}
+use Rattle.tx_machine.specs.Actor.{Place, Actor}
 use Rattle.seq_model.specs.declared.event.Event.{Event}
 use Rattle.seq_model.specs.declared.event.Event.TheVariants.{Ask, Step, Starve}
 use Rattle.seq_model.specs.declared.refusal.Refusal.{Refusal}
 use Rattle.seq_model.specs.declared.refusal.Refusal.TheVariants.{GateBusy}
-use Rattle.collection_machine.specs.Content.{has}
-use Rattle.collection_machine.specs.Boosted.{is_none}
+use Rattle.tx_machine.specs.Content.{has}
+use Rattle.tx_machine.specs.Boosted.{is_none}
 use Rattle.replay_log.specs.Contents.{Block}
 use Rattle.replay_log.specs.Worlds.{World, Seat, Stage, Trying, Gating, Storing, Homing, Releasing, is_half_done, happens, run, more_tries}
 use Rattle.replay_log.specs.WorldProgress.{whose}

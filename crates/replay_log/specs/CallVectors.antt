@@ -2,11 +2,11 @@
 use Rattle.std.specs.Prelude.{◌≡◌, ℕ, zero, suc, ◌+◌, [], ◌∷◌, refl}
 use Rattle.tx_sets.specs.Entries.{Entries, lookup, with_entry, locations}
 use Rattle.tx_sets.specs.declared.access_set.TheConstants.{LOCATION_LIMIT}
-use Rattle.word_machine.specs.World.{put, comes_before, insert}
+use Rattle.tx_machine.specs.World.{put, comes_before, insert}
 use Rattle.seq_model.specs.declared.call.Op.TheVariants.{Read, Write, Get, Put, Least, Len, Peek, Enqueue}
 use Rattle.seq_model.specs.declared.refusal.Refusal.TheVariants.{Moved, Stale, GateBusy, Invalid, NoSuch, NotIdle, TooLong}
 use Rattle.seq_model.specs.declared.event.Request.TheVariants as request
-use Rattle.collection_machine.specs.Boosted.{insert_commit}
+use Rattle.tx_machine.specs.Boosted.{insert_commit}
 use Rattle.replay_log.specs.Seats.{World, actor_of}
 use Rattle.replay_log.specs.WorldScripts.{Begun, Committed, Replied, Aborted, IsRefused, Asks, Does, Steps, told, world_after}
 use Rattle.replay_log.specs.WorldScripts.{begins, begins_read, calls, asks_call, commits, asks_commit, goes_on}

@@ -2,11 +2,11 @@
 -- refused.
 use Rattle.std.specs.Prelude.{◌≡◌, ℕ, true, false, List, [], ◌∷◌, Some, refl}
 use Rattle.tx_sets.specs.Entries.{lookup, with_entry, locations}
-use Rattle.word_machine.specs.World.{put, comes_before, insert}
+use Rattle.tx_machine.specs.World.{put, comes_before, insert}
 use Rattle.seq_model.specs.declared.call.Op.TheVariants.{Read, Write, Get, Put, Peek, Enqueue}
 use Rattle.seq_model.specs.declared.refusal.Refusal.TheVariants.{Moved, Invalid, GateBusy, Memory as OutOfMemory, NotIdle, NoTransaction}
 use Rattle.seq_model.specs.declared.event.Request.TheVariants as request
-use Rattle.collection_machine.specs.Boosted.{insert_commit}
+use Rattle.tx_machine.specs.Boosted.{insert_commit}
 use Rattle.replay_log.specs.WorldScripts.{Told, Begun, Committed, Replied, Aborted, IsRefused, Asks, Steps, Starves, Lost, Left, told}
 use Rattle.replay_log.specs.WorldScripts.{leaves}
 use Rattle.replay_log.specs.WorldScripts.{begins, calls, asks_call, commits, asks_commit, goes_on}

@@ -1,14 +1,14 @@
 -- What the machine asks of each action, and which action the next step of a request does.
 use Rattle.std.specs.Prelude.{◌≡◌, ℕ, true, false, Option, Some, None, [], ◌∷◌}
 use Rattle.tx_sets.specs.Entries.{locations}
-use Rattle.word_machine.specs.Actor.{Check, Store}
-use Rattle.word_machine.specs.Requests.{AskWrite, AskStore, AskRelease}
-use Rattle.word_machine.specs.World.{Ask, Step}
-use Rattle.word_machine.specs.Requests as word
-use Rattle.word_machine.specs.Notices as told
-use Rattle.collection_machine.specs.Content.{Content}
-use Rattle.collection_machine.specs.Boosted.{Boosted, Action, OnWords, TakeGate, PutGate, Accept, GoHome, is_open, is_stored, is_committing}
-use Rattle.collection_machine.specs.Boosted.{is_actor, is_held, is_given, is_sound, every, may_write, changes}
+use Rattle.tx_machine.specs.Actor.{Check, Store}
+use Rattle.tx_machine.specs.Requests.{AskWrite, AskStore, AskRelease}
+use Rattle.tx_machine.specs.World.{Ask, Step}
+use Rattle.tx_machine.specs.Requests as word
+use Rattle.tx_machine.specs.Notices as told
+use Rattle.tx_machine.specs.Content.{Content}
+use Rattle.tx_machine.specs.Boosted.{Boosted, Action, OnWords, TakeGate, PutGate, Accept, GoHome, is_open, is_stored, is_committing}
+use Rattle.tx_machine.specs.Boosted.{is_actor, is_held, is_given, is_sound, every, may_write, changes}
 use Rattle.replay_log.specs.Contents.{Asked, content}
 use Rattle.replay_log.specs.Pieces.{covers_at}
 use Rattle.replay_log.specs.Worlds.{World, Stage, Idle, Open, Trying, Copying, Loading, Gating, Ready, Homing, Returning, asks, moves}

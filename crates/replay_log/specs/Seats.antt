@@ -1,16 +1,16 @@
 -- The actors of a world: where the request of each stands, what it keeps of its transaction, and the world that they share.
 use Rattle.std.specs.Prelude.{ℕ, Bool, false, List, [], Option, Some, None}
 use Rattle.tx_sets.specs.Entries.{Entries}
-use Rattle.word_machine.specs.Actor.{Actor}
-use Rattle.word_machine.specs.Requests as word
-use Rattle.word_machine.specs.World as machine
-use Rattle.word_machine.specs.Notices as told
+use Rattle.tx_machine.specs.Actor.{Actor}
+use Rattle.tx_machine.specs.Requests as word
+use Rattle.tx_machine.specs.World as machine
+use Rattle.tx_machine.specs.Notices as told
 use Rattle.seq_model.specs.declared.call.Call.{Call}
 use Rattle.seq_model.specs.declared.call.Reply.{Reply}
 use Rattle.seq_model.specs.declared.record.Record.{Record}
 use Rattle.seq_model.specs.declared.refusal.Refusal.{Refusal}
 use Rattle.seq_model.specs.declared.event.Notice.{Notice}
-use Rattle.collection_machine.specs.Boosted.{Boosted, Action, OnWords, act_all}
+use Rattle.tx_machine.specs.Boosted.{Boosted, Action, OnWords, act_all}
 use Rattle.replay_log.specs.Base.{Shown}
 use Rattle.replay_log.specs.Contents.{Block, Asked, content}
 use Rattle.replay_log.specs.Contents as contents

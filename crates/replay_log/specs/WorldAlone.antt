@@ -1,6 +1,6 @@
 -- A transaction beside which no other actor steps.
 use Rattle.std.specs.Prelude.{◌≡◌, ◌≢◌, ℕ, List, [], ◌∷◌, None}
-use Rattle.word_machine.specs.Progress as word
+use Rattle.tx_machine.specs.Progress as word
 use Rattle.seq_model.specs.declared.refusal.Refusal.{Refusal}
 use Rattle.seq_model.specs.declared.refusal.Refusal.TheVariants.{Moved, Busy, Stale, GateBusy, Invalid, Memory as OutOfMemory}
 use Rattle.seq_model.specs.declared.event.Event.{Event}

@@ -1,8 +1,8 @@
 -- What a refusal says as it is answered, and what it leaves.
 use Rattle.std.specs.Prelude.{◌≡◌, ◌≢◌, ◌⊎◌, ℕ, ◌<◌, ◌≤◌, length, Bool, true, false, ◌&&◌, ◌||◌, not, nat_lt, List, [], ◌∷◌, Some}
 use Rattle.tx_sets.specs.Entries.{Entries, lookup}
-use Rattle.word_machine.specs.Actor as machine
-use Rattle.word_machine.specs.Actor.{clock_limit}
+use Rattle.tx_machine.specs.Actor as machine
+use Rattle.tx_machine.specs.Actor.{clock_limit}
 use Rattle.seq_model.specs.declared.call.Op.{Op}
 use Rattle.seq_model.specs.declared.call.Op.TheVariants.{Read, Write}
 use Rattle.seq_model.specs.declared.event.Request.{Request}
@@ -12,7 +12,7 @@ use Rattle.seq_model.specs.declared.refusal.Refusal.{Refusal}
 use Rattle.seq_model.specs.declared.refusal.Refusal.TheVariants.{Exhausted, TooLong, NoTransaction, Memory as OutOfMemory}
 use Rattle.seq_model.specs.declared.event.Notice.{Notice}
 use Rattle.seq_model.specs.declared.event.Notice.TheVariants.{Quiet, Refused}
-use Rattle.collection_machine.specs.Boosted.{PutGate, is_none}
+use Rattle.tx_machine.specs.Boosted.{PutGate, is_none}
 use Rattle.replay_log.specs.Contents.{Asked, Answered, block_of}
 use Rattle.replay_log.specs.Pieces.{covers_at}
 use Rattle.replay_log.specs.WorldRefusals.{is_ending}

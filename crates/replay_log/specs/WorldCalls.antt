@@ -3,9 +3,9 @@ use Rattle.std.specs.Prelude.{ℕ, ◌+◌, Bool, true, false, ◌&&◌, ◌||�
 use Rattle.std.specs.Prelude.{filter, Option, Some, None}
 use Rattle.tx_sets.specs.Entries.{Entries, lookup}
 use Rattle.tx_sets.specs.declared.access_set.TheConstants.{LOCATION_LIMIT}
-use Rattle.word_machine.specs.Actor.{Actor}
-use Rattle.word_machine.specs.Requests as word
-use Rattle.word_machine.specs.Notices as told
+use Rattle.tx_machine.specs.Actor.{Actor}
+use Rattle.tx_machine.specs.Requests as word
+use Rattle.tx_machine.specs.Notices as told
 use Rattle.seq_model.specs.declared.call.Op.{Op}
 use Rattle.seq_model.specs.declared.call.Op.TheVariants.{Read, Write, Put, Remove, Add, Take, Insert, TakeLeast, Enqueue, Dequeue}
 use Rattle.seq_model.specs.declared.call.Call.{Call}
@@ -16,7 +16,7 @@ use Rattle.seq_model.specs.declared.event.Answer.TheVariants as answer
 use Rattle.seq_model.specs.declared.event.Notice.TheVariants.{Quiet, Answered, Refused}
 use Rattle.seq_model.specs.declared.limits.TheConstants.{CALL_LIMIT}
 use Rattle.conflict.specs.declared.outcome.Outcome.{Outcome}
-use Rattle.collection_machine.specs.Boosted.{Accept, changes, is_none}
+use Rattle.tx_machine.specs.Boosted.{Accept, changes, is_none}
 use Rattle.replay_log.specs.Base.{outcome_of}
 use Rattle.replay_log.specs.Contents.{Block, Asked, block_of, blank, content}
 use Rattle.replay_log.specs.Contents as contents

@@ -1,14 +1,14 @@
 -- Commits in a world: locks, stamp and check; the gates of the written collections; the values; the bases put back; the releases.
 use Rattle.std.specs.Prelude.{ℕ, Bool, true, not, if◌then◌else◌, List, [], ◌∷◌, filter}
 use Rattle.tx_sets.specs.Entries.{Entries, locations}
-use Rattle.word_machine.specs.Requests as word
-use Rattle.word_machine.specs.Notices as told
+use Rattle.tx_machine.specs.Requests as word
+use Rattle.tx_machine.specs.Notices as told
 use Rattle.seq_model.specs.declared.record.Record.{Record}
 use Rattle.seq_model.specs.declared.refusal.Refusal.TheVariants as refusal
 use Rattle.seq_model.specs.declared.event.Answer.TheVariants as answer
 use Rattle.seq_model.specs.declared.event.Notice.TheVariants.{Quiet, Answered}
 use Rattle.seq_model.specs.Runs.{insert_record}
-use Rattle.collection_machine.specs.Content.{has}
+use Rattle.tx_machine.specs.Content.{has}
 use Rattle.replay_log.specs.Contents.{home_of, is_plain}
 use Rattle.replay_log.specs.Seats.{Stage, Locking, Releasing, Closing, Gating, Ready, Storing, Homing, Seat, World, After, no_one, at_stage}
 use Rattle.replay_log.specs.Seats.{because, seated, acted, asks, moves, actor_of, word_notice}

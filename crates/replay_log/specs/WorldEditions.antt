@@ -5,7 +5,7 @@ use Rattle.seq_model.specs.declared.call.Reply.{Reply}
 use Rattle.seq_model.specs.declared.record.Record.{Record}
 use Rattle.seq_model.specs.Contents.{Contents}
 use Rattle.seq_model.specs.Runs.{after_call, after_calls}
-use Rattle.collection_machine.specs.Content.{IsIn, has}
+use Rattle.tx_machine.specs.Content.{IsIn, has}
 use Rattle.replay_log.specs.Base.{Shown}
 use Rattle.replay_log.specs.Contents.{Block, Answered, content}
 use Rattle.replay_log.specs.Collections.{shown_at}

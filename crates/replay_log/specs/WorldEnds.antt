@@ -1,8 +1,8 @@
 -- How a transaction ends that is refused, starved or aborted: its gates are put back, then its locks, and then the clock is loaded.
 use Rattle.std.specs.Prelude.{ℕ, zero, suc, Bool, true, false, if◌then◌else◌, List, [], ◌∷◌, ◌++◌, Option, Some, None}
-use Rattle.word_machine.specs.Actor.{Place, Leave}
-use Rattle.word_machine.specs.Requests as word
-use Rattle.word_machine.specs.Notices as told
+use Rattle.tx_machine.specs.Actor.{Place, Leave}
+use Rattle.tx_machine.specs.Requests as word
+use Rattle.tx_machine.specs.Notices as told
 use Rattle.seq_model.specs.declared.refusal.Refusal.{Refusal}
 use Rattle.seq_model.specs.declared.refusal.Refusal.TheVariants as refusal
 use Rattle.seq_model.specs.declared.event.Answer.TheVariants as answer

@@ -2,8 +2,8 @@
 use Rattle.std.specs.Prelude.{◌≡◌, ◌⊎◌, ◌==◌, ℕ, suc, ◌+◌, ◌*◌, ◌<◌, ◌≤◌, List, [], ◌∷◌, length, if◌then◌else◌}
 use Rattle.tx_sets.specs.Entries.{locations}
 use Rattle.tx_sets.specs.declared.access_set.TheConstants.{LOCATION_LIMIT}
-use Rattle.word_machine.specs.Actor.{Place, Lock, Take, Actor}
-use Rattle.word_machine.specs.Progress.{steps_left}
+use Rattle.tx_machine.specs.Actor.{Place, Lock, Take, Actor}
+use Rattle.tx_machine.specs.Progress.{steps_left}
 use Rattle.seq_model.specs.declared.event.Event.{Event}
 use Rattle.seq_model.specs.declared.event.Event.TheVariants.{Ask, Step, Starve}
 use Rattle.seq_model.specs.declared.event.Notice.{Notice}

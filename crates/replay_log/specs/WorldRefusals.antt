@@ -1,10 +1,10 @@
 -- When a refusal that a step finds is true.
 use Rattle.std.specs.Prelude.{◌≡◌, ◌≢◌, ℕ, Bool, true, false, ◌∷◌, Some, Contains}
 use Rattle.vlock_word.specs.LockWord.{bits}
-use Rattle.word_machine.specs.Actor.{Read}
-use Rattle.word_machine.specs.World.{plan}
-use Rattle.word_machine.specs.Cells.{LockCell, word_of}
-use Rattle.word_machine.specs.Refusals.{StopsRead, StopsLock, StopsCheck}
+use Rattle.tx_machine.specs.Actor.{Read}
+use Rattle.tx_machine.specs.World.{plan}
+use Rattle.tx_machine.specs.Cells.{LockCell, word_of}
+use Rattle.tx_machine.specs.Refusals.{StopsRead, StopsLock, StopsCheck}
 use Rattle.seq_model.specs.declared.refusal.Refusal.{Refusal}
 use Rattle.seq_model.specs.declared.refusal.Refusal.TheVariants.{Moved, Busy, Stale, GateBusy, Invalid}
 use Rattle.replay_log.specs.Worlds.{World, Stage, Open, Trying, Copying, Loading, Gating, Cancelling, Leaving, Returning, actor_of}

@@ -4,7 +4,7 @@ use Rattle.std.specs.Prelude.{◌≡◌, ◌⊎◌, ℕ, ◌<◌, ◌≤◌, Boo
 use Rattle.seq_model.specs.declared.record.Record.{Record}
 use Rattle.seq_model.specs.Contents.{Contents}
 use Rattle.seq_model.specs.Runs.{IsLegal, IsInCommitOrder, IsRun, after_run, state_at}
-use Rattle.collection_machine.specs.Content.{has}
+use Rattle.tx_machine.specs.Content.{has}
 use Rattle.replay_log.specs.Contents.{is_plain}
 use Rattle.replay_log.specs.Collections.{Suit, shown_at}
 use Rattle.replay_log.specs.Worlds.{World, Seat, Stage, Idle, Beginning, Ready, Storing, Homing, Releasing, Closing, Ended, is_half_done}

@@ -1,6 +1,6 @@
 -- What an event leaves that does no atomic step, and what one leaves that changes nothing.
 use Rattle.std.specs.Prelude.{◌≡◌, ◌≢◌, ℕ}
-use Rattle.collection_machine.specs.Boosted.{Boosted}
+use Rattle.tx_machine.specs.Boosted.{Boosted}
 use Rattle.replay_log.specs.Worlds.{World}
 
 -- t is as s, but for the records of actors, and the shadow of a

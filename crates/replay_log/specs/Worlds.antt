@@ -1,8 +1,8 @@
 -- A world of words and collections in which transactions overlap: what each event changes, and what it answers. A step is one atomic step,
 -- a load or a change of one word of the table, with what follows of it without a step.
 use Rattle.std.specs.Prelude.{ℕ, false, List, [], ◌∷◌, ◌++◌, length, get_or, None}
-use Rattle.word_machine.specs.Requests as word
-use Rattle.word_machine.specs.Notices as told
+use Rattle.tx_machine.specs.Requests as word
+use Rattle.tx_machine.specs.Notices as told
 use Rattle.seq_model.specs.declared.held.Held.{Held}
 use Rattle.seq_model.specs.declared.refusal.Refusal.TheVariants as refusal
 use Rattle.seq_model.specs.declared.event.Event.{Event}
@@ -11,7 +11,7 @@ use Rattle.seq_model.specs.declared.event.Request.{Request}
 use Rattle.seq_model.specs.declared.event.Request.TheVariants as request
 use Rattle.seq_model.specs.declared.event.Answer.TheVariants as answer
 use Rattle.seq_model.specs.declared.event.Notice.TheVariants.{Quiet, Answered, Refused}
-use Rattle.collection_machine.specs.Boosted.{TakeGate, PutGate, GoHome, is_none, opens}
+use Rattle.tx_machine.specs.Boosted.{TakeGate, PutGate, GoHome, is_none, opens}
 use Rattle.replay_log.specs.Contents.{Block}
 use Rattle.replay_log.specs.Pieces.{covers_at}
 use Rattle.replay_log.specs.Collections.{shown_at}

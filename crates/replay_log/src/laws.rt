@@ -10,12 +10,12 @@ ghost use Rattle.seq_model.specs.declared.call.Op.{Op};
 ghost use Rattle.seq_model.specs.declared.limits.TheConstants.{CALL_LIMIT};
 ghost use Rattle.seq_model.specs.declared.call.Call.{Call};
 ghost use Rattle.seq_model.specs.declared.held.Held.{Held};
-ghost use Rattle.word_machine.specs.Opacity.{first_read};
+ghost use Rattle.tx_machine.specs.Opacity.{first_read};
 ghost use Rattle.vlock_word.specs.declared.lock_word.LockWord.TheVariants.{Free, Locked};
 ghost use Rattle.tx_sets.specs.Entries.{Entries, lookup};
 ghost use Rattle.tx_sets.specs.declared.access_set.TheConstants.{LOCATION_LIMIT};
-ghost use Rattle.word_machine.specs.World.{put};
-ghost use Rattle.word_machine.specs.Progress.{step_limit};
+ghost use Rattle.tx_machine.specs.World.{put};
+ghost use Rattle.tx_machine.specs.Progress.{step_limit};
 ghost use Rattle.conflict.specs.declared.change.Change.{Change};
 ghost use Rattle.conflict.specs.Rules.{FrameLaws};
 ghost use Rattle.base_map.specs.Conflicts as map;
@@ -23,9 +23,9 @@ ghost use Rattle.base_bag.specs.Conflicts as bag;
 ghost use Rattle.base_pq.specs.Conflicts as pq;
 ghost use Rattle.base_queue.specs.Conflicts as queue;
 ghost use Rattle.replay_log.specs.Base.{Shown, Commute, after};
-ghost use Rattle.collection_machine.specs.Content.{Frame};
-ghost use Rattle.collection_machine.specs.Boosted.{Action};
-ghost use Rattle.collection_machine.specs.Serial.{after_actions};
+ghost use Rattle.tx_machine.specs.Content.{Frame};
+ghost use Rattle.tx_machine.specs.Boosted.{Action};
+ghost use Rattle.tx_machine.specs.Serial.{after_actions};
 ghost use Rattle.replay_log.specs.Contents.{Block, Asked, HaveStripes, content, is_plain};
 ghost use Rattle.replay_log.specs.Collections.{Suit, shown_at};
 ghost use Rattle.replay_log.specs.Log.{RaisesEach, KeepsOthers};
@@ -92,13 +92,13 @@ pub fn part_laws<V: Value>()
 {}
 
 /// The collections of a world, whose locations come after its words, one block after another, keep the frame laws of a content. So whatever
-/// `collection_machine::laws` says of a world with collections holds of these four kinds, in any number and stripes.
+/// `tx_machine::boosted_laws` says of a world with collections holds of these four kinds, in any number and stripes.
 pub fn contents<V: Value>()
     ensures frame { (words : ℕ) (blocks : List Block) → HaveStripes blocks → Frame (content {V = V} words blocks) }
 {}
 
 /// A world of words and collections whose transactions make requests, one atomic step at a time, goes through worlds of the
-/// machine's actions alone, whatever its events. So what `collection_machine::laws` says of every list of actions holds of it.
+/// machine's actions alone, whatever its events. So what `tx_machine::boosted_laws` says of every list of actions holds of it.
 pub fn requests<V: Value>()
     ensures actions { (blocks : List Block) (clock : ℕ) (values : List ℕ) (held : List (Held V)) (events : List (Event V)) →
         (actions : List (Action (Asked V)))

@@ -10,7 +10,7 @@
 //! another.
 //!
 //! Beside them `specs/` defines a whole *world* of words and collections, one atomic step at a time (`specs/Worlds.antt`), over
-//! the machine of `collection_machine`. No code here runs one; [`laws`] says of every list of its events that its records are in
+//! the machine of `tx_machine`. No code here runs one; [`laws`] says of every list of its events that its records are in
 //! serial order, what it shows, what it refuses and what a refusal leaves, and that each request is answered.
 #![tactic(auto)]
 

@@ -58,19 +58,15 @@ pub fn answer_drawn(text: &mut String, numbers: &[u64]) -> Result<(), Refusal> {
 
 fn print_action(text: &mut String, action: &Action) -> Result<(), Refusal> {
     match action {
-        Action::Reserve {
-            customer,
-            units,
-            asks,
-        } => {
+        Action::Reserve(customer, units, asks) => {
             print_named(text, "reserve", *customer)?;
             print_named(text, "", *units)?;
             print_asks(text, asks.as_slice())
         }
-        Action::Delete { customer } => print_named(text, "delete", *customer),
-        Action::Update { changes } => print_changes(text, changes.as_slice()),
-        Action::QueryItem { id, .. } => print_named(text, "item", *id),
-        Action::QueryBill { customer } => print_named(text, "bill", *customer),
+        Action::Delete(customer) => print_named(text, "delete", *customer),
+        Action::Update(changes) => print_changes(text, changes.as_slice()),
+        Action::QueryItem(_, id) => print_named(text, "item", *id),
+        Action::QueryBill(customer) => print_named(text, "bill", *customer),
     }
 }
 
@@ -94,25 +90,20 @@ fn print_changes(text: &mut String, changes: &[Change]) -> Result<(), Refusal> {
 
 fn print_change(text: &mut String, change: Change) -> Result<(), Refusal> {
     match change {
-        Change::Add {
-            kind,
-            id,
-            units,
-            price,
-        } => {
+        Change::Add(kind, id, units, price) => {
             text.push_str("add ")?;
             print_named(text, name_of(kind), id)?;
             print_named(text, "", units)?;
             print_named(text, "", price)
         }
-        Change::TakeCar { id, units } => {
+        Change::TakeCar(id, units) => {
             print_named(text, "take car", id)?;
             print_named(text, "", units)
         }
-        Change::TakeRoom { id, units } => {
+        Change::TakeRoom(id, units) => {
             print_named(text, "take room", id)?;
             print_named(text, "", units)
         }
-        Change::DropFlight { id } => print_named(text, "drop", id),
+        Change::DropFlight(id) => print_named(text, "drop", id),
     }
 }

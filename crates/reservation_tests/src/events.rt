@@ -43,9 +43,7 @@ pub fn tables_in(alloc: Global, rows: &str) -> Result<Tables, Refusal>
 
 fn action_in(alloc: Global, line: &str) -> Result<Action, Refusal> {
     if line == "nothing" {
-        return Ok(Action::Update {
-            changes: Items::new(alloc),
-        });
+        return Ok(Action::Update(Items::new(alloc)));
     }
     let mut text = String::from_str(alloc, line)?;
     text.push('\n')?;

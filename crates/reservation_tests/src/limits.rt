@@ -16,11 +16,7 @@ fn reservation(alloc: Global, units: u64, count: u64) -> Result<Action, Memory> 
             id: 1,
         })?;
     }
-    Ok(Action::Reserve {
-        customer: 1,
-        units,
-        asks,
-    })
+    Ok(Action::Reserve(1, units, asks))
 }
 
 fn update(alloc: Global, change: Change, count: u64) -> Result<Action, Memory> {
@@ -28,22 +24,17 @@ fn update(alloc: Global, change: Change, count: u64) -> Result<Action, Memory> {
     for _ in 0..count {
         changes.push(change)?;
     }
-    Ok(Action::Update { changes })
+    Ok(Action::Update(changes))
 }
 
 fn built(alloc: Global, name: &str, first: u64, second: u64) -> Result<Action, Memory> {
     let (kind, id) = (Kind::Room, 1);
-    let added = Change::Add {
-        kind,
-        id,
-        units: first,
-        price: second,
-    };
+    let added = Change::Add(kind, id, first, second);
     match name {
         "asks" => reservation(alloc, first, second),
         "adds" => update(alloc, added, 1),
-        "takes" => update(alloc, Change::TakeRoom { id, units: first }, 1),
-        _ => update(alloc, Change::DropFlight { id }, first),
+        "takes" => update(alloc, Change::TakeRoom(id, first), 1),
+        _ => update(alloc, Change::DropFlight(id), first),
     }
 }
 
@@ -114,7 +105,7 @@ pub fn answer_places(text: &mut String, tables: &Tables, numbers: &[u64]) -> Res
         flight: part_for(&who, 0),
         room: Part::Nothing,
     };
-    print_reply(text, tables, ActionReply::Reserved { parts })
+    print_reply(text, tables, ActionReply::Reserved(parts))
 }
 
 /// Whether a customer with so many bookings is the same as its copy with so many more.

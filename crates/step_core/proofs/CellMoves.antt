@@ -12,14 +12,14 @@ use Rattle.vlock_word.specs.declared.lock_word.LockWord.TheVariants.{Free, Locke
 use Rattle.vlock_word.specs.LockWord.{bits, unbits}
 use Rattle.vlock_word.proofs.LockWordLemmas.{bits_unbits, unbits_free, unbits_locked}
 use Rattle.tx_sets.specs.Entries.{Entries, locations, lookup}
-use Rattle.word_machine.specs.Actor as machine
-use Rattle.word_machine.specs.Actor.{goes, begun, seen, seen_again, seen_to_lock, to_check, stamped_at, taken, seen_in_check, freed}
-use Rattle.word_machine.specs.Actor.{after_release}
-use Rattle.word_machine.specs.World.{World, Step, happens, step, put, now}
-use Rattle.word_machine.specs.Notices.{LockedAt, Quiet, Busy, NoTransaction, Stored, Released, Cancelled, last_notice, take_notice}
-use Rattle.word_machine.specs.Notices.{when_none_left, notice, begin_notice, look_notice, again_notice, lock_notice, check_notice}
-use Rattle.word_machine.proofs.Sets.{put-same, put-other}
-use Rattle.word_machine.proofs.Worlds.{tried, locked, looked, looked_again, to_lock, checked, gives_back, released, undone, first}
+use Rattle.tx_machine.specs.Actor as machine
+use Rattle.tx_machine.specs.Actor.{goes, begun, seen, seen_again, seen_to_lock, to_check, stamped_at, taken, seen_in_check, freed}
+use Rattle.tx_machine.specs.Actor.{after_release}
+use Rattle.tx_machine.specs.World.{World, Step, happens, step, put, now}
+use Rattle.tx_machine.specs.Notices.{LockedAt, Quiet, Busy, NoTransaction, Stored, Released, Cancelled, last_notice, take_notice}
+use Rattle.tx_machine.specs.Notices.{when_none_left, notice, begin_notice, look_notice, again_notice, lock_notice, check_notice}
+use Rattle.tx_machine.proofs.Sets.{put-same, put-other}
+use Rattle.tx_machine.proofs.Worlds.{tried, locked, looked, looked_again, to_lock, checked, gives_back, released, undone, first}
 use Rattle.step_core.specs.Answers.{result_of}
 use Rattle.step_core.specs.CellSteps.{AreCells, StepsOn}
 use Rattle.step_core.specs.Shown.{actor_of, place_of}

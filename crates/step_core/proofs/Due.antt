@@ -4,17 +4,17 @@ use Rattle.std.proofs.Common.{◌≡◌, ℕ, ◌<◌, Bool, true, false, Option
 use Rattle.std.proofs.Common.{subst, arith, true≢false}
 use Rattle.std.specs.Prelude.{IfOk}
 use Rattle.tx_sets.specs.Entries.{Entries, lookup}
-use Rattle.word_machine.specs.Actor.{Place, Idle, Begin, Open, Look, Fetch, Again, Lock, Take, Check, Broken, Store, Undo, Close, Actor}
-use Rattle.word_machine.specs.Actor.{goes}
-use Rattle.word_machine.specs.Requests.{Request, AskBegin, AskBeginRead, AskLock, AskStore, AskRelease, AskCancel, AskAbort, AskClose}
-use Rattle.word_machine.specs.Requests.{AskRead, AskWrite, read, write, lock, close, abort, ask}
-use Rattle.word_machine.specs.World.{World}
-use Rattle.word_machine.specs.Notices.{Notice, Quiet, NoTransaction, Begun, Number, LockedAt, Written, Stored, Released, Cancelled, Closed}
-use Rattle.word_machine.specs.Notices.{Moved, Busy, Invalid, Exhausted, read_reply, write_reply, when_none_left, reply}
-use Rattle.word_machine.specs.Progress.{steps_left}
-use Rattle.word_machine.proofs.Sets.{put-same}
-use Rattle.word_machine.proofs.Invariant.{IsSomeEntry, PlaceOk, Inv}
-use Rattle.word_machine.proofs.Schedules.{reached}
+use Rattle.tx_machine.specs.Actor.{Place, Idle, Begin, Open, Look, Fetch, Again, Lock, Take, Check, Broken, Store, Undo, Close, Actor}
+use Rattle.tx_machine.specs.Actor.{goes}
+use Rattle.tx_machine.specs.Requests.{Request, AskBegin, AskBeginRead, AskLock, AskStore, AskRelease, AskCancel, AskAbort, AskClose}
+use Rattle.tx_machine.specs.Requests.{AskRead, AskWrite, read, write, lock, close, abort, ask}
+use Rattle.tx_machine.specs.World.{World}
+use Rattle.tx_machine.specs.Notices.{Notice, Quiet, NoTransaction, Begun, Number, LockedAt, Written, Stored, Released, Cancelled, Closed}
+use Rattle.tx_machine.specs.Notices.{Moved, Busy, Invalid, Exhausted, read_reply, write_reply, when_none_left, reply}
+use Rattle.tx_machine.specs.Progress.{steps_left}
+use Rattle.tx_machine.proofs.Sets.{put-same}
+use Rattle.tx_machine.proofs.Invariant.{IsSomeEntry, PlaceOk, Inv}
+use Rattle.tx_machine.proofs.Schedules.{reached}
 use Rattle.step_core.specs.Answers.{result_of}
 use Rattle.step_core.specs.Phases.{open_phase, undo_phase, phase_of, allows}
 use Rattle.step_core.specs.Shown.{Shown, actor_in, Asks, Reached, refusal_of}

@@ -9,7 +9,7 @@ use Rattle.step_core.specs.declared.answer.WordRefusal.TheVariants.{TooLong}
 use Rattle.tx_sets.specs.declared.access_set.TheConstants.{LOCATION_LIMIT}
 use Rattle.tx_sets.specs.Entries.{Entries, IsRising, lookup, with_entry}
 use Rattle.tx_sets.proofs.EntryLemmas.{All-with_entry, IsRising-with_entry, length-with_entry_new, length-with_entry_there}
-use Rattle.word_machine.specs.Actor.{with_read}
+use Rattle.tx_machine.specs.Actor.{with_read}
 use Rattle.step_core.specs.Phases.{if_new}
 use Rattle.std.specs.VecDeque.{deque_len, deque_capacity}
 use Rattle.std.proofs.lemmas.List.Elements.{All-append}

@@ -5,21 +5,21 @@ use Rattle.std.specs.Prelude.{IfSome, slice_get}
 use Rattle.vlock_word.specs.LockWord.{bits, unbits}
 use Rattle.vlock_word.proofs.LockWordLemmas.{bits_unbits}
 use Rattle.tx_sets.specs.Entries.{lookup}
-use Rattle.word_machine.specs.Actor as machine
-use Rattle.word_machine.specs.World.{Memory, Record, World, Event, Step, blank, happens, run, start, in_order}
-use Rattle.word_machine.specs.Opacity.{IsRun, IsInOrder, IsLegal, IsHalfDone, AllUpto, NoWriterHas, memory_after, memory_at, upto}
-use Rattle.word_machine.proofs.Invariant.{Inv}
-use Rattle.word_machine.specs.Notices.{Notice, Quiet, NoTransaction, Begun, Number, LockedAt, Written, Stored, Released, Cancelled, Closed}
-use Rattle.word_machine.specs.Notices.{Moved, Busy, Invalid, Exhausted, notice}
-use Rattle.word_machine.specs.Progress.{step_limit, steps_left, IsAnswered}
-use Rattle.word_machine.proofs.Schedules.{all_upto, reached, opened_at, legal_of, serial, aborted_later, actor_saw, run_saw, words_at_rest}
-use Rattle.word_machine.proofs.Schedules.{owned, begins_at}
-use Rattle.word_machine.proofs.Progress.{progress}
-use Rattle.word_machine.proofs.Answered.{step_other, step_further}
-use Rattle.word_machine.proofs.Short.{few}
-use Rattle.word_machine.proofs.Numbers.{unused_later}
-use Rattle.word_machine.proofs.Refusals.{notice_true, notice_names}
-use Rattle.word_machine.specs.Refusals.{IsEnding}
+use Rattle.tx_machine.specs.Actor as machine
+use Rattle.tx_machine.specs.World.{Memory, Record, World, Event, Step, blank, happens, run, start, in_order}
+use Rattle.tx_machine.specs.Opacity.{IsRun, IsInOrder, IsLegal, IsHalfDone, AllUpto, NoWriterHas, memory_after, memory_at, upto}
+use Rattle.tx_machine.proofs.Invariant.{Inv}
+use Rattle.tx_machine.specs.Notices.{Notice, Quiet, NoTransaction, Begun, Number, LockedAt, Written, Stored, Released, Cancelled, Closed}
+use Rattle.tx_machine.specs.Notices.{Moved, Busy, Invalid, Exhausted, notice}
+use Rattle.tx_machine.specs.Progress.{step_limit, steps_left, IsAnswered}
+use Rattle.tx_machine.proofs.Schedules.{all_upto, reached, opened_at, legal_of, serial, aborted_later, actor_saw, run_saw, words_at_rest}
+use Rattle.tx_machine.proofs.Schedules.{owned, begins_at}
+use Rattle.tx_machine.proofs.Progress.{progress}
+use Rattle.tx_machine.proofs.Answered.{step_other, step_further}
+use Rattle.tx_machine.proofs.Short.{few}
+use Rattle.tx_machine.proofs.Numbers.{unused_later}
+use Rattle.tx_machine.proofs.Refusals.{notice_true, notice_names}
+use Rattle.tx_machine.specs.Refusals.{IsEnding}
 use Rattle.step_core.specs.Answers.{result_of}
 use Rattle.step_core.specs.Shown.{Shown, shown, actor_in, actor_of, Steps, Reached, snapshot_of}
 use Rattle.step_core.specs.Opaque.{words_at, world_of, IsAnswerOf, IsAtRest, Opaque, AreNumbered, Saw, KeepsOthers, BeginsAbove, HasCause}

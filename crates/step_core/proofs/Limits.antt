@@ -2,11 +2,11 @@
 use Rattle.std.proofs.Common.{◌≡◌, ℕ, Bool, true, false, Option, Some, None, [], ◌∷◌, length, refl, sym, ◌∙◌, subst, true≢false}
 use Rattle.std.specs.Prelude.{nat_lt, not, ◌&&◌, if◌then◌else◌}
 use Rattle.tx_sets.specs.Entries.{Entries, lookup}
-use Rattle.word_machine.specs.Actor as machine
-use Rattle.word_machine.specs.Requests.{Request, AskBegin, AskBeginRead, AskRead, AskWrite}
-use Rattle.word_machine.specs.World.{World, run, start}
-use Rattle.word_machine.proofs.Schedules.{reached}
-use Rattle.word_machine.proofs.Declared.{has_no_sets}
+use Rattle.tx_machine.specs.Actor as machine
+use Rattle.tx_machine.specs.Requests.{Request, AskBegin, AskBeginRead, AskRead, AskWrite}
+use Rattle.tx_machine.specs.World.{World, run, start}
+use Rattle.tx_machine.proofs.Schedules.{reached}
+use Rattle.tx_machine.proofs.Declared.{has_no_sets}
 use Rattle.step_core.specs.Phases.{phase_of, undo_phase, allows, wrong_phase, if_new, location_refusal, refusal_at}
 use Rattle.step_core.specs.Shown.{Shown, actor_in, is_actor, refusal_of, IsRefusal, Reached}
 use Rattle.step_core.specs.declared.phase.Phase.{Phase}

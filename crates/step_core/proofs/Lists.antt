@@ -6,8 +6,8 @@ use Rattle.std.specs.List.{All}
 use Rattle.std.proofs.lemmas.Option.{get_or_from_slice_get}
 use Rattle.std.proofs.lemmas.Bool.{cond-true, cond-false}
 use Rattle.tx_sets.specs.Entries.{Entries, locations}
-use Rattle.word_machine.specs.Actor.{to_check}
-use Rattle.word_machine.specs.Notices.{Notice, Quiet, when_none_left}
+use Rattle.tx_machine.specs.Actor.{to_check}
+use Rattle.tx_machine.specs.Notices.{Notice, Quiet, when_none_left}
 use Rattle.step_core.specs.Shown.{actor_of}
 use Rattle.step_core.specs.declared.actor.Actor.{Actor}
 use Rattle.step_core.specs.declared.answer.WordAnswer.{WordAnswer}

@@ -9,19 +9,19 @@ use Rattle.std.specs.List.{All}
 use Rattle.std.proofs.lemmas.List.{map-set}
 use Rattle.std.proofs.lemmas.List.Elements.{All-set}
 use Rattle.std.proofs.lemmas.Bool.{cases_Bool, cases_eq}
-use Rattle.word_machine.specs.Actor as machine
+use Rattle.tx_machine.specs.Actor as machine
 use Rattle.tx_sets.specs.Entries.{Entries}
-use Rattle.word_machine.specs.World as world
-use Rattle.word_machine.specs.Requests.{Request}
+use Rattle.tx_machine.specs.World as world
+use Rattle.tx_machine.specs.Requests.{Request}
 use Rattle.vlock_word.specs.declared.lock_word.LockWord.{LockWord}
 use Rattle.vlock_word.specs.declared.lock_word.LockWord.TheVariants.{Free, Locked}
-use Rattle.word_machine.specs.Requests.{ask}
-use Rattle.word_machine.specs.World.{World, Ask, Event, Step, Outcome, GoesOn, outcome, first_outcome, happens, run, start, step, put, now}
-use Rattle.word_machine.specs.Notices.{reply, notice}
-use Rattle.word_machine.proofs.Sets.{put-same, put-other}
+use Rattle.tx_machine.specs.Requests.{ask}
+use Rattle.tx_machine.specs.World.{World, Ask, Event, Step, Outcome, GoesOn, outcome, first_outcome, happens, run, start, step, put, now}
+use Rattle.tx_machine.specs.Notices.{reply, notice}
+use Rattle.tx_machine.proofs.Sets.{put-same, put-other}
 use Rattle.vlock_word.specs.LockWord.{unbits}
-use Rattle.word_machine.specs.World.{in_order}
-use Rattle.word_machine.specs.World.{blank}
+use Rattle.tx_machine.specs.World.{in_order}
+use Rattle.tx_machine.specs.World.{blank}
 use Rattle.step_core.specs.Answers.{result_of}
 use Rattle.step_core.specs.Phases.{opens}
 use Rattle.step_core.specs.Shown.{place_of, actor_of, call_of, record_of, Shown, shown, Shows, Steps, Asks, listed, Reached}
@@ -37,9 +37,9 @@ use Rattle.step_core.specs.declared.machine.Machine.{Machine}
 use Rattle.step_core.specs.declared.machine.TheConstants.{SEATS}
 use Rattle.step_core.specs.CellSteps.{StepsOn, HaveLength, Grows}
 use Rattle.step_core.proofs.Lists.{Answer, inside, All-at}
-use Rattle.word_machine.proofs.Answered.{step_other}
-use Rattle.word_machine.specs.World.{does, plan, noted, Commits, Aborts, Deed, Rests, LoadClock, AddToClock, LoadLock, LoadValue}
-use Rattle.word_machine.specs.World.{ExchangeLock, StoreValue, StoreLock}
+use Rattle.tx_machine.proofs.Answered.{step_other}
+use Rattle.tx_machine.specs.World.{does, plan, noted, Commits, Aborts, Deed, Rests, LoadClock, AddToClock, LoadLock, LoadValue}
+use Rattle.tx_machine.specs.World.{ExchangeLock, StoreValue, StoreLock}
 
 pub actor_at_go : (xs : List Actor) (a : ℕ) (x : Actor) → slice_get xs a ≡ Some x → get_or (map actor_of xs) a blank ≡ actor_of x
 actor_at_go [] a x h = absurd (let z : None ≡ Some x = h in cc)

@@ -4,10 +4,10 @@ use Rattle.std.proofs.Common.{get_or, refl, sym, ap, ◌∙◌, subst, arith}
 use Rattle.std.specs.Vec.{vec_len}
 use Rattle.std.specs.List.{All}
 use Rattle.std.specs.Prelude.{replicate}
-use Rattle.word_machine.specs.World.{start}
+use Rattle.tx_machine.specs.World.{start}
 use Rattle.vlock_word.specs.LockWord.{unbits}
-use Rattle.word_machine.specs.World.{in_order}
-use Rattle.word_machine.specs.World.{blank}
+use Rattle.tx_machine.specs.World.{in_order}
+use Rattle.tx_machine.specs.World.{blank}
 use Rattle.step_core.specs.Shown.{actor_of, record_of, shown, Shows, Reached}
 use Rattle.step_core.specs.Sound.{Fits, owed, due, total, Sound}
 use Rattle.step_core.specs.Blank.{IsBlank, AreBlank, AreZero}

@@ -3,9 +3,9 @@ use Rattle.std.proofs.Common.{◌≡◌, ℕ, ◌<◌, ◌≤◌, Bool, true, fa
 use Rattle.std.proofs.Common.{drop, ltb-true, leb-true, arith, true≢false}
 use Rattle.std.specs.Prelude.{nat_lt, nat_le, not, ◌&&◌, if◌then◌else◌, slice_get}
 use Rattle.tx_sets.specs.Entries.{Entries, lookup, locations}
-use Rattle.word_machine.specs.Actor as machine
-use Rattle.word_machine.specs.Requests.{Request, AskBegin, AskBeginRead, AskLock, AskStore, AskRelease, AskCancel, AskAbort, AskClose}
-use Rattle.word_machine.specs.Requests.{AskRead, AskWrite}
+use Rattle.tx_machine.specs.Actor as machine
+use Rattle.tx_machine.specs.Requests.{Request, AskBegin, AskBeginRead, AskLock, AskStore, AskRelease, AskCancel, AskAbort, AskClose}
+use Rattle.tx_machine.specs.Requests.{AskRead, AskWrite}
 use Rattle.step_core.specs.Phases.{phase_of, allows, undo_phase, wrong_phase, location_refusal, if_new, refusal_at}
 use Rattle.step_core.specs.Shown.{place_of, actor_of, Shown, shown, actor_in, is_actor, refusal_of}
 use Rattle.step_core.specs.Sound.{IsWithin}

@@ -1,9 +1,9 @@
 -- The requests, answers and refusals of the code, and those of the machine.
 use Rattle.std.specs.Prelude.{Option, Some, None, Result, Ok, Err}
-use Rattle.word_machine.specs.Requests.{Request, AskBegin, AskBeginRead, AskLock, AskStore, AskRelease, AskCancel, AskAbort, AskClose}
-use Rattle.word_machine.specs.Requests.{AskRead, AskWrite}
-use Rattle.word_machine.specs.Notices as notice
-use Rattle.word_machine.specs.Notices.{Notice}
+use Rattle.tx_machine.specs.Requests.{Request, AskBegin, AskBeginRead, AskLock, AskStore, AskRelease, AskCancel, AskAbort, AskClose}
+use Rattle.tx_machine.specs.Requests.{AskRead, AskWrite}
+use Rattle.tx_machine.specs.Notices as notice
+use Rattle.tx_machine.specs.Notices.{Notice}
 use Rattle.step_core.specs.declared.answer.WordRequest.{WordRequest}
 use Rattle.step_core.specs.declared.answer.WordRequest.TheVariants.{Begin, BeginRead, Read, Write, Lock, Store, Release, Cancel, Abort}
 use Rattle.step_core.specs.declared.answer.WordRequest.TheVariants.{Close}

@@ -1,9 +1,9 @@
 -- One atomic step of an actor on the clock, the lock words and the values.
 use Rattle.std.specs.Prelude.{◌≡◌, ◌⊎◌, ℕ, ◌+◌, ◌<◌, ◌≤◌, Option, Result, get_or, length}
 use Rattle.vlock_word.specs.LockWord.{unbits}
-use Rattle.word_machine.specs.Actor.{clock_limit}
-use Rattle.word_machine.specs.World.{World, Step, happens}
-use Rattle.word_machine.specs.Notices.{notice}
+use Rattle.tx_machine.specs.Actor.{clock_limit}
+use Rattle.tx_machine.specs.World.{World, Step, happens}
+use Rattle.tx_machine.specs.Notices.{notice}
 use Rattle.step_core.specs.Answers.{result_of}
 use Rattle.step_core.specs.Shown.{actor_of}
 use Rattle.step_core.specs.Sound.{owed}

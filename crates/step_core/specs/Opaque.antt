@@ -1,13 +1,13 @@
 -- What holds of the running words, by whatever schedule they were reached.
 use Rattle.std.specs.Prelude.{◌≡◌, ℕ, ◌<◌, ◌≢◌, List, [], Option, Some, None, Result, Ok, get_or}
 use Rattle.tx_sets.specs.Entries.{lookup}
-use Rattle.word_machine.specs.Actor.{Actor, Begin, Open}
-use Rattle.word_machine.specs.Notices.{notice}
-use Rattle.word_machine.specs.Refusals.{IsTrue, NamesPlace, IsEnding}
+use Rattle.tx_machine.specs.Actor.{Actor, Begin, Open}
+use Rattle.tx_machine.specs.Notices.{notice}
+use Rattle.tx_machine.specs.Refusals.{IsTrue, NamesPlace, IsEnding}
 use Rattle.step_core.specs.Answers.{result_of}
-use Rattle.word_machine.specs.World.{Memory, World, Event, run, start, in_order}
-use Rattle.word_machine.specs.Opacity.{IsRun, IsInOrder, IsLegal, IsHalfDone, AllEnded, AllUpto, NoWriterHas, memory_after, memory_at, upto}
-use Rattle.word_machine.specs.Progress.{steps_left}
+use Rattle.tx_machine.specs.World.{Memory, World, Event, run, start, in_order}
+use Rattle.tx_machine.specs.Opacity.{IsRun, IsInOrder, IsLegal, IsHalfDone, AllEnded, AllUpto, NoWriterHas, memory_after, memory_at, upto}
+use Rattle.tx_machine.specs.Progress.{steps_left}
 use Rattle.step_core.specs.declared.answer.WordAnswer.{WordAnswer}
 use Rattle.step_core.specs.declared.answer.WordRefusal.{WordRefusal}
 use Rattle.step_core.specs.Shown.{Shown, shown, actor_in, Reached}

@@ -1,6 +1,6 @@
 -- The limits of an opening.
 use Rattle.std.specs.Prelude.{ℕ, Option, Some, None, nat_le, ◌&&◌, if◌then◌else◌}
-use Rattle.word_machine.specs.Actor.{clock_limit}
+use Rattle.tx_machine.specs.Actor.{clock_limit}
 use Rattle.step_core.specs.declared.answer.WordRefusal.{WordRefusal}
 use Rattle.step_core.specs.declared.answer.WordRefusal.TheVariants.{TooLong}
 

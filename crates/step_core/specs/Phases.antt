@@ -2,10 +2,10 @@
 use Rattle.std.specs.Prelude.{ℕ, Bool, true, false, Option, Some, None, [], ◌∷◌, length, nat_lt, not, ◌&&◌, if◌then◌else◌}
 use Rattle.tx_sets.specs.declared.access_set.TheConstants.{LOCATION_LIMIT}
 use Rattle.tx_sets.specs.Entries.{Entries, lookup}
-use Rattle.word_machine.specs.Actor.{Place, Actor}
-use Rattle.word_machine.specs.Actor as machine
-use Rattle.word_machine.specs.Requests.{Request, AskBegin, AskBeginRead, AskLock, AskStore, AskRelease, AskCancel, AskAbort, AskClose}
-use Rattle.word_machine.specs.Requests.{AskRead, AskWrite}
+use Rattle.tx_machine.specs.Actor.{Place, Actor}
+use Rattle.tx_machine.specs.Actor as machine
+use Rattle.tx_machine.specs.Requests.{Request, AskBegin, AskBeginRead, AskLock, AskStore, AskRelease, AskCancel, AskAbort, AskClose}
+use Rattle.tx_machine.specs.Requests.{AskRead, AskWrite}
 use Rattle.step_core.specs.declared.phase.Phase.{Phase}
 use Rattle.step_core.specs.declared.phase.Phase.TheVariants.{Idle, Reader, Writer, Waiting, Locking, Locked, Broken, Stored, Ended, Busy}
 use Rattle.step_core.specs.declared.answer.WordRefusal.{WordRefusal}

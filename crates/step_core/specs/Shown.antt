@@ -3,12 +3,12 @@ use Rattle.std.specs.Prelude.{◌≡◌, ℕ, Bool, true, List, [], ◌∷◌, �
 use Rattle.std.specs.Prelude.{◌&&◌, if◌then◌else◌}
 use Rattle.vlock_word.specs.LockWord.{unbits}
 use Rattle.tx_sets.specs.Entries.{Entries, locations}
-use Rattle.word_machine.specs.Actor as machine
-use Rattle.word_machine.specs.Requests.{Request, ask}
-use Rattle.word_machine.specs.World as world
-use Rattle.word_machine.specs.World.{World, Memory, Event, Ask, Step, Outcome, GoesOn, Commits, Aborts, outcome, happens, run, start}
-use Rattle.word_machine.specs.World.{in_order, blank}
-use Rattle.word_machine.specs.Notices.{notice, reply}
+use Rattle.tx_machine.specs.Actor as machine
+use Rattle.tx_machine.specs.Requests.{Request, ask}
+use Rattle.tx_machine.specs.World as world
+use Rattle.tx_machine.specs.World.{World, Memory, Event, Ask, Step, Outcome, GoesOn, Commits, Aborts, outcome, happens, run, start}
+use Rattle.tx_machine.specs.World.{in_order, blank}
+use Rattle.tx_machine.specs.Notices.{notice, reply}
 use Rattle.step_core.specs.declared.actor.Place.{Place}
 use Rattle.step_core.specs.declared.actor.Place.TheVariants.{Idle, Begin, Open, Look, Fetch, Again, Lock, Take, Check, Broken, First, Store}
 use Rattle.step_core.specs.declared.actor.Place.TheVariants.{Release, Undo, Leave, Close}

@@ -5,8 +5,8 @@ use Rattle.std.specs.VecDeque.{deque_len, deque_capacity}
 use Rattle.std.specs.List.{All}
 use Rattle.tx_sets.specs.Entries.{IsRising}
 use Rattle.tx_sets.specs.declared.access_set.TheConstants.{LOCATION_LIMIT}
-use Rattle.word_machine.specs.Actor.{clock_limit}
-use Rattle.word_machine.specs.Requests.{Request, AskRead, AskWrite}
+use Rattle.tx_machine.specs.Actor.{clock_limit}
+use Rattle.tx_machine.specs.Requests.{Request, AskRead, AskWrite}
 use Rattle.step_core.specs.declared.actor.Place.{Place}
 use Rattle.step_core.specs.declared.actor.Place.TheVariants.{Idle, Open, Look, Fetch, Again, Lock, Take, First, Store, Release, Close}
 use Rattle.step_core.specs.declared.actor.Actor.{Actor}

@@ -6,7 +6,7 @@
 //! request is answered. A step is one load, store, compare_exchange or fetch_add of one word, so a
 //! caller can play any interleaving of any transactions, step for step, and see what each answers.
 //!
-//! Every step is proved to be the step of the pure machine in `word_machine`, with its answer or its
+//! Every step is proved to be the step of the pure machine in `tx_machine`, with its answer or its
 //! refusal. So the laws of that machine hold of the running one: its history is a serial run of the
 //! words, and an open transaction has only ever seen the words of one moment of that run. The
 //! contracts of [`Words::history`], [`Words::snapshot`] and [`Words::step`] say so.

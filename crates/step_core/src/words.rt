@@ -31,8 +31,8 @@ impl Model for Words {
 impl Words {
     ghost use Rattle.std.specs.Prelude.{◌≡◌, ◌≢◌, ℕ, ◌<◌, ◌≤◌, length, map, get_or, [], true, false, None, IsOk, OnOk, OnErr, IfOk, IfErr};
     ghost use Rattle.std.specs.Prelude.{IfSome, replicate};
-    ghost use Rattle.word_machine.specs.World.{start};
-    ghost use Rattle.word_machine.specs.Progress.{step_limit};
+    ghost use Rattle.tx_machine.specs.World.{start};
+    ghost use Rattle.tx_machine.specs.Progress.{step_limit};
     ghost use Rattle.step_core.specs.Answers.{request_of};
     ghost use Rattle.step_core.specs.Phases.{takes_memory};
     ghost use Rattle.step_core.specs.Shown.{Steps, Asks, Shows, Reached, record_of, actor_in, refusal_of, IsRefusal, snapshot_of};

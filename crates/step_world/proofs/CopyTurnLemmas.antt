@@ -4,7 +4,7 @@ use Rattle.std.proofs.Common.{◌≡◌, ℕ, Bool, true, false, [], ◌∷◌, 
 use Rattle.std.specs.Prelude.{slice_get}
 use Rattle.seq_model.specs.Contents.{Contents}
 use Rattle.seq_model.specs.declared.event.Event.TheVariants.{Step}
-use Rattle.collection_machine.specs.Boosted.{Action, PutGate, is_actor, is_committing}
+use Rattle.tx_machine.specs.Boosted.{Action, PutGate, is_actor, is_committing}
 use Rattle.replay_log.specs.declared.base.Base.{Base}
 use Rattle.replay_log.specs.Contents as contents
 use Rattle.replay_log.specs.Guards.{IsAllowed, step_action}

@@ -9,7 +9,7 @@ use Rattle.seq_model.specs.declared.event.Event.{Event}
 use Rattle.seq_model.specs.declared.event.Event.TheVariants.{Step}
 use Rattle.seq_model.specs.declared.held.Held.{Held}
 use Rattle.seq_model.specs.Contents.{Contents}
-use Rattle.collection_machine.specs.Boosted.{GoHome}
+use Rattle.tx_machine.specs.Boosted.{GoHome}
 use Rattle.replay_log.specs.declared.base.Base.{Base}
 use Rattle.replay_log.specs.Base.{editions_of, locations_of, shown_of, stripes_of}
 use Rattle.replay_log.specs.Contents.{Block, HaveStripes, block_of}

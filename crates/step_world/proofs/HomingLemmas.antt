@@ -9,7 +9,7 @@ use Rattle.std.specs.declared.collections.VecDeque.{VecDeque}
 use Rattle.std.proofs.lemmas.List.Elements.{All-contains}
 use Rattle.seq_model.specs.Contents.{Contents}
 use Rattle.seq_model.specs.declared.event.Event.TheVariants.{Step}
-use Rattle.collection_machine.specs.Boosted.{is_actor}
+use Rattle.tx_machine.specs.Boosted.{is_actor}
 use Rattle.replay_log.specs.Worlds.{World, Stage, Homing, happens, opened, run}
 use Rattle.actor_laws.specs.Gates.{GoesHome}
 use Rattle.actor_laws.proofs.Alike.{alike_same}

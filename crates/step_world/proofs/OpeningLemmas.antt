@@ -2,7 +2,7 @@
 use Rattle.std.proofs.Common.{◌≡◌, ℕ, zero, suc, ◌+◌, ◌≤◌, List, [], ◌∷◌, ◌++◌, map, Some, None, length}
 use Rattle.std.proofs.Common.{refl, sym, ap, subst, arith}
 use Rattle.std.specs.Prelude.{slice_get}
-use Rattle.word_machine.specs.Actor.{clock_limit}
+use Rattle.tx_machine.specs.Actor.{clock_limit}
 use Rattle.step_world.specs.declared.opening.TheConstants.{ACTORS}
 use Rattle.seq_model.specs.Contents.{Contents}
 use Rattle.replay_log.specs.Contents.{end_of}

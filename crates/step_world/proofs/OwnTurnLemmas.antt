@@ -1,6 +1,6 @@
 -- What an event leaves of what its actor has of collections, and of what the others have, like the turns of a world.
 use Rattle.std.proofs.Common.{◌≡◌, ℕ, false}
-use Rattle.word_machine.specs.Notices as told
+use Rattle.tx_machine.specs.Notices as told
 use Rattle.seq_model.specs.declared.event.Event.TheVariants.{Ask, Starve, Step}
 use Rattle.seq_model.specs.declared.event.Request.{Request}
 use Rattle.replay_log.specs.Contents.{Asked}

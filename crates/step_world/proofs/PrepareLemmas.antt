@@ -25,7 +25,7 @@ use Rattle.world_table.specs.declared.table.Table.{Table}
 use Rattle.std.specs.declared.alloc.Global.{Global}
 use Rattle.std.specs.declared.collections.VecDeque.{VecDeque}
 use Rattle.std.specs.declared.vec.Vec.{Vec}
-use Rattle.word_machine.specs.Actor.{clock_limit}
+use Rattle.tx_machine.specs.Actor.{clock_limit}
 use Rattle.seq_model.specs.declared.limits.TheConstants.{SEATS}
 use Rattle.seq_model.specs.declared.record.Record.{Record}
 use Rattle.step_core.specs.declared.cells.Cells.{Cells}

@@ -16,7 +16,7 @@ use Rattle.seq_model.specs.declared.refusal.Refusal.TheVariants.{Memory as OutOf
 use Rattle.seq_model.specs.Calls.{IsWithinLimits}
 use Rattle.seq_model.specs.Contents.{Contents}
 use Rattle.seq_model.specs.Runs.{IsInCommitOrder, IsRun, after_run}
-use Rattle.collection_machine.specs.Content.{has}
+use Rattle.tx_machine.specs.Content.{has}
 use Rattle.replay_log.specs.Seats as seats
 use Rattle.replay_log.specs.Worlds.{World, Seat, no_one, half, is_half_done, opened, run, state}
 use Rattle.replay_log.specs.Collections.{Suit}

@@ -7,13 +7,13 @@ use Rattle.std.proofs.Common.{◌≡◌, ℕ, Bool, true, false, [], ◌∷◌, 
 use Rattle.std.proofs.Common.{sym, ap, ◌∙◌, subst, arith}
 use Rattle.std.specs.declared.alloc.Global.{Global}
 use Rattle.std.specs.declared.vec.Vec.{Vec}
-use Rattle.word_machine.specs.Actor.{Actor, goes}
-use Rattle.word_machine.specs.Requests.{AskStore}
+use Rattle.tx_machine.specs.Actor.{Actor, goes}
+use Rattle.tx_machine.specs.Requests.{AskStore}
 use Rattle.seq_model.specs.declared.call.Call.{Call}
 use Rattle.seq_model.specs.declared.call.Reply.{Reply}
 use Rattle.seq_model.specs.declared.event.Event.{Event}
 use Rattle.seq_model.specs.declared.event.Event.TheVariants.{Step, Starve}
-use Rattle.collection_machine.specs.Boosted.{Action, TakeGate, PutGate, is_actor, is_committing, is_none}
+use Rattle.tx_machine.specs.Boosted.{Action, TakeGate, PutGate, is_actor, is_committing, is_none}
 use Rattle.replay_log.specs.Contents.{Asked}
 use Rattle.replay_log.specs.Guards.{IsAllowed, step_action}
 use Rattle.replay_log.specs.Worlds.{World, Seat, Stage, After, Closing, Leaving}

@@ -6,7 +6,7 @@ use Rattle.std.proofs.Common.{refl, sym, ap, ◌∙◌, subst, inl, inr, arith}
 use Rattle.std.specs.Prelude.{slice_get, slice_set}
 use Rattle.std.proofs.lemmas.Bool.{cases_eq}
 use Rattle.std.proofs.lemmas.Bool.Decides.{nat_tests}
-use Rattle.word_machine.specs.Actor.{clock_limit}
+use Rattle.tx_machine.specs.Actor.{clock_limit}
 use Rattle.seq_model.specs.declared.limits.TheConstants.{SEATS}
 use Rattle.step_world.specs.declared.opening.TheConstants.{ACTORS}
 use Rattle.seq_model.specs.declared.event.Event.{Event}

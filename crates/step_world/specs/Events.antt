@@ -1,6 +1,6 @@
 -- What is promised of an event of a world, in the terms of the laws of worlds.
 use Rattle.std.specs.Prelude.{◌≡◌, ◌≢◌, ℕ, ◌<◌, ◌≤◌, false}
-use Rattle.word_machine.specs.Progress.{step_limit}
+use Rattle.tx_machine.specs.Progress.{step_limit}
 use Rattle.seq_model.specs.declared.event.Event.{Event}
 use Rattle.seq_model.specs.declared.event.Event.TheVariants.{Step, Starve}
 use Rattle.seq_model.specs.declared.event.Answer.TheVariants.{Begun}

@@ -1,6 +1,6 @@
 -- The parts of a running world, the world of the definitions that they are, and what an event makes of both.
 use Rattle.std.specs.Prelude.{◌≡◌, ℕ, ◌+◌, ◌≤◌, false, List, [], ◌∷◌, map, Some, length, slice_get}
-use Rattle.word_machine.specs.Actor.{clock_limit}
+use Rattle.tx_machine.specs.Actor.{clock_limit}
 use Rattle.seq_model.specs.declared.limits.TheConstants.{SEATS}
 use Rattle.step_world.specs.declared.opening.TheConstants.{ACTORS}
 use Rattle.seq_model.specs.declared.event.Event.{Event}

@@ -43,11 +43,7 @@ fn reserve(alloc: Global, customer: u64) -> Result<Action, Memory> {
         kind: Kind::Car,
         id: 1,
     };
-    Ok(Action::Reserve {
-        customer,
-        units: 1,
-        asks: Items::from_vec(vec![in alloc; car]?),
-    })
+    Ok(Action::Reserve(customer, 1, Items::from_vec(vec![in alloc; car]?)))
 }
 
 fn call_tables(alloc: Global) -> Result<(), Refusal> {
@@ -148,32 +144,27 @@ fn call_served<R: Threads + Wait + Sync>(rt: &R, alloc: Global) -> Result<(), Re
 /// The other actions.
 pub fn actions(customer: u64, kind: Kind, id: u64, changes: Items<Change>) -> [Action; 4] {
     [
-        Action::Delete { customer },
-        Action::Update { changes },
-        Action::QueryItem { kind, id },
-        Action::QueryBill { customer },
+        Action::Delete(customer),
+        Action::Update(changes),
+        Action::QueryItem(kind, id),
+        Action::QueryBill(customer),
     ]
 }
 
 pub fn changes(kind: Kind, id: u64, units: u64, price: u64) -> [Change; 4] {
     [
-        Change::Add {
-            kind,
-            id,
-            units,
-            price,
-        },
-        Change::TakeCar { id, units },
-        Change::TakeRoom { id, units },
-        Change::DropFlight { id },
+        Change::Add(kind, id, units, price),
+        Change::TakeCar(id, units),
+        Change::TakeRoom(id, units),
+        Change::DropFlight(id),
     ]
 }
 
 pub fn replies(bill: u64, served: u64, item: Item) -> [ActionReply; 4] {
     [
-        ActionReply::Deleted { bill, served },
-        ActionReply::Found { item },
-        ActionReply::Bill { sum: bill },
+        ActionReply::Deleted(bill, served),
+        ActionReply::Found(item),
+        ActionReply::Bill(bill),
         ActionReply::Absent,
     ]
 }

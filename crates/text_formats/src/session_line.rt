@@ -84,7 +84,7 @@ fn read_delete(customer: &str) -> Option<Action>
     ensures only { (action : Action) → IsAction (codes "delete" ∷ customer.now ∷ []) action → result ≡ Some action }
 {
     let customer = number(customer)?;
-    Some(Action::Delete { customer })
+    Some(Action::Delete(customer))
 }
 
 fn read_query_item(kind: &str, id: &str) -> Option<Action>
@@ -93,7 +93,7 @@ fn read_query_item(kind: &str, id: &str) -> Option<Action>
 {
     let kind = read_kind(kind)?;
     let id = number(id)?;
-    Some(Action::QueryItem { kind, id })
+    Some(Action::QueryItem(kind, id))
 }
 
 fn read_query_bill(customer: &str) -> Option<Action>
@@ -101,7 +101,7 @@ fn read_query_bill(customer: &str) -> Option<Action>
     ensures only { (action : Action) → IsAction (codes "bill" ∷ customer.now ∷ []) action → result ≡ Some action }
 {
     let customer = number(customer)?;
-    Some(Action::QueryBill { customer })
+    Some(Action::QueryBill(customer))
 }
 
 fn read_reserve(alloc: Global, customer: &str, tokens: &[&str]) -> Result<Option<Action>, Memory>
@@ -118,11 +118,7 @@ fn read_reserve(alloc: Global, customer: &str, tokens: &[&str]) -> Result<Option
     let Some(asks) = read_asks(alloc, asks)? else {
         return Ok(None);
     };
-    Ok(Some(Action::Reserve {
-        customer,
-        units,
-        asks,
-    }))
+    Ok(Some(Action::Reserve(customer, units, asks)))
 }
 
 // The units of a reservation, and its asks: where no units are written, the first token is a kind, and there is 1.
@@ -176,7 +172,7 @@ fn read_update(alloc: Global, tokens: &[&str]) -> Result<Option<Action>, Memory>
     let Some(changes) = read_changes(alloc, tokens)? else {
         return Ok(None);
     };
-    Ok(Some(Action::Update { changes }))
+    Ok(Some(Action::Update(changes)))
 }
 
 fn read_changes(alloc: Global, tokens: &[&str]) -> Result<Option<Items<Change>>, Memory>
@@ -234,12 +230,7 @@ fn read_add(kind: &str, id: &str, units: &str, price: &str) -> Option<Change>
     let id = number(id)?;
     let units = number(units)?;
     let price = number(price)?;
-    Some(Change::Add {
-        kind,
-        id,
-        units,
-        price,
-    })
+    Some(Change::Add(kind, id, units, price))
 }
 
 fn read_take(kind: &str, id: &str, units: &str) -> Option<Change>
@@ -250,8 +241,8 @@ fn read_take(kind: &str, id: &str, units: &str) -> Option<Change>
     let id = number(id)?;
     let units = number(units)?;
     match kind {
-        "car" => Some(Change::TakeCar { id, units }),
-        "room" => Some(Change::TakeRoom { id, units }),
+        "car" => Some(Change::TakeCar(id, units)),
+        "room" => Some(Change::TakeRoom(id, units)),
         _ => None,
     }
 }
@@ -261,7 +252,7 @@ fn read_drop(id: &str) -> Option<Change>
     ensures only { (change : Change) → IsChange (codes "drop" ∷ id.now ∷ []) change → result ≡ Some change }
 {
     let id = number(id)?;
-    Some(Change::DropFlight { id })
+    Some(Change::DropFlight(id))
 }
 
 fn read_kind(token: &str) -> Option<Kind>

@@ -79,11 +79,11 @@ fn print_reply(text: &mut String, reply: &ActionReply) -> Result<(), Memory>
     ensures { OnOk result (string_bytes text.new ≡ string_bytes text.old ++ reply_text reply.now) }
 {
     match reply {
-        ActionReply::Reserved { parts } => print_parts(text, parts)?,
-        ActionReply::Deleted { bill, served } => write!(text, "bill {bill} served {served}")?,
-        ActionReply::Updated { changes } => print_changes(text, changes.as_slice())?,
-        ActionReply::Found { item } => print_item(text, item)?,
-        ActionReply::Bill { sum } => write!(text, "bill {sum}")?,
+        ActionReply::Reserved(parts) => print_parts(text, parts)?,
+        ActionReply::Deleted(bill, served) => write!(text, "bill {bill} served {served}")?,
+        ActionReply::Updated(changes) => print_changes(text, changes.as_slice())?,
+        ActionReply::Found(item) => print_item(text, item)?,
+        ActionReply::Bill(sum) => write!(text, "bill {sum}")?,
         ActionReply::Absent => text.push_str("absent")?,
     }
     Ok(())
@@ -104,11 +104,11 @@ fn print_part(text: &mut String, part: &Part) -> Result<(), Memory>
 {
     match part {
         Part::Nothing => text.push_str("nothing")?,
-        Part::Already { id } => write!(text, "already {id}")?,
-        Part::Full { id } => write!(text, "full {id}")?,
-        Part::Booked { id, units, price } => write!(text, "booked {id} {units} {price}")?,
-        Part::NoFree { id } => write!(text, "nofree {id}")?,
-        Part::Waits { id, ticket } => write!(text, "waits {id} {ticket}")?,
+        Part::Already(id) => write!(text, "already {id}")?,
+        Part::Full(id) => write!(text, "full {id}")?,
+        Part::Booked(id, units, price) => write!(text, "booked {id} {units} {price}")?,
+        Part::NoFree(id) => write!(text, "nofree {id}")?,
+        Part::Waits(id, ticket) => write!(text, "waits {id} {ticket}")?,
     }
     Ok(())
 }

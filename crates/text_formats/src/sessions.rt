@@ -68,11 +68,7 @@ fn reservation<R: Rng>(
     for _ in 0..queries {
         asks.push(ask(random, greatest))?;
     }
-    Ok(Action::Reserve {
-        customer,
-        units: 1,
-        asks,
-    })
+    Ok(Action::Reserve(customer, 1, asks))
 }
 
 fn ask<R: Rng>(random: &mut R, greatest: u64) -> Ask
@@ -89,9 +85,7 @@ fn deletion<R: Rng>(random: &mut R, greatest: u64) -> Action
     requires { 0 < greatest }
     ensures { Gives (delete_drawn greatest) (R.stream random.old) result (R.stream random.new) }
 {
-    Action::Delete {
-        customer: up_to(random, greatest),
-    }
+    Action::Delete(up_to(random, greatest))
 }
 
 fn update<R: Rng>(
@@ -109,7 +103,7 @@ fn update<R: Rng>(
     for _ in 0..queries {
         changes.push(change(random, greatest))?;
     }
-    Ok(Action::Update { changes })
+    Ok(Action::Update(changes))
 }
 
 /// A hundred units more of an item, at a new price, or a hundred fewer; a flight is dropped instead.
@@ -121,16 +115,11 @@ fn change<R: Rng>(random: &mut R, greatest: u64) -> Change
     let kind = kind(random);
     let id = up_to(random, greatest);
     if below(random, 2) == 1 {
-        return Change::Add {
-            kind,
-            id,
-            units: 100,
-            price: price(random),
-        };
+        return Change::Add(kind, id, 100, price(random));
     }
     match kind {
-        Kind::Car => Change::TakeCar { id, units: 100 },
-        Kind::Flight => Change::DropFlight { id },
-        Kind::Room => Change::TakeRoom { id, units: 100 },
+        Kind::Car => Change::TakeCar(id, 100),
+        Kind::Flight => Change::DropFlight(id),
+        Kind::Room => Change::TakeRoom(id, 100),
     }
 }

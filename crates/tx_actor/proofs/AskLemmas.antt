@@ -4,11 +4,11 @@ use Rattle.std.proofs.Common.{◌≡◌, ◌≢◌, ℕ, ◌<◌, cond, ltb, Boo
 use Rattle.std.proofs.Common.{length}
 use Rattle.std.proofs.Common.{refl, sym, ap, subst, ◌∙◌, arith}
 use Rattle.tx_sets.specs.Entries.{Entries, locations}
-use Rattle.word_machine.specs.Actor as machine
-use Rattle.word_machine.specs.Notices as notice
-use Rattle.word_machine.specs.Requests as requests
-use Rattle.word_machine.specs.Requests.{ask, AskRead, AskWrite, AskLock, AskClose, AskStore}
-use Rattle.word_machine.proofs.Sets.{put-same}
+use Rattle.tx_machine.specs.Actor as machine
+use Rattle.tx_machine.specs.Notices as notice
+use Rattle.tx_machine.specs.Requests as requests
+use Rattle.tx_machine.specs.Requests.{ask, AskRead, AskWrite, AskLock, AskClose, AskStore}
+use Rattle.tx_machine.proofs.Sets.{put-same}
 use Rattle.seq_model.specs.declared.call.Call.{Call}
 use Rattle.seq_model.specs.declared.call.Reply.{Reply}
 use Rattle.seq_model.specs.declared.call.Op.TheVariants.{Read, Write}
@@ -16,7 +16,7 @@ use Rattle.seq_model.specs.declared.call.Reply.TheVariants as reply
 use Rattle.seq_model.specs.declared.event.Notice.TheVariants.{Quiet, Refused}
 use Rattle.seq_model.specs.declared.refusal.Refusal.TheVariants as refusal
 use Rattle.seq_model.specs.declared.limits.TheConstants.{CALL_LIMIT}
-use Rattle.collection_machine.specs.Boosted.{every, is_held}
+use Rattle.tx_machine.specs.Boosted.{every, is_held}
 use Rattle.replay_log.specs.Contents.{content, end_of, is_plain}
 use Rattle.replay_log.specs.Worlds as worlds
 use Rattle.replay_log.specs.Worlds.{World, Seat, After, acted, actor_of, ask_op, asks, at_stage, commits, fits, if_allowed, reads, replied}

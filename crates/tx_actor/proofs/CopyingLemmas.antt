@@ -9,9 +9,9 @@ use Rattle.std.specs.Prelude.{IsSome, slice_get}
 use Rattle.std.proofs.lemmas.Bool.{cond-true, cond-false}
 use Rattle.std.specs.Global.{Vec}
 use Rattle.tx_sets.specs.Entries.{Entries, lookup}
-use Rattle.word_machine.specs.Actor as machine
-use Rattle.word_machine.proofs.Sets.{put-same}
-use Rattle.collection_machine.specs.Boosted.{Boosted, Shadow}
+use Rattle.tx_machine.specs.Actor as machine
+use Rattle.tx_machine.proofs.Sets.{put-same}
+use Rattle.tx_machine.specs.Boosted.{Boosted, Shadow}
 use Rattle.seq_model.specs.declared.refusal.Refusal.TheVariants as refusal
 use Rattle.seq_model.specs.declared.event.Notice.TheVariants.{Refused}
 use Rattle.conflict.specs.declared.outcome.Outcome.{Outcome}

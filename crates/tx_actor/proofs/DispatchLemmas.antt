@@ -3,7 +3,7 @@
 -- at each stage, and any other leaves the world (`.._else`).
 use Rattle.std.proofs.Common.{◌≡◌, ℕ, zero, suc, eqb, length, Bool, true, false, true≢false, List, [], ◌∷◌, ◌++◌, drop, refl, sym, ap}
 use Rattle.std.proofs.Common.{subst, ◌∙◌}
-use Rattle.word_machine.specs.Notices as notice
+use Rattle.tx_machine.specs.Notices as notice
 use Rattle.seq_model.specs.declared.event.Notice.TheVariants.{Quiet}
 use Rattle.replay_log.specs.Worlds as worlds
 use Rattle.seq_model.specs.declared.refusal.Refusal.TheVariants as refusal

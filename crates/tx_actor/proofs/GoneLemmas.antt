@@ -4,7 +4,7 @@ use Rattle.std.proofs.Common.{◌≡◌, ℕ, [], ◌∷◌, None, refl, sym, su
 use Rattle.std.specs.declared.alloc.Global.{Global}
 use Rattle.std.specs.declared.collections.VecDeque.{VecDeque}
 use Rattle.tx_sets.specs.Entries.{Entries}
-use Rattle.word_machine.specs.Notices as notice
+use Rattle.tx_machine.specs.Notices as notice
 use Rattle.actor_parts.specs.declared.judged.Judged.{Judged}
 use Rattle.actor_parts.specs.declared.judged.Judged.TheVariants.{All, Next, Stale}
 use Rattle.actor_parts.specs.declared.notice.WordNotice.{WordNotice}

@@ -4,14 +4,14 @@
 use Rattle.std.proofs.Common.{◌≡◌, ℕ, true, ◌+◌, ◌<◌, List, [], ◌∷◌, Option, Some, inl, inr, refl, sym, ap, subst, ◌∙◌, arith}
 use Rattle.std.specs.Prelude.{Contains}
 use Rattle.tx_sets.specs.Entries.{Entries, lookup}
-use Rattle.word_machine.specs.Actor.{Actor, Call}
-use Rattle.word_machine.specs.Notices as notice
-use Rattle.word_machine.specs.Opacity.{first_read}
-use Rattle.word_machine.specs.Requests as word
-use Rattle.word_machine.specs.Requests.{ask}
+use Rattle.tx_machine.specs.Actor.{Actor, Call}
+use Rattle.tx_machine.specs.Notices as notice
+use Rattle.tx_machine.specs.Opacity.{first_read}
+use Rattle.tx_machine.specs.Requests as word
+use Rattle.tx_machine.specs.Requests.{ask}
 use Rattle.conflict.specs.declared.outcome.Outcome.{Outcome}
-use Rattle.collection_machine.specs.Boosted.{Accept, Shadow}
-use Rattle.collection_machine.specs.Content.{IsIn}
+use Rattle.tx_machine.specs.Boosted.{Accept, Shadow}
+use Rattle.tx_machine.specs.Content.{IsIn}
 use Rattle.replay_log.specs.Base.{Shown}
 use Rattle.replay_log.specs.Contents as contents
 use Rattle.replay_log.specs.Contents.{Block, HaveStripes, block_of, content, first_of, shifted, size}

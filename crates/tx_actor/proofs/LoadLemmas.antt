@@ -4,8 +4,8 @@
 use Rattle.std.proofs.Common.{◌≡◌, ◌≢◌, ◌==◌, ℕ, Bool, true, false, eqb-true, [], ◌∷◌, drop, Option, Some, None, refl, sym, ap, subst, ◌∙◌}
 use Rattle.std.proofs.lemmas.Bool.{cond-false}
 use Rattle.tx_sets.specs.Entries.{Entries}
-use Rattle.word_machine.specs.Actor as machine
-use Rattle.word_machine.specs.Notices as notice
+use Rattle.tx_machine.specs.Actor as machine
+use Rattle.tx_machine.specs.Notices as notice
 use Rattle.seq_model.specs.declared.event.Notice.TheVariants.{Quiet}
 use Rattle.seq_model.specs.declared.refusal.Refusal.{Refusal}
 use Rattle.seq_model.specs.declared.refusal.Refusal.TheVariants as refusal

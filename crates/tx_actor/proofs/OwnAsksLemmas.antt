@@ -2,11 +2,11 @@
 -- collections remains its own; the acceptance of a call puts its outcome there, and into the copy.
 use Rattle.std.proofs.Common.{◌≡◌, ℕ, Bool, true, false, ◌&&◌, cond, [], ◌∷◌, Some, refl, sym, ap, ◌∙◌}
 use Rattle.tx_sets.specs.Entries.{Entries}
-use Rattle.word_machine.specs.Notices as told
+use Rattle.tx_machine.specs.Notices as told
 use Rattle.seq_model.specs.declared.call.Op.TheVariants.{Read, Write}
-use Rattle.word_machine.specs.Requests.{AskWrite}
+use Rattle.tx_machine.specs.Requests.{AskWrite}
 use Rattle.conflict.specs.declared.outcome.Outcome.{Outcome}
-use Rattle.collection_machine.specs.Boosted.{Boosted, longer, requested}
+use Rattle.tx_machine.specs.Boosted.{Boosted, longer, requested}
 use Rattle.replay_log.specs.Base.{Shown}
 use Rattle.replay_log.specs.Contents.{Answered, is_plain}
 use Rattle.replay_log.specs.Worlds.{World, Seat, After, ask_op, cancels, commits, if_allowed, reads}

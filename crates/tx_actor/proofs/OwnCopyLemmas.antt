@@ -5,9 +5,9 @@ use Rattle.std.proofs.Common.{◌≡◌, ◌≢◌, ◌==◌, ℕ, ◌++◌, Boo
 use Rattle.std.proofs.Common.{None, inl, inr, refl, sym, ap, subst, ◌∙◌}
 use Rattle.std.proofs.lemmas.Bool.{cond-true, cond-false}
 use Rattle.tx_sets.specs.Entries.{Entries}
-use Rattle.word_machine.specs.Actor as machine
-use Rattle.word_machine.specs.Actor.{Call}
-use Rattle.word_machine.specs.Opacity.{first_read}
+use Rattle.tx_machine.specs.Actor as machine
+use Rattle.tx_machine.specs.Actor.{Call}
+use Rattle.tx_machine.specs.Opacity.{first_read}
 use Rattle.seq_model.specs.declared.event.Answer.TheVariants.{Replied}
 use Rattle.seq_model.specs.declared.event.Event.TheVariants.{Step}
 use Rattle.seq_model.specs.declared.event.Notice.TheVariants.{Answered, Refused}

@@ -8,7 +8,7 @@ use Rattle.std.specs.Prelude.{slice_get}
 use Rattle.std.proofs.lemmas.Bool.{cond-true, cond-false}
 use Rattle.std.proofs.Math.ListN.{set}
 use Rattle.conflict.specs.declared.outcome.Outcome.{Outcome}
-use Rattle.collection_machine.specs.Boosted.{Shadow as Part, longer}
+use Rattle.tx_machine.specs.Boosted.{Shadow as Part, longer}
 use Rattle.replay_log.specs.Base.{Shown, shown_of, stripes_of}
 use Rattle.replay_log.specs.Parts.{kind_of}
 use Rattle.replay_log.specs.Contents.{Answered, Block, HaveStripes, block_of, first_of}

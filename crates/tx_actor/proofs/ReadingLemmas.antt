@@ -8,10 +8,10 @@ use Rattle.std.specs.declared.alloc.Global.{Global}
 use Rattle.std.specs.declared.collections.VecDeque.{VecDeque}
 use Rattle.std.specs.Vec.{vec_capacity, vec_len}
 use Rattle.tx_sets.specs.Entries.{Entries, locations, with_entry}
-use Rattle.word_machine.specs.Actor as machine
-use Rattle.word_machine.specs.Actor.{with_read}
-use Rattle.word_machine.specs.Notices as notice
-use Rattle.word_machine.specs.World.{plan}
+use Rattle.tx_machine.specs.Actor as machine
+use Rattle.tx_machine.specs.Actor.{with_read}
+use Rattle.tx_machine.specs.Notices as notice
+use Rattle.tx_machine.specs.World.{plan}
 use Rattle.replay_log.specs.Contents.{end_of}
 use Rattle.replay_log.specs.Worlds.{World, acted, actor_of, moves, new_in, word_notice}
 use Rattle.replay_log.proofs.ActionLemmas.{learns}

@@ -7,10 +7,10 @@ use Rattle.std.specs.List.{All}
 use Rattle.std.specs.Vec.{vec_capacity, vec_len}
 use Rattle.tx_sets.specs.Entries.{Entries, IsRising, locations, lookup, with_entry}
 use Rattle.tx_sets.proofs.EntryLemmas.{All-with_entry, IsRising-with_entry, length-with_entry_new, length-with_entry_there}
-use Rattle.word_machine.specs.Actor as machine
-use Rattle.word_machine.specs.Requests.{ask, wrote, write}
-use Rattle.word_machine.specs.Requests as word
-use Rattle.collection_machine.specs.Boosted.{is_none}
+use Rattle.tx_machine.specs.Actor as machine
+use Rattle.tx_machine.specs.Requests.{ask, wrote, write}
+use Rattle.tx_machine.specs.Requests as word
+use Rattle.tx_machine.specs.Boosted.{is_none}
 use Rattle.seq_model.specs.declared.call.Op.{Op}
 use Rattle.replay_log.specs.Base.{shown_of, stripes_of}
 use Rattle.replay_log.specs.Contents.{Block, block_of, end_of, first_of, shifted, size}

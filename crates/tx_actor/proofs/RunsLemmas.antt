@@ -4,9 +4,9 @@ use Rattle.std.proofs.Common.{◌≡◌, ◌<◌, ◌-◌, ℕ, zero, suc, Bool,
 use Rattle.std.proofs.Common.{arith, ◌∙◌}
 use Rattle.std.proofs.Math.Seq.{drop-cons, take-suc}
 use Rattle.std.proofs.Common.{take, drop, ◌+◌, ◌++◌, get_or}
-use Rattle.word_machine.specs.Actor.{Actor}
-use Rattle.word_machine.specs.Requests.{ask, AskRelease}
-use Rattle.word_machine.proofs.Sets.{put-same}
+use Rattle.tx_machine.specs.Actor.{Actor}
+use Rattle.tx_machine.specs.Requests.{ask, AskRelease}
+use Rattle.tx_machine.proofs.Sets.{put-same}
 use Rattle.seq_model.specs.declared.event.Notice.TheVariants.{Quiet}
 use Rattle.seq_model.specs.declared.refusal.Refusal.TheVariants as refusal
 use Rattle.replay_log.specs.Worlds.{World, Seat, Stage, Gating, Ready, Homing, Releasing, Returning, takes_gates, more_tries, goes_home}

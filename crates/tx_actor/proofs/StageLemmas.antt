@@ -4,9 +4,9 @@
 -- the call that it reads for.
 use Rattle.std.proofs.Common.{◌≡◌, ◌≢◌, ◌+◌, ℕ, List, [], Option, Some, None, inl, refl, sym, ap, subst, ◌∙◌}
 use Rattle.tx_sets.specs.Entries.{Entries}
-use Rattle.word_machine.specs.Actor as machine
-use Rattle.word_machine.specs.Actor.{Call}
-use Rattle.word_machine.specs.Opacity.{first_read}
+use Rattle.tx_machine.specs.Actor as machine
+use Rattle.tx_machine.specs.Actor.{Call}
+use Rattle.tx_machine.specs.Opacity.{first_read}
 use Rattle.replay_log.specs.Contents.{HaveStripes, first_of}
 use Rattle.replay_log.specs.Worlds.{World, actor_of}
 use Rattle.actor_parts.specs.Blocks.{BlocksView, IsLaid}

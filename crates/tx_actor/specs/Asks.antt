@@ -1,7 +1,7 @@
 -- What a request makes of an actor, where the locations of its world are laid out as v says.
 use Rattle.std.specs.Prelude.{◌≡◌, ℕ, ◌<◌, true, [], ◌∷◌, length, Option, Some, None}
 use Rattle.tx_sets.specs.Entries.{locations}
-use Rattle.word_machine.specs.Requests.{AskStore}
+use Rattle.tx_machine.specs.Requests.{AskStore}
 use Rattle.seq_model.specs.declared.call.Call.{Call}
 use Rattle.seq_model.specs.declared.call.Op.TheVariants.{Read}
 use Rattle.seq_model.specs.declared.call.Reply.TheVariants as reply
@@ -9,7 +9,7 @@ use Rattle.seq_model.specs.declared.event.Notice.TheVariants.{Quiet}
 use Rattle.seq_model.specs.declared.event.Request.{Request}
 use Rattle.seq_model.specs.declared.event.Request.TheVariants as request
 use Rattle.seq_model.specs.declared.limits.TheConstants.{CALL_LIMIT}
-use Rattle.collection_machine.specs.Boosted.{every, is_held}
+use Rattle.tx_machine.specs.Boosted.{every, is_held}
 use Rattle.replay_log.specs.Contents.{content}
 use Rattle.replay_log.specs.WorldAnswers.{has_word_room, is_there}
 use Rattle.replay_log.specs.Worlds as worlds

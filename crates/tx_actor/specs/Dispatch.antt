@@ -1,6 +1,6 @@
 -- What a step makes of an actor at each stage, once its atomic action is done.
 use Rattle.std.specs.Prelude.{◌≡◌, ℕ, ◌<◌, Bool, true, false}
-use Rattle.word_machine.specs.Notices as notice
+use Rattle.tx_machine.specs.Notices as notice
 use Rattle.replay_log.specs.Worlds.{World, After, starve_at}
 use Rattle.actor_parts.specs.Dispatch.{MayGoOn, after_home, after_word}
 use Rattle.actor_parts.specs.Copies.{holds_of}

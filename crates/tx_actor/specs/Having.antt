@@ -3,9 +3,9 @@ use Rattle.std.specs.Prelude.{◌≡◌, ◌≢◌, ◌⊎◌, ℕ, List, [], �
 use Rattle.std.specs.declared.alloc.Global.{Global}
 use Rattle.std.specs.declared.collections.VecDeque.{VecDeque}
 use Rattle.tx_sets.specs.Entries.{Entries}
-use Rattle.word_machine.specs.Actor.{Call}
-use Rattle.word_machine.specs.Notices as notice
-use Rattle.word_machine.specs.Opacity.{first_read}
+use Rattle.tx_machine.specs.Actor.{Call}
+use Rattle.tx_machine.specs.Notices as notice
+use Rattle.tx_machine.specs.Opacity.{first_read}
 use Rattle.seq_model.specs.declared.event.Answer.TheVariants.{Replied}
 use Rattle.conflict.specs.declared.outcome.Outcome.{Outcome}
 use Rattle.step_core.specs.Shown as words

@@ -6,7 +6,7 @@ use Rattle.step_core.specs.Sound.{Fits, owed}
 use Rattle.conflict.specs.declared.outcome.Outcome.{Outcome}
 use Rattle.replay_log.specs.Contents.{end_of, first_of}
 use Rattle.tx_sets.specs.Entries.{Entries}
-use Rattle.word_machine.specs.Notices as notice
+use Rattle.tx_machine.specs.Notices as notice
 use Rattle.actor_parts.specs.Blocks.{BlocksView}
 use Rattle.actor_parts.specs.declared.copies.Copied.{Copied}
 use Rattle.actor_parts.specs.declared.copies.CopyOf.{CopyOf}

@@ -2,7 +2,7 @@
 -- hangs.
 use Rattle.std.specs.Prelude.{◌≡◌, ℕ, false, [], ◌∷◌}
 use Rattle.tx_sets.specs.Entries.{Entries}
-use Rattle.word_machine.specs.Notices as notice
+use Rattle.tx_machine.specs.Notices as notice
 use Rattle.replay_log.specs.Contents.{Answered}
 use Rattle.replay_log.specs.Worlds.{World, Seat, Loading, acted, moves, starve_at, step_at, word_notice}
 use Rattle.tx_actor.specs.declared.actor.TxActor.{TxActor}

@@ -3,7 +3,7 @@
 ghost use Rattle.std.specs.Prelude.{◌≡◌, ◌<◌, ℕ, [], ◌∷◌, false, true};
 ghost use Rattle.std.specs.Vec.{vec_len, vec_capacity};
 ghost use Rattle.seq_model.specs.declared.refusal.Refusal.TheVariants as refusal;
-ghost use Rattle.word_machine.specs.Notices as notice;
+ghost use Rattle.tx_machine.specs.Notices as notice;
 ghost use Rattle.replay_log.specs.Worlds.{because, gives_up};
 ghost use Rattle.tx_actor.specs.Dispatch.{HasRoom, IsGoneHome, IsToldWord, Records, Starves, waits_at};
 ghost use Rattle.actor_parts.specs.Dispatch.{after_put, after_try, is_loading, notice_told, shown_notice};

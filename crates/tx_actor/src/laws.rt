@@ -1,7 +1,7 @@
 //! The laws of the definitions that the contracts cite.
 ghost use Rattle.std.specs.Prelude.{◌≡◌, ◌≢◌, ◌<◌, ℕ, [], None, Option, Some, slice_get};
 ghost use Rattle.conflict.specs.declared.outcome.Outcome.{Outcome};
-ghost use Rattle.collection_machine.specs.Boosted.{longer};
+ghost use Rattle.tx_machine.specs.Boosted.{longer};
 ghost use Rattle.replay_log.specs.Contents.{HaveStripes};
 ghost use Rattle.actor_parts.specs.Copies.{answer_of, answered_on};
 ghost use Rattle.replay_log.specs.Worlds.{World, actor_of};

@@ -1,7 +1,7 @@
 //! What the load of a call's location makes of its actor: with the copied edition the other locations are judged, with another the copy
 //! is stale.
 ghost use Rattle.std.specs.Prelude.{◌≡◌, ◌⊎◌, Some};
-ghost use Rattle.word_machine.specs.Notices as notice;
+ghost use Rattle.tx_machine.specs.Notices as notice;
 ghost use Rattle.tx_actor.specs.Answers.{CanAccept};
 ghost use Rattle.actor_parts.specs.Dispatch.{notice_told, shown_notice};
 ghost use Rattle.tx_actor.specs.Loads.{IsLoadable, IsToldLoad, first_entry};

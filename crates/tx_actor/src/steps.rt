@@ -1,8 +1,8 @@
 //! What each stage makes of an actor, given what its step found. The contracts speak of every world that shows the actor.
 ghost use Rattle.std.specs.Prelude.{◌≡◌, ◌<◌, All, ◌≤◌, ◌==◌, ℕ, true, false, List, [], ◌∷◌, ◌++◌, take, drop, length, if◌then◌else◌};
 ghost use Rattle.std.specs.Vec.{vec_len, vec_capacity};
-ghost use Rattle.word_machine.specs.Notices as notice;
-ghost use Rattle.word_machine.specs.Requests.{ask, AskBegin, AskBeginRead};
+ghost use Rattle.tx_machine.specs.Notices as notice;
+ghost use Rattle.tx_machine.specs.Requests.{ask, AskBegin, AskBeginRead};
 ghost use Rattle.seq_model.specs.declared.event.Request.TheVariants as request;
 ghost use Rattle.step_core.specs.Shown.{actor_of};
 ghost use Rattle.seq_model.specs.declared.event.Answer.TheVariants as answer;

@@ -9,17 +9,17 @@ use Rattle.std.proofs.lemmas.Bool.{cond_both, cases_eq}
 use Rattle.vlock_word.specs.declared.lock_word.LockWord.{LockWord}
 use Rattle.vlock_word.specs.declared.lock_word.LockWord.TheVariants.{Free, Locked}
 use Rattle.tx_sets.specs.Entries.{Entries, lookup}
-use Rattle.word_machine.specs.Actor as machine
-use Rattle.word_machine.specs.Actor.{Actor, Place, goes}
-use Rattle.word_machine.specs.Notices as told
-use Rattle.word_machine.specs.Requests as word
-use Rattle.word_machine.specs.World as world
-use Rattle.word_machine.specs.World.{World as Words, plan, put}
-use Rattle.word_machine.proofs.Invariant.{IsSomeEntry, PlaceOk}
-use Rattle.word_machine.proofs.Sets.{lookup-head, lookup-tail, put-same}
+use Rattle.tx_machine.specs.Actor as machine
+use Rattle.tx_machine.specs.Actor.{Actor, Place, goes}
+use Rattle.tx_machine.specs.Notices as told
+use Rattle.tx_machine.specs.Requests as word
+use Rattle.tx_machine.specs.World as world
+use Rattle.tx_machine.specs.World.{World as Words, plan, put}
+use Rattle.tx_machine.proofs.Invariant.{IsSomeEntry, PlaceOk}
+use Rattle.tx_machine.proofs.Sets.{lookup-head, lookup-tail, put-same}
 use Rattle.seq_model.specs.declared.event.Event.TheVariants.{Step}
 use Rattle.seq_model.specs.declared.refusal.Refusal.TheVariants as refusal
-use Rattle.collection_machine.specs.Boosted.{TakeGate, PutGate, is_none}
+use Rattle.tx_machine.specs.Boosted.{TakeGate, PutGate, is_none}
 use Rattle.replay_log.specs.Contents.{content}
 use Rattle.replay_log.specs.Worlds.{World, Seat, Stage, Idle, Beginning, Open, Locking, Releasing, Closing, Cancelling, Leaving, Reading}
 use Rattle.replay_log.specs.Worlds.{Trying, Copying, Loading, Gating, Ready, Storing, Homing, Returning, After, because, acted, moves}

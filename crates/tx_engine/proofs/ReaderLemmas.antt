@@ -12,8 +12,8 @@ use Rattle.std.specs.FinMap.{FinMap}
 use Rattle.std.specs.Ordering.{nat_cmp}
 use Rattle.std.proofs.lemmas.Bool.{cond-true}
 use Rattle.tx_sets.specs.Entries.{Entries, lookup}
-use Rattle.word_machine.specs.Actor as machine
-use Rattle.word_machine.proofs.Calls.{touched}
+use Rattle.tx_machine.specs.Actor as machine
+use Rattle.tx_machine.proofs.Calls.{touched}
 use Rattle.seq_model.specs.Changes.{changes}
 use Rattle.seq_model.specs.Counts.{Multiset}
 use Rattle.seq_model.specs.Runs.{is_writer}
@@ -32,9 +32,9 @@ use Rattle.base_pq.specs.Conflicts as pq_rules
 use Rattle.base_pq.specs.FrameLemmas as pq_laws
 use Rattle.base_queue.specs.Conflicts as queue_rules
 use Rattle.base_queue.specs.FrameLemmas as queue_laws
-use Rattle.collection_machine.specs.Content.{IsIn}
-use Rattle.collection_machine.specs.Serial.{AreLegal}
-use Rattle.collection_machine.proofs.Parts.{Untouched}
+use Rattle.tx_machine.specs.Content.{IsIn}
+use Rattle.tx_machine.specs.Serial.{AreLegal}
+use Rattle.tx_machine.proofs.Parts.{Untouched}
 use Rattle.replay_log.specs.Base.{Shown, outcome_of, writes_of}
 use Rattle.replay_log.specs.Parts.{Kind, MapKind, BagKind, PqKind, QueueKind, whole}
 use Rattle.replay_log.specs.Contents.{Block, Answered, answer, content, shifted, writes_in}

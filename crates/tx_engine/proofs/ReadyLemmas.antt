@@ -8,7 +8,7 @@ use Rattle.seq_model.specs.declared.event.Request.TheVariants as request
 use Rattle.seq_model.specs.declared.record.Record.{Record}
 use Rattle.seq_model.specs.declared.refusal.Refusal.{Refusal}
 use Rattle.seq_model.specs.declared.refusal.Refusal.TheVariants.{NoTransaction}
-use Rattle.word_machine.specs.World.{blank}
+use Rattle.tx_machine.specs.World.{blank}
 use Rattle.step_core.specs.Blank.{IsBlank}
 use Rattle.replay_log.specs.Seats.{World, Seat, no_one}
 use Rattle.replay_log.specs.Worlds.{written_homes}

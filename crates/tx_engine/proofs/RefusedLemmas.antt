@@ -9,9 +9,9 @@ use Rattle.std.proofs.Common.{◌<◌, true≢false, arith}
 use Rattle.std.specs.Prelude.{is_some}
 use Rattle.std.proofs.lemmas.Bool.{cases_eq}
 use Rattle.std.proofs.lemmas.List.{append-nil}
-use Rattle.word_machine.specs.Notices as told
-use Rattle.word_machine.specs.Requests as word
-use Rattle.word_machine.proofs.Sets.{put-same}
+use Rattle.tx_machine.specs.Notices as told
+use Rattle.tx_machine.specs.Requests as word
+use Rattle.tx_machine.proofs.Sets.{put-same}
 use Rattle.seq_model.specs.declared.event.Answer.TheVariants as answer
 use Rattle.seq_model.specs.declared.event.Event.{Event}
 use Rattle.seq_model.specs.declared.event.Event.TheVariants.{Ask, Step, Starve}
@@ -20,7 +20,7 @@ use Rattle.seq_model.specs.declared.event.Notice.TheVariants as notice
 use Rattle.seq_model.specs.declared.event.Request.{Request}
 use Rattle.seq_model.specs.declared.event.Request.TheVariants as request
 use Rattle.seq_model.specs.declared.refusal.Refusal.{Refusal}
-use Rattle.collection_machine.specs.Boosted.{GoHome, PutGate}
+use Rattle.tx_machine.specs.Boosted.{GoHome, PutGate}
 use Rattle.replay_log.specs.WorldAnswers.{IsRefusedAt, RefusedBy, changes_at}
 use Rattle.replay_log.specs.WorldRefusals.{is_ending}
 use Rattle.replay_log.specs.WorldTraces.{committed_by, is_half_done}

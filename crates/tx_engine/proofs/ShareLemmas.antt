@@ -8,8 +8,8 @@ use Rattle.seq_model.specs.declared.call.Reply.{Reply}
 use Rattle.seq_model.specs.declared.event.Event.{Event}
 use Rattle.seq_model.specs.declared.event.Event.TheVariants.{Ask, Step, Starve}
 use Rattle.seq_model.specs.declared.event.Request.{Request}
-use Rattle.collection_machine.specs.Boosted.{is_actor}
-use Rattle.collection_machine.specs.Content.{has}
+use Rattle.tx_machine.specs.Boosted.{is_actor}
+use Rattle.tx_machine.specs.Content.{has}
 use Rattle.replay_log.proofs.SeatLemmas.{gates_of}
 use Rattle.replay_log.specs.Seats as worlds
 use Rattle.replay_log.specs.Seats.{World, Seat, Stage, Storing, Homing, Releasing}

@@ -9,7 +9,7 @@ use mathlib.Core.Option.{Option, none, some, some-injective, some-ne-none}
 use native.Mathlib.Decide.{dec_lt}
 use lib.ListN.{get_elem?}
 use Rattle.atomic_table.specs.Table.{State}
-use Rattle.word_machine.specs.Cells.{ValueCell}
+use Rattle.tx_machine.specs.Cells.{ValueCell}
 use Rattle.seq_model.specs.Contents.{Contents}
 use Rattle.replay_log.specs.declared.base.Base.{Base}
 use Rattle.replay_log.specs.Collections.{shown_at}

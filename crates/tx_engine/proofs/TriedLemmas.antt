@@ -6,15 +6,15 @@
 -- no gate between its requests, whatever it has asked since its last turn.
 use Rattle.std.proofs.Common.{◌≡◌, ℕ, ◌+◌, Bool, true, false, cond, List, [], ◌∷◌, ◌++◌, Some, refl, sym, ap, ◌∙◌, subst, append_assoc}
 use Rattle.std.proofs.Common.{arith, eq-eqb, ne_eqb}
-use Rattle.word_machine.specs.Requests as word
-use Rattle.word_machine.proofs.Sets.{put-same}
+use Rattle.tx_machine.specs.Requests as word
+use Rattle.tx_machine.proofs.Sets.{put-same}
 use Rattle.seq_model.specs.declared.call.Call.{Call}
 use Rattle.seq_model.specs.declared.call.Reply.{Reply}
 use Rattle.seq_model.specs.declared.event.Event.{Event}
 use Rattle.seq_model.specs.declared.event.Event.TheVariants.{Ask, Step, Starve}
 use Rattle.seq_model.specs.declared.event.Request.{Request}
 use Rattle.seq_model.specs.declared.refusal.Refusal.TheVariants.{GateBusy, Memory as OutOfMemory}
-use Rattle.collection_machine.specs.Boosted.{is_actor}
+use Rattle.tx_machine.specs.Boosted.{is_actor}
 use Rattle.replay_log.specs.Contents.{HaveStripes}
 use Rattle.replay_log.specs.WorldRefusals.{IsLastTry}
 use Rattle.replay_log.specs.WorldTries.{AllVain, InVain, IsVain, steps_of, tried_at}

@@ -9,10 +9,10 @@ use Rattle.std.proofs.Common.{refl, sym, ap, ◌∙◌, subst, append_assoc, len
 use Rattle.std.specs.Prelude.{◌==◌, if◌then◌else◌}
 use Rattle.std.proofs.lemmas.Bool.{cond-true, cond-false}
 use Rattle.std.proofs.lemmas.List.{append-nil}
-use Rattle.word_machine.proofs.Sets.{put-same}
+use Rattle.tx_machine.proofs.Sets.{put-same}
 use Rattle.seq_model.specs.declared.event.Event.{Event}
 use Rattle.seq_model.specs.declared.event.Event.TheVariants.{Ask, Step, Starve}
-use Rattle.collection_machine.specs.Boosted.{Action, TakeGate, is_actor, is_none}
+use Rattle.tx_machine.specs.Boosted.{Action, TakeGate, is_actor, is_none}
 use Rattle.replay_log.specs.declared.base.Base.{Base}
 use Rattle.replay_log.specs.Contents.{Asked}
 use Rattle.replay_log.specs.WorldTries.{tried_at}

@@ -8,7 +8,7 @@ use Rattle.std.specs.Prelude.{map, ◌==◌, if◌then◌else◌}
 use Rattle.std.proofs.lemmas.Bool.{cases_Bool, cond-false, cond-true, cond_both}
 use mathlib.Core.Option.{some}
 use lib.ListN.{get_elem?}
-use Rattle.collection_machine.specs.Content.{has}
+use Rattle.tx_machine.specs.Content.{has}
 use Rattle.tx_table.specs.Shown.{total}
 use Rattle.tx_table.proofs.Numbers.{total_part}
 

@@ -6,7 +6,7 @@ use Rattle.atomic_table.specs.Table.{State}
 use Rattle.seq_model.specs.Contents.{Contents}
 use Rattle.seq_model.specs.declared.event.Event.{Event}
 use Rattle.seq_model.specs.declared.record.Record.{Record}
-use Rattle.collection_machine.specs.Content.{has}
+use Rattle.tx_machine.specs.Content.{has}
 use Rattle.replay_log.specs.Seats.{World}
 use Rattle.replay_log.specs.WorldSerial.{AllSaw, IsSerial, SawAt}
 use Rattle.replay_log.specs.Worlds.{run}

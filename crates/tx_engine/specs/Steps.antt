@@ -3,7 +3,7 @@ use Rattle.std.specs.Prelude.{◌≡◌, ℕ, ◌-◌, ◌<◌, false, List, len
 use mathlib.Core.Option.{some}
 use lib.ListN.{get_elem?}
 use Rattle.atomic_table.specs.Table.{State}
-use Rattle.word_machine.specs.Cells.{ValueCell}
+use Rattle.tx_machine.specs.Cells.{ValueCell}
 use Rattle.seq_model.specs.Contents.{Contents}
 use Rattle.seq_model.specs.Runs.{after_run}
 use Rattle.seq_model.specs.declared.event.Event.{Event}

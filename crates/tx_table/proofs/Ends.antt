@@ -15,10 +15,10 @@ use native.Mathlib.Decide.{ℕ_discrete, dec_lt}
 use lib.ListN.{get_elem?}
 use Rattle.atomic_table.specs.Table.{State, Splits, Joins}
 use Rattle.atomic_table.proofs.Lists.{at_set}
-use Rattle.word_machine.specs.Cells.{ClockCell, ValueCell}
+use Rattle.tx_machine.specs.Cells.{ClockCell, ValueCell}
 use Rattle.seq_model.specs.declared.held.Held.{Held}
 use Rattle.seq_model.specs.Contents.{Contents}
-use Rattle.collection_machine.specs.Boosted.{is_actor}
+use Rattle.tx_machine.specs.Boosted.{is_actor}
 use Rattle.replay_log.specs.Collections.{Suit, shown_at}
 use Rattle.seq_model.specs.Runs.{after_run}
 use Rattle.seq_model.specs.declared.event.Event.{Event}
@@ -40,7 +40,7 @@ use Rattle.tx_table.proofs.Numbers.{total_set, total_snoc, total_append, there, 
 use Rattle.tx_table.proofs.Numbers.{at_set_same, in_front}
 use Rattle.tx_table.proofs.Keeps.{owed_some, still_joined}
 use Rattle.tx_table.proofs.Left.{shows_left, suit_within}
-use Rattle.word_machine.specs.Actor.{clock_limit}
+use Rattle.tx_machine.specs.Actor.{clock_limit}
 
 module _ {V : Type 0} where
   pub splits : (o w : World V) (id k : ℕ) (v : View V) → IsOpening o → 0 < k → k < v.shares → Splits (Shows o w) id v (left_of k v)

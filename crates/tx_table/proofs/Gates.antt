@@ -12,12 +12,12 @@ use prog.Atomic.{either}
 use mathlib.Core.Option.{Option, none, some}
 use lib.ListN.{get_elem?}
 use Rattle.atomic_table.specs.Table.{State, Me, Act, keeps, takes, gives, Valid, carried_after, stepped, rest as rest_of}
-use Rattle.word_machine.specs.Actor.{Actor, clock_limit}
-use Rattle.word_machine.specs.Cells.{ClockCell}
-use Rattle.word_machine.proofs.Sets.{put-same}
+use Rattle.tx_machine.specs.Actor.{Actor, clock_limit}
+use Rattle.tx_machine.specs.Cells.{ClockCell}
+use Rattle.tx_machine.proofs.Sets.{put-same}
 use Rattle.seq_model.specs.declared.event.Event.{Event}
 use Rattle.seq_model.specs.declared.event.Event.TheVariants.{Step}
-use Rattle.collection_machine.specs.Boosted.{Action, TakeGate, PutGate, GoHome, is_actor, is_none, is_committing, is_stored}
+use Rattle.tx_machine.specs.Boosted.{Action, TakeGate, PutGate, GoHome, is_actor, is_none, is_committing, is_stored}
 use Rattle.seq_model.specs.declared.record.Record.{Record}
 use Rattle.replay_log.specs.declared.base.Base.{Base}
 use Rattle.replay_log.specs.Base.{Shown, editions_of, shown_of, stripes_of}

@@ -11,12 +11,12 @@ use native.Mathlib.Decide.{ℕ_discrete}
 use lib.ListN.{get_elem?}
 use Rattle.atomic_table.specs.Table.{State, Me, keeps, stepped, Allows}
 use Rattle.atomic_table.proofs.Lists.{at_set}
-use Rattle.word_machine.specs.Actor.{Actor, Place, clock_limit}
-use Rattle.word_machine.specs.Cells.{Cell, ClockCell, LockCell, ValueCell, cell, becomes}
+use Rattle.tx_machine.specs.Actor.{Actor, Place, clock_limit}
+use Rattle.tx_machine.specs.Cells.{Cell, ClockCell, LockCell, ValueCell, cell, becomes}
 use Rattle.seq_model.specs.declared.event.Event.{Event}
 use Rattle.seq_model.specs.declared.event.Event.TheVariants.{Step}
 use Rattle.seq_model.specs.declared.record.Record.{Record}
-use Rattle.collection_machine.specs.Boosted.{is_actor}
+use Rattle.tx_machine.specs.Boosted.{is_actor}
 use Rattle.std.specs.Prelude.{Option as Maybe}
 use Rattle.replay_log.specs.declared.base.Base.{Base}
 use Rattle.replay_log.specs.Contents.{Block, end_of, home_of, is_plain}

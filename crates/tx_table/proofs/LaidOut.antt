@@ -8,8 +8,8 @@ use mathlib.Core.Option.{some, some-injective, some-ne-none}
 use lib.ListN.{get_elem?}
 use Rattle.seq_model.specs.Contents.{Contents}
 use Rattle.seq_model.specs.declared.event.Shape.{Shape}
-use Rattle.word_machine.specs.Actor.{clock_limit}
-use Rattle.word_machine.specs.Cells.{Cell, ClockCell, LockCell, ValueCell, cell}
+use Rattle.tx_machine.specs.Actor.{clock_limit}
+use Rattle.tx_machine.specs.Cells.{Cell, ClockCell, LockCell, ValueCell, cell}
 use Rattle.replay_log.specs.Collections.{Suit}
 use Rattle.replay_log.specs.Contents.{HaveStripes}
 use Rattle.replay_log.proofs.ContentLemmas.{end_above}

@@ -11,7 +11,7 @@ use Rattle.std.proofs.lemmas.Option.{slice_get_within}
 use mathlib.Core.Option.{Option, some, some-injective}
 use lib.ListN.{get_elem?, length-drop}
 use lib.Seq.{get_or-drop}
-use Rattle.word_machine.specs.Cells.{ValueCell}
+use Rattle.tx_machine.specs.Cells.{ValueCell}
 use Rattle.seq_model.specs.declared.held.Held.{Held}
 use Rattle.seq_model.specs.Calls.{IsWithinLimits}
 use Rattle.conflict.specs.Footprints.{all_below}

@@ -9,7 +9,7 @@ use lib.ListN.{get_elem?}
 use lib.Seq.{set-get_or}
 use Rattle.atomic_table.specs.Table.{Me, Allows, Splits, Joins, Final, Seen, keeps}
 use Rattle.atomic_table.proofs.Lists.{at_set}
-use Rattle.word_machine.specs.Cells.{ClockCell}
+use Rattle.tx_machine.specs.Cells.{ClockCell}
 use Rattle.replay_log.specs.Base.{held_of, shown_of}
 use Rattle.replay_log.specs.Seats.{World}
 use Rattle.replay_log.specs.Worlds.{run}

@@ -7,7 +7,7 @@ use Rattle.std.proofs.Common.{⊎_elim, length, sym, refl, ap, ◌∙◌, subst,
 use Rattle.std.specs.Prelude.{if◌then◌else◌, MatchOption}
 use prog.Atomic.{either}
 use Rattle.atomic_table.specs.Table.{State, Me, Allows, rest, turned as shifted}
-use Rattle.word_machine.specs.Cells.{Cell, ClockCell}
+use Rattle.tx_machine.specs.Cells.{Cell, ClockCell}
 use Rattle.seq_model.specs.declared.event.Event.{Event}
 use Rattle.seq_model.specs.declared.record.Record.{Record}
 use Rattle.replay_log.specs.declared.base.Base.{Base}

@@ -7,14 +7,14 @@ use Rattle.std.proofs.Common.{◌≡◌, ℕ, ◌+◌, true, false, List, [], �
 use Rattle.std.proofs.Common.{◌≢◌, append-nil, eq-eqb, ne_eqb}
 use Rattle.std.specs.Prelude.{◌==◌}
 use Rattle.std.proofs.lemmas.Bool.{cond_both, cond-false, cond-true}
-use Rattle.word_machine.specs.Requests as word
-use Rattle.word_machine.specs.World as machine
-use Rattle.word_machine.specs.Cells.{Cell, cell, word_of}
+use Rattle.tx_machine.specs.Requests as word
+use Rattle.tx_machine.specs.World as machine
+use Rattle.tx_machine.specs.Cells.{Cell, cell, word_of}
 use Rattle.seq_model.specs.declared.event.Event.{Event}
 use Rattle.seq_model.specs.declared.event.Event.TheVariants.{Ask, Step, Starve}
 use Rattle.seq_model.specs.declared.record.Record.{Record}
 use Rattle.seq_model.specs.Runs.{comes_before, insert_record}
-use Rattle.collection_machine.specs.Boosted.{Action, OnWords, TakeGate, PutGate, Accept, GoHome}
+use Rattle.tx_machine.specs.Boosted.{Action, OnWords, TakeGate, PutGate, Accept, GoHome}
 use Rattle.replay_log.specs.declared.base.Base.{Base}
 use Rattle.replay_log.specs.Contents.{Asked}
 use Rattle.replay_log.specs.Seats.{World, Ended, Seat, Stage, Closing, Copying, Leaving, Ready, acted, asks}

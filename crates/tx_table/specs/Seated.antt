@@ -1,10 +1,10 @@
 -- A seat with what its actor has asked since its last step, and what a step makes of it.
 use Rattle.std.specs.Prelude.{◌≡◌, ◌⊎◌, ℕ, ◌+◌, List, [], ◌∷◌, ◌++◌, Option, Some, None, false, ◌==◌, if◌then◌else◌}
-use Rattle.word_machine.specs.Cells.{Cell, ClockCell, becomes}
+use Rattle.tx_machine.specs.Cells.{Cell, ClockCell, becomes}
 use Rattle.seq_model.specs.declared.event.Event.{Event}
 use Rattle.seq_model.specs.Contents.{Contents}
 use Rattle.seq_model.specs.declared.event.Event.TheVariants.{Step}
-use Rattle.collection_machine.specs.Boosted.{is_actor}
+use Rattle.tx_machine.specs.Boosted.{is_actor}
 use Rattle.replay_log.specs.declared.base.Base.{Base}
 use Rattle.replay_log.specs.Contents.{Block, block_of, first_of}
 use Rattle.actor_parts.specs.Blocks.{kind_of}

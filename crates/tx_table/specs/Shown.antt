@@ -7,13 +7,13 @@ use Rattle.std.specs.Prelude.{take, length, get_or, slice_get, Option as Maybe, 
 use mathlib.Core.Option.{Option, none, some}
 use lib.ListN.{get_elem?}
 use Rattle.atomic_table.specs.Table.{Act, Me, State, Valid, carried_after, stepped}
-use Rattle.word_machine.specs.Actor.{Place, clock_limit}
-use Rattle.word_machine.specs.Cells.{Cell, cell}
+use Rattle.tx_machine.specs.Actor.{Place, clock_limit}
+use Rattle.tx_machine.specs.Cells.{Cell, cell}
 use Rattle.seq_model.specs.declared.limits.TheConstants.{ACTOR_LIMIT}
 use Rattle.seq_model.specs.declared.event.Event.{Event}
 use Rattle.seq_model.specs.declared.event.Event.TheVariants.{Step}
 use Rattle.seq_model.specs.declared.record.Record.{Record}
-use Rattle.collection_machine.specs.Boosted.{is_actor}
+use Rattle.tx_machine.specs.Boosted.{is_actor}
 use Rattle.replay_log.specs.declared.base.Base.{Base}
 use Rattle.replay_log.specs.Contents.{Block, HaveStripes, block_of, content, end_of, first_of, home_of, is_plain}
 use Rattle.replay_log.specs.Base.{held_of, shown_of, stripes_of}

@@ -2,15 +2,15 @@
 use Rattle.std.specs.Prelude.{◌≡◌, ℕ, true, List, [], ◌∷◌, None, refl}
 use Rattle.tx_sets.specs.Entries.{lookup, with_entry, locations}
 use Rattle.vlock_word.specs.LockWord.{unbits}
-use Rattle.word_machine.specs.World.{put, comes_before, insert}
-use Rattle.word_machine.specs.Cells.{ClockCell, LockCell, ValueCell}
+use Rattle.tx_machine.specs.World.{put, comes_before, insert}
+use Rattle.tx_machine.specs.Cells.{ClockCell, LockCell, ValueCell}
 use Rattle.seq_model.specs.declared.call.Op.TheVariants.{Read, Write}
 use Rattle.seq_model.specs.declared.call.Reply.TheVariants.{Done, Number}
 use Rattle.seq_model.specs.declared.event.Event.{Event}
 use Rattle.seq_model.specs.declared.event.Event.TheVariants.{Ask}
 use Rattle.seq_model.specs.declared.event.Request.{Request}
 use Rattle.seq_model.specs.declared.event.Request.TheVariants as request
-use Rattle.collection_machine.specs.Boosted.{insert_commit}
+use Rattle.tx_machine.specs.Boosted.{insert_commit}
 use Rattle.replay_log.specs.Seats.{World}
 use Rattle.replay_log.specs.Worlds.{opened}
 use Rattle.tx_table.specs.Layout.{address, gate_address, width}

@@ -2,7 +2,7 @@
 ghost use Rattle.std.specs.Prelude.{◌≡◌, ◌≢◌, ◌+◌, ◌^◌, ◌<◌, ◌≤◌, ◌∷◌, ◌++◌, [], MatchOption, None, Some, length};
 ghost use Rattle.atomic_table.specs.Table.{rest};
 ghost use Rattle.actor_laws.specs.Gates.{Tries};
-ghost use Rattle.word_machine.specs.Cells.{ClockCell, LockCell, ValueCell};
+ghost use Rattle.tx_machine.specs.Cells.{ClockCell, LockCell, ValueCell};
 ghost use Rattle.tx_table.specs.Shown.{highest_clock, IsBaseAt, looking};
 ghost use Rattle.tx_table.specs.Seated.{
   Adds,

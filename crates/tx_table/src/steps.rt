@@ -1,7 +1,7 @@
 //! One atomic step each, which takes in what the seat's actor has asked.
 ghost use Rattle.std.specs.Prelude.{◌≡◌, ◌+◌, ◌<◌, ◌≤◌, ◌∷◌, ◌++◌, ℕ, List, [], None, Some, MatchOption, length};
 ghost use Rattle.atomic_table.specs.Table.{rest};
-ghost use Rattle.word_machine.specs.Cells.{Cell, ClockCell};
+ghost use Rattle.tx_machine.specs.Cells.{Cell, ClockCell};
 ghost use Rattle.seq_model.specs.declared.event.Event.{Event};
 ghost use Rattle.actor_laws.specs.Gates.{Tries};
 ghost use Rattle.tx_table.specs.Layout.{address, gate_address, IsInside};

@@ -1,9 +1,9 @@
 -- A request of a seat's actor: the world with the seat alone takes it in as the definitions do. It finds nothing, so it is the same to the
 -- actor in the world that events have reached, and some events lead to what it leaves.
 use Rattle.std.proofs.Common.{◌≡◌, ℕ, ◌+◌, ◌<◌, ◌≤◌, false, List, [], ◌∷◌, ◌++◌, refl, sym, ap, ◌∙◌, subst}
-use Rattle.word_machine.specs.Actor as machine
-use Rattle.word_machine.specs.Cells.{ClockCell}
-use Rattle.word_machine.proofs.Declared.{has_no_sets}
+use Rattle.tx_machine.specs.Actor as machine
+use Rattle.tx_machine.specs.Cells.{ClockCell}
+use Rattle.tx_machine.proofs.Declared.{has_no_sets}
 use Rattle.seq_model.specs.declared.event.Event.{Event}
 use Rattle.seq_model.specs.declared.event.Event.TheVariants.{Ask, Step, Starve}
 use Rattle.seq_model.specs.declared.event.Request.{Request}

@@ -10,12 +10,12 @@ use Rattle.vlock_word.specs.declared.lock_word.LockWord.TheVariants.{Free, Locke
 use Rattle.vlock_word.specs.LockWord.{bits, unbits}
 use Rattle.vlock_word.proofs.LockWordLemmas.{bits_unbits, unbits_free}
 use Rattle.tx_sets.specs.Entries.{Entries, IsRising, locations, lookup}
-use Rattle.word_machine.specs.Actor as machine
-use Rattle.word_machine.specs.Actor.{goes, seen_to_lock, stamped_at, taken, seen_in_check, freed, after_release, to_check}
-use Rattle.word_machine.specs.World.{Deed, Rests, AddToClock, LoadLock, StoreValue, StoreLock, plan, first_store, release, undo}
-use Rattle.word_machine.specs.Cells.{learns}
-use Rattle.word_machine.specs.Notices.{Notice, Quiet, Busy, Stored, Released, Cancelled, LockedAt, take_notice, lock_notice, check_notice}
-use Rattle.word_machine.specs.Notices.{when_none_left, last_notice}
+use Rattle.tx_machine.specs.Actor as machine
+use Rattle.tx_machine.specs.Actor.{goes, seen_to_lock, stamped_at, taken, seen_in_check, freed, after_release, to_check}
+use Rattle.tx_machine.specs.World.{Deed, Rests, AddToClock, LoadLock, StoreValue, StoreLock, plan, first_store, release, undo}
+use Rattle.tx_machine.specs.Cells.{learns}
+use Rattle.tx_machine.specs.Notices.{Notice, Quiet, Busy, Stored, Released, Cancelled, LockedAt, take_notice, lock_notice, check_notice}
+use Rattle.tx_machine.specs.Notices.{when_none_left, last_notice}
 use Rattle.actor_laws.specs.Tells.{tells}
 use Rattle.step_core.specs.Answers.{result_of}
 use Rattle.step_core.specs.Shown.{actor_of, place_of}

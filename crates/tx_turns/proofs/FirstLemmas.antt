@@ -4,15 +4,15 @@
 -- and in the one where the number found is planted, as in the world that events have reached. The step after it is one of the words.
 use Rattle.std.proofs.Common.{◌≡◌, ℕ, Bool, true, false, ◌||◌, List, [], ◌∷◌, Option, Some, None, Result, refl, sym, ap, ◌∙◌, subst}
 use Rattle.tx_sets.specs.Entries.{Entries, locations}
-use Rattle.word_machine.proofs.Invariant.{IsSomeEntry}
-use Rattle.word_machine.specs.Actor as machine
-use Rattle.word_machine.specs.Actor.{goes}
-use Rattle.word_machine.specs.Cells.{Cell, becomes, cell, learns, word_of}
-use Rattle.word_machine.specs.Requests.{AskStore}
-use Rattle.word_machine.specs.World.{Rests, first_store, plan}
+use Rattle.tx_machine.proofs.Invariant.{IsSomeEntry}
+use Rattle.tx_machine.specs.Actor as machine
+use Rattle.tx_machine.specs.Actor.{goes}
+use Rattle.tx_machine.specs.Cells.{Cell, becomes, cell, learns, word_of}
+use Rattle.tx_machine.specs.Requests.{AskStore}
+use Rattle.tx_machine.specs.World.{Rests, first_store, plan}
 use Rattle.seq_model.specs.declared.event.Event.TheVariants.{Step}
-use Rattle.collection_machine.specs.Boosted.{every, is_actor, is_held}
-use Rattle.collection_machine.specs.Content.{has}
+use Rattle.tx_machine.specs.Boosted.{every, is_actor, is_held}
+use Rattle.tx_machine.specs.Content.{has}
 use Rattle.replay_log.proofs.ActionLemmas.{mine, store_goes}
 use Rattle.replay_log.proofs.GuardLemmas.{world_allows}
 use Rattle.replay_log.proofs.SeatLemmas.{StageOk, gates_of}

@@ -5,16 +5,16 @@ use Rattle.std.specs.Prelude.{filter}
 use Rattle.vlock_word.proofs.LockWordLemmas.{bits_unbits}
 use Rattle.vlock_word.specs.LockWord.{bits, unbits}
 use Rattle.tx_sets.specs.Entries.{Entries, locations}
-use Rattle.word_machine.specs.Actor as machine
-use Rattle.word_machine.specs.Actor.{Actor, Place}
-use Rattle.word_machine.specs.Cells.{Cell, ClockCell, LockCell, ValueCell, cell, learns, word_of}
-use Rattle.word_machine.specs.World as machine_world
-use Rattle.word_machine.specs.World.{Deed, StoreLock, StoreValue, outcome, plan}
-use Rattle.word_machine.proofs.Cells.{step_learns}
-use Rattle.word_machine.proofs.Sets.{put-same}
-use Rattle.collection_machine.proofs.Runs.{recorded_words}
-use Rattle.collection_machine.specs.Boosted.{Boosted, is_given, recorded, shadows_after}
-use Rattle.collection_machine.specs.Content.{has}
+use Rattle.tx_machine.specs.Actor as machine
+use Rattle.tx_machine.specs.Actor.{Actor, Place}
+use Rattle.tx_machine.specs.Cells.{Cell, ClockCell, LockCell, ValueCell, cell, learns, word_of}
+use Rattle.tx_machine.specs.World as machine_world
+use Rattle.tx_machine.specs.World.{Deed, StoreLock, StoreValue, outcome, plan}
+use Rattle.tx_machine.proofs.Cells.{step_learns}
+use Rattle.tx_machine.proofs.Sets.{put-same}
+use Rattle.tx_machine.proofs.Runs.{recorded_words}
+use Rattle.tx_machine.specs.Boosted.{Boosted, is_given, recorded, shadows_after}
+use Rattle.tx_machine.specs.Content.{has}
 use Rattle.replay_log.proofs.ActionLemmas.{mine}
 use Rattle.replay_log.proofs.SeatLemmas.{AtLocking, gates_of}
 use Rattle.replay_log.proofs.SetLemmas.{IsNoRead, moved_is, step_sets}

@@ -4,14 +4,14 @@
 -- step of the words is next the word actor is not idle. All this is said of what is the actor's own, so it holds of its lone world too.
 use Rattle.std.proofs.Common.{◌≡◌, ℕ, List, [], ◌∷◌, Option, Some, refl, sym, ap, ◌∙◌, subst}
 use Rattle.tx_sets.specs.Entries.{Entries}
-use Rattle.collection_machine.specs.Content.{has}
-use Rattle.collection_machine.specs.Boosted.{Action, is_actor}
-use Rattle.word_machine.specs.Actor.{Actor, Place, Idle, Begin, Open, Look, Fetch, Again, Lock, Take, Check, Broken, First, Store, Release}
-use Rattle.word_machine.specs.Actor.{Undo, Leave, Close}
-use Rattle.word_machine.specs.World as words
-use Rattle.word_machine.specs.World.{Rests, plan, first_store, release, undo}
-use Rattle.word_machine.specs.Notices.{NoTransaction, last_notice, notice, Stored, Released, Cancelled}
-use Rattle.word_machine.proofs.Invariant.{IsSomeEntry, PlaceOk}
+use Rattle.tx_machine.specs.Content.{has}
+use Rattle.tx_machine.specs.Boosted.{Action, is_actor}
+use Rattle.tx_machine.specs.Actor.{Actor, Place, Idle, Begin, Open, Look, Fetch, Again, Lock, Take, Check, Broken, First, Store, Release}
+use Rattle.tx_machine.specs.Actor.{Undo, Leave, Close}
+use Rattle.tx_machine.specs.World as words
+use Rattle.tx_machine.specs.World.{Rests, plan, first_store, release, undo}
+use Rattle.tx_machine.specs.Notices.{NoTransaction, last_notice, notice, Stored, Released, Cancelled}
+use Rattle.tx_machine.proofs.Invariant.{IsSomeEntry, PlaceOk}
 use Rattle.replay_log.specs.Contents.{Asked, Block}
 use Rattle.replay_log.specs.Guards.{IsAllowed, step_action}
 use Rattle.replay_log.specs.Seats as seats

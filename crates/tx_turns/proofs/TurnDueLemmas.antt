@@ -1,9 +1,9 @@
 -- What is next for the word actor of a running actor is what the world with its seat alone does next: at a stage of the words the step is
 -- on the word that the machine plans, and that word becomes what the machine makes of it.
 use Rattle.std.proofs.Common.{◌≡◌, ℕ, ◌+◌, eqb, cond, Some, refl, sym, ap, ◌∙◌}
-use Rattle.word_machine.specs.Actor as machine
-use Rattle.word_machine.specs.Cells.{ClockCell, becomes, word_of}
-use Rattle.word_machine.specs.World.{Deed, plan}
+use Rattle.tx_machine.specs.Actor as machine
+use Rattle.tx_machine.specs.Cells.{ClockCell, becomes, word_of}
+use Rattle.tx_machine.specs.World.{Deed, plan}
 use Rattle.replay_log.specs.Guards.{step_action}
 use Rattle.replay_log.specs.Seats.{World, Stage, Ready, actor_of, moves}
 use Rattle.actor_laws.specs.Spots.{Spot, Word, deed_of, spot_at, spot_by, spot_of}

@@ -5,17 +5,17 @@
 -- number is planted there. In that world the step is the machine's, by what was found (`FoundLemmas`), and then what the stage makes of it,
 -- which is what the running actor makes of itself.
 use Rattle.std.proofs.Common.{◌≡◌, ℕ, ◌<◌, ◌≤◌, false, List, [], ◌∷◌, ◌++◌, Option, Some, None, Result, refl, sym, ap, ◌∙◌, subst}
-use Rattle.word_machine.specs.Actor as machine
-use Rattle.word_machine.specs.Actor.{Place}
-use Rattle.word_machine.specs.Cells.{Cell, ClockCell, LockCell, ValueCell, cell, learns, word_of}
-use Rattle.word_machine.specs.World.{Deed, Rests, LoadClock, AddToClock, LoadLock, LoadValue, ExchangeLock, StoreValue, StoreLock, plan}
+use Rattle.tx_machine.specs.Actor as machine
+use Rattle.tx_machine.specs.Actor.{Place}
+use Rattle.tx_machine.specs.Cells.{Cell, ClockCell, LockCell, ValueCell, cell, learns, word_of}
+use Rattle.tx_machine.specs.World.{Deed, Rests, LoadClock, AddToClock, LoadLock, LoadValue, ExchangeLock, StoreValue, StoreLock, plan}
 use Rattle.std.specs.declared.alloc.Global.{Global}
 use Rattle.std.specs.declared.vec.Vec.{Vec}
 use Rattle.seq_model.specs.declared.call.Call.{Call}
 use Rattle.seq_model.specs.declared.call.Reply.{Reply}
 use Rattle.seq_model.specs.declared.event.Event.TheVariants.{Step}
 use Rattle.seq_model.specs.declared.record.Record.{Record}
-use Rattle.collection_machine.specs.Content.{has}
+use Rattle.tx_machine.specs.Content.{has}
 use Rattle.replay_log.proofs.ActionLemmas.{mine}
 use Rattle.replay_log.proofs.SeatLemmas.{Copy, StageOk, gates_of}
 use Rattle.replay_log.specs.declared.base.Base.{Base}

@@ -1,10 +1,10 @@
 -- The step of the words that is next for an actor, and what it makes of the number that the step found.
 use Rattle.std.specs.Prelude.{◌≡◌, ℕ, ◌+◌, ◌*◌, ◌<◌, ◌≤◌, ◌^◌, Option, Result, length}
 use Rattle.vlock_word.specs.declared.lock_word.LockWord.TheVariants.{Free}
-use Rattle.word_machine.specs.Actor as machine
-use Rattle.word_machine.specs.Cells.{learns}
+use Rattle.tx_machine.specs.Actor as machine
+use Rattle.tx_machine.specs.Cells.{learns}
 use Rattle.vlock_word.specs.declared.lock_word.LockWord.{LockWord}
-use Rattle.word_machine.specs.World.{Deed, Rests, LoadClock, AddToClock, LoadLock, LoadValue, ExchangeLock, StoreValue, StoreLock, plan}
+use Rattle.tx_machine.specs.World.{Deed, Rests, LoadClock, AddToClock, LoadLock, LoadValue, ExchangeLock, StoreValue, StoreLock, plan}
 use Rattle.actor_laws.specs.Tells.{tells}
 use Rattle.step_core.specs.Answers.{result_of}
 use Rattle.step_core.specs.Shown.{actor_of}

@@ -16,7 +16,7 @@ use Rattle.tx_table.specs.Turns.{moved, spot}
 use Rattle.tx_table.specs.Shown.{IsReached, Slot}
 use Rattle.tx_table.specs.Seated.{Owns, Takes, actor, acts, blocks_in, opening_of, out, turned, view, words_in}
 use Rattle.actor_laws.specs.Spots.{Word}
-use Rattle.word_machine.specs.Cells.{ClockCell}
+use Rattle.tx_machine.specs.Cells.{ClockCell}
 use Rattle.actor_parts.specs.Dispatch.{next_of}
 use Rattle.actor_parts.specs.declared.next.Next.{Next}
 use Rattle.actor_parts.specs.declared.next.Next.TheVariants as next

@@ -1,13 +1,13 @@
 -- What one atomic step on the table asks of a seat, and what it leaves.
 use Rattle.std.specs.Prelude.{◌≡◌, ℕ, ◌+◌, ◌<◌, ◌≤◌, ◌^◌, ◌==◌, if◌then◌else◌, None, Option, Result}
 use Rattle.tx_table.specs.Shown.{highest_clock}
-use Rattle.word_machine.specs.Cells.{ClockCell, LockCell, ValueCell}
+use Rattle.tx_machine.specs.Cells.{ClockCell, LockCell, ValueCell}
 use Rattle.replay_log.specs.Seats.{World}
 use Rattle.actor_laws.specs.Spots.{Spot, Nowhere, Word}
 use Rattle.tx_table.specs.declared.seat.Seat.{Seat}
 use Rattle.tx_table.specs.Turns.{spot}
 use Rattle.tx_table.specs.Seated.{Takes, actor, acts, out, turned, view}
-use Rattle.word_machine.specs.World.{plan}
+use Rattle.tx_machine.specs.World.{plan}
 use Rattle.step_core.specs.Shown.{actor_of}
 use Rattle.step_core.specs.declared.actor.Actor.{Actor}
 use Rattle.step_core.specs.declared.answer.WordAnswer.{WordAnswer}

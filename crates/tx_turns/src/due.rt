@@ -1,7 +1,7 @@
 //! The atomic step of the words that is next for an actor.
 ghost use Rattle.std.specs.Prelude.{◌≡◌, ℕ, ◌<◌, length};
 ghost use Rattle.std.specs.VecDeque.{deque_len};
-ghost use Rattle.word_machine.specs.World.{plan};
+ghost use Rattle.tx_machine.specs.World.{plan};
 ghost use Rattle.step_core.specs.Shown.{actor_of};
 ghost use Rattle.step_core.specs.Sound.{Fits};
 ghost use Rattle.step_core.specs.declared.actor.Place.TheVariants.{Check, First, Lock, Release, Store, Take, Undo};

@@ -1,6 +1,6 @@
 //! What holds of the lone world of a seat's actor.
 ghost use Rattle.std.specs.Prelude.{◌≡◌, ℕ};
-ghost use Rattle.word_machine.specs.World.{Rests, plan};
+ghost use Rattle.tx_machine.specs.World.{Rests, plan};
 ghost use Rattle.replay_log.specs.Seats.{World, actor_of};
 ghost use Rattle.actor_parts.specs.Dispatch.{next_of};
 ghost use Rattle.actor_parts.specs.declared.next.Next.TheVariants.{Word};

@@ -1,6 +1,6 @@
 //! A step of a word actor on the table.
 ghost use Rattle.std.specs.Prelude.{◌≡◌, ◌≢◌, ℕ, ◌<◌};
-ghost use Rattle.word_machine.specs.World.{Rests, plan};
+ghost use Rattle.tx_machine.specs.World.{Rests, plan};
 ghost use Rattle.step_core.specs.Shown.{actor_of};
 ghost use Rattle.step_core.specs.Sound.{Fits, IsLoad, KeepsRoom};
 ghost use Rattle.tx_table.specs.Seated.{Owns, locations_in, opening_of, view};

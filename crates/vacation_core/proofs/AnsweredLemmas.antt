@@ -5,7 +5,7 @@
 use Rattle.std.proofs.Common.{◌≡◌, inl, inr, ℕ, ◌+◌, ◌<◌, ◌≤◌, Bool, true, false, List, length, Option}
 use Rattle.std.proofs.Common.{refl, sym, ap, subst, arith}
 use Rattle.tx_sets.specs.declared.access_set.TheConstants.{LOCATION_LIMIT}
-use Rattle.word_machine.specs.Actor.{clock_limit}
+use Rattle.tx_machine.specs.Actor.{clock_limit}
 use Rattle.seq_model.specs.declared.call.Call.{Call}
 use Rattle.seq_model.specs.declared.call.Op.{Op}
 use Rattle.seq_model.specs.declared.call.Reply.{Reply}

@@ -5,8 +5,8 @@ use Rattle.std.proofs.Common.{◌≡◌, ◌⊎◌, inl, inr, ℕ, ◌+◌, ◌<
 use Rattle.std.proofs.Common.{refl, sym, ◌∙◌, ap, subst, arith}
 use Rattle.std.specs.Prelude.{if◌then◌else◌, is_some}
 use Rattle.std.proofs.lemmas.Bool.{cond-true}
-use Rattle.word_machine.specs.Actor.{clock_limit}
-use Rattle.word_machine.specs.Progress.{step_limit}
+use Rattle.tx_machine.specs.Actor.{clock_limit}
+use Rattle.tx_machine.specs.Progress.{step_limit}
 use Rattle.seq_model.specs.declared.call.Call.{Call}
 use Rattle.seq_model.specs.declared.call.Reply.{Reply}
 use Rattle.seq_model.specs.declared.event.Answer.{Answer}

@@ -3,7 +3,7 @@ use Rattle.std.proofs.Common.{◌≡◌, ◌⊎◌, ℕ, ◌+◌, ◌<◌, ◌�
 use Rattle.std.proofs.Common.{arith}
 use Rattle.std.specs.Prelude.{Option, Some, None, slice_get, slice_set, if◌then◌else◌}
 use Rattle.std.proofs.lemmas.Bool.{cond-false, cond-true}
-use Rattle.word_machine.proofs.Sets.{put-other, put-same}
+use Rattle.tx_machine.proofs.Sets.{put-other, put-same}
 use Rattle.seq_model.specs.declared.call.Call.{Call}
 use Rattle.seq_model.specs.declared.call.Reply.{Reply}
 use Rattle.seq_model.specs.declared.event.Answer.TheVariants as answer
@@ -40,7 +40,7 @@ use Rattle.vacation_core.proofs.PlayLemmas.{at_now}
 use Rattle.vacation_core.proofs.TurnLemmas.{all_of, client_as, on_set, on_turned, others_set, others_turned, own_set}
 use Rattle.step_world.specs.Parts.{IsWorld}
 use Rattle.step_world.specs.Worlds.{WorldShown}
-use Rattle.word_machine.specs.World.{put}
+use Rattle.tx_machine.specs.World.{put}
 use Rattle.vacation_core.specs.Histories.{History, IsLawful}
 use Rattle.seq_model.proofs.ProgramLemmas.{some_same}
 

@@ -7,8 +7,8 @@ use Rattle.std.specs.Prelude.{if◌then◌else◌, is_some}
 use Rattle.std.proofs.lemmas.Bool.{cond-true}
 use Rattle.std.proofs.lemmas.List.{append_assoc, append-nil}
 use Rattle.tx_sets.specs.Entries.{Entries}
-use Rattle.word_machine.specs.World.{put}
-use Rattle.word_machine.proofs.Sets.{put-same}
+use Rattle.tx_machine.specs.World.{put}
+use Rattle.tx_machine.proofs.Sets.{put-same}
 use Rattle.seq_model.specs.declared.call.Call.{Call}
 use Rattle.seq_model.specs.declared.call.Reply.{Reply}
 use Rattle.seq_model.specs.declared.event.Event.TheVariants.{Ask, Step}

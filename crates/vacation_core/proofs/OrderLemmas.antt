@@ -5,7 +5,7 @@ use Rattle.std.proofs.Common.{◌≡◌, ℕ, suc, ◌+◌, ◌<◌, ◌≤◌, 
 use Rattle.std.proofs.Common.{take-suc}
 use Rattle.std.specs.Prelude.{All, get_or, map}
 use Rattle.std.proofs.lemmas.List.{append_assoc, append-nil, take_all}
-use Rattle.word_machine.specs.Actor.{clock_limit}
+use Rattle.tx_machine.specs.Actor.{clock_limit}
 use Rattle.seq_model.specs.declared.record.Record.{Record}
 use Rattle.seq_model.specs.Contents.{Contents}
 use Rattle.seq_model.specs.Runs.{IsInCommitOrder, IsRun}

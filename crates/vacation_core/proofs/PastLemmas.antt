@@ -9,22 +9,22 @@ use Rattle.std.proofs.lemmas.Bool.{cases_Bool, cases_lt, cond_both, cond-false, 
 use Rattle.std.proofs.lemmas.Bool.Decides.{nat_tests}
 use Rattle.std.proofs.lemmas.List.{get_or_past}
 use Rattle.std.proofs.Common.{leb}
-use Rattle.word_machine.specs.Opacity.{AllFrom, IsInOrder}
-use Rattle.word_machine.specs.World.{Memory, Record}
-use Rattle.word_machine.proofs.Calls.{touched}
-use Rattle.word_machine.proofs.Invariant.{RecordOk}
-use Rattle.word_machine.proofs.Records.{AllRecords, AllRecords_map, settled_all}
+use Rattle.tx_machine.specs.Opacity.{AllFrom, IsInOrder}
+use Rattle.tx_machine.specs.World.{Memory, Record}
+use Rattle.tx_machine.proofs.Calls.{touched}
+use Rattle.tx_machine.proofs.Invariant.{RecordOk}
+use Rattle.tx_machine.proofs.Records.{AllRecords, AllRecords_map, settled_all}
 use Rattle.seq_model.specs.declared.event.Event.{Event}
 use Rattle.seq_model.specs.declared.held.Held.{Held}
 use Rattle.seq_model.specs.Contents.{Contents}
 use Rattle.seq_model.specs.Runs.{state_at}
-use Rattle.collection_machine.specs.Boosted.{Boosted}
-use Rattle.collection_machine.specs.Serial.{after_actions, view, words}
-use Rattle.collection_machine.proofs.Editions.{AreAbove, AreWriters, count, one, one_here, stamp_few}
-use Rattle.collection_machine.proofs.Models.{view_state}
-use Rattle.collection_machine.proofs.Schedules.{all-opening, opens_ok}
-use Rattle.collection_machine.proofs.Stated.{Opened, reached}
-use Rattle.collection_machine.specs.Boosted.{opens}
+use Rattle.tx_machine.specs.Boosted.{Boosted}
+use Rattle.tx_machine.specs.Serial.{after_actions, view, words}
+use Rattle.tx_machine.proofs.Editions.{AreAbove, AreWriters, count, one, one_here, stamp_few}
+use Rattle.tx_machine.proofs.Models.{view_state}
+use Rattle.tx_machine.proofs.BoostedSchedules.{all-opening, opens_ok}
+use Rattle.tx_machine.proofs.Stated.{Opened, reached}
+use Rattle.tx_machine.specs.Boosted.{opens}
 use Rattle.replay_log.specs.Base.{Shown}
 use Rattle.replay_log.specs.Collections.{Suit, shown_at}
 use Rattle.replay_log.specs.Contents.{Answered, Block, HaveStripes, content, is_plain}

@@ -8,10 +8,10 @@ use Rattle.std.proofs.Common.{inl, inr, refl, sym, ◌∙◌, ap, subst, arith}
 use Rattle.std.proofs.lemmas.Bool.{cases_eq, cases_Bool, cond-true, cond-false}
 use Rattle.std.proofs.lemmas.Bool.Decides.{nat_tests}
 use Rattle.std.proofs.lemmas.List.{append_assoc, append-nil}
-use Rattle.word_machine.specs.Actor as machine
-use Rattle.word_machine.specs.World.{put}
-use Rattle.word_machine.proofs.Invariant.{PlaceOk}
-use Rattle.word_machine.proofs.Sets.{put-other, put-same}
+use Rattle.tx_machine.specs.Actor as machine
+use Rattle.tx_machine.specs.World.{put}
+use Rattle.tx_machine.proofs.Invariant.{PlaceOk}
+use Rattle.tx_machine.proofs.Sets.{put-other, put-same}
 use Rattle.seq_model.specs.declared.call.Call.{Call}
 use Rattle.seq_model.specs.declared.call.Reply.{Reply}
 use Rattle.seq_model.specs.declared.event.Answer.TheVariants as answer
@@ -24,7 +24,7 @@ use Rattle.seq_model.specs.declared.held.Held.{Held}
 use Rattle.seq_model.specs.declared.record.Record.{Record}
 use Rattle.seq_model.specs.Runs.{comes_before, insert_record, IsInCommitOrder, IsLegal, NoneComesBefore, state_at}
 use Rattle.seq_model.proofs.RecordLemmas.{before}
-use Rattle.collection_machine.specs.Content.{has}
+use Rattle.tx_machine.specs.Content.{has}
 use Rattle.replay_log.specs.Contents.{Block, HaveStripes}
 use Rattle.replay_log.specs.Collections.{Suit}
 use Rattle.replay_log.specs.Worlds.{World, Seat, Stage, Idle, Beginning, Open, Ready, Closing, happens, half, is_half_done, opened, run}

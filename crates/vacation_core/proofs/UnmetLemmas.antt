@@ -5,8 +5,8 @@ use Rattle.std.proofs.Common.{◌≡◌, ℕ, Bool, true, false, true≢false, c
 use Rattle.std.proofs.Common.{subst}
 use Rattle.std.specs.Prelude.{is_some}
 use Rattle.std.proofs.lemmas.Bool.{cases_eq}
-use Rattle.word_machine.specs.World.{put}
-use Rattle.word_machine.proofs.Sets.{put-other, put-same}
+use Rattle.tx_machine.specs.World.{put}
+use Rattle.tx_machine.proofs.Sets.{put-other, put-same}
 use Rattle.seq_model.specs.declared.call.Call.{Call}
 use Rattle.seq_model.specs.declared.call.Reply.{Reply}
 use Rattle.seq_model.specs.declared.event.Answer.TheVariants as answer

@@ -1,6 +1,6 @@
 -- Worlds whose actors are clients: each transaction is the session of an action.
 use Rattle.std.specs.Prelude.{◌≡◌, ℕ, List, [], ◌∷◌, map}
-use Rattle.word_machine.specs.World.{put}
+use Rattle.tx_machine.specs.World.{put}
 use Rattle.seq_model.specs.declared.event.Event.{Event}
 use Rattle.seq_model.specs.declared.event.Event.TheVariants.{Ask}
 use Rattle.seq_model.specs.declared.event.Request.TheVariants as request

@@ -1,6 +1,6 @@
 -- What events make of clients, and of the world on which their sessions run: a session's next request is asked as its last is answered.
 use Rattle.std.specs.Prelude.{◌≡◌, ℕ, List, [], ◌∷◌, ◌++◌, Option, Some, None, if◌then◌else◌}
-use Rattle.word_machine.specs.World.{put}
+use Rattle.tx_machine.specs.World.{put}
 use Rattle.seq_model.specs.declared.call.Reply.{Reply}
 use Rattle.seq_model.specs.declared.event.Answer.TheVariants as answer
 use Rattle.seq_model.specs.declared.event.Event.{Event}

@@ -1,7 +1,7 @@
 //! The sessions of a list of actions, in its order.
 ghost use Rattle.std.specs.Prelude.{◌≡◌, ◌<◌, ℕ, List, All, IfErr, IfOk, OnOk, length, map};
 ghost use Rattle.conflict.specs.Refusals.{IsStripeCount};
-ghost use Rattle.word_machine.specs.Actor.{clock_limit};
+ghost use Rattle.tx_machine.specs.Actor.{clock_limit};
 ghost use Rattle.seq_model.specs.Refusals.{IsTooLong};
 ghost use Rattle.vac_model.specs.declared.action.Action.{Action as AnAction};
 ghost use Rattle.vac_model.specs.Actions.{IsAllowed};

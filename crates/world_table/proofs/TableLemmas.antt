@@ -14,12 +14,12 @@ use Rattle.conflict.specs.declared.change.Change.{Change}
 use Rattle.std.proofs.lemmas.Bool.{cases_eq, cond-true, cond-false}
 use Rattle.vlock_word.specs.LockWord.{unbits}
 use Rattle.vlock_word.proofs.LockWordLemmas.{unbits_bits}
-use Rattle.word_machine.specs.World as machine
-use Rattle.word_machine.specs.World.{Outcome, GoesOn, Commits, Aborts, outcome, put}
-use Rattle.word_machine.specs.Cells.{Cell, ClockCell, LockCell, ValueCell}
-use Rattle.word_machine.proofs.Sets.{put-same, put-other}
-use Rattle.collection_machine.specs.Boosted.{Boosted, TakeGate, PutGate, is_actor, is_none, is_committing, recorded, shadows_after, gated}
-use Rattle.collection_machine.specs.Boosted.{shadows_copied}
+use Rattle.tx_machine.specs.World as machine
+use Rattle.tx_machine.specs.World.{Outcome, GoesOn, Commits, Aborts, outcome, put}
+use Rattle.tx_machine.specs.Cells.{Cell, ClockCell, LockCell, ValueCell}
+use Rattle.tx_machine.proofs.Sets.{put-same, put-other}
+use Rattle.tx_machine.specs.Boosted.{Boosted, TakeGate, PutGate, is_actor, is_none, is_committing, recorded, shadows_after, gated}
+use Rattle.tx_machine.specs.Boosted.{shadows_copied}
 use Rattle.step_core.specs.Answers.{result_of}
 use Rattle.step_core.specs.CellSteps.{AreCells, StepsOn}
 use Rattle.step_core.specs.Shown as words

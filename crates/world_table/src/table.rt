@@ -9,7 +9,7 @@ ghost use Rattle.replay_log.specs.Contents.{Block, HaveStripes, block_of};
 ghost use Rattle.replay_log.specs.Worlds.{happens, opened, run};
 ghost use Rattle.actor_laws.specs.Bases.{IsBaseOf, log_changes, log_locations};
 ghost use Rattle.actor_laws.specs.Gates.{GoesHome};
-ghost use Rattle.collection_machine.specs.Boosted.{TakeGate, PutGate, is_actor, is_none, is_committing};
+ghost use Rattle.tx_machine.specs.Boosted.{TakeGate, PutGate, is_actor, is_none, is_committing};
 ghost use Rattle.replay_log.specs.Seats.{World, acted, actor_of, moves, word_notice};
 ghost use Rattle.step_core.specs.Answers.{result_of};
 ghost use Rattle.step_core.specs.CellSteps.{Grows, HaveLength};

@@ -1,7 +1,7 @@
 //! What a request makes of an actor's record. It makes the room that its steps will need.
 ghost use Rattle.std.specs.Prelude.{◌≡◌, ◌≢◌, ℕ, ◌<◌, ◌≤◌, Ok, Err, Option, Some, None, true, false, IsOk, OnOk, OnErr, IfOk, IfErr};
-ghost use Rattle.word_machine.specs.Requests.{AskBegin, AskBeginRead, AskRelease, AskRead, AskWrite, AskLock, AskStore, AskCancel};
-ghost use Rattle.word_machine.specs.Requests.{AskAbort, AskClose};
+ghost use Rattle.tx_machine.specs.Requests.{AskBegin, AskBeginRead, AskRelease, AskRead, AskWrite, AskLock, AskStore, AskCancel};
+ghost use Rattle.tx_machine.specs.Requests.{AskAbort, AskClose};
 ghost use Rattle.step_core.specs.Answers.{request_of};
 ghost use Rattle.step_core.specs.Phases.{phase_of, opens, takes_memory, if_full, if_new, location_refusal, refusal_at};
 ghost use Rattle.tx_sets.specs.Entries.{lookup};

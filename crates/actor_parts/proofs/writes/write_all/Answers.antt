@@ -1,6 +1,6 @@
 use Rattle.std.proofs.Common.{◌+◌, drop, get_or, ap, subst, sym, ◌∙◌}
 use Rattle.tx_sets.specs.Entries.{Entries}
-use Rattle.word_machine.specs.Actor as machine
+use Rattle.tx_machine.specs.Actor as machine
 use Rattle.step_core.specs.Shown.{actor_of}
 use Rattle.actor_parts.specs.Writes.{MayWrite, written_as}
 use Rattle.actor_parts.proofs.WriteLemmas.{first_space, may_go_on, next_write}

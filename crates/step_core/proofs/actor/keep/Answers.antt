@@ -1,5 +1,5 @@
 use Rattle.std.proofs.Common.{◌≡◌, Bool, sym, subst}
-use Rattle.word_machine.specs.Actor.{with_read}
+use Rattle.tx_machine.specs.Actor.{with_read}
 use Rattle.step_core.proofs.Keeps.{was_ok}
 use Rattle.step_core.proofs.actor.keep.Goals as goal
 

@@ -1,5 +1,5 @@
 use Rattle.std.proofs.Common.{subst}
-use Rattle.word_machine.specs.World.{plan}
+use Rattle.tx_machine.specs.World.{plan}
 use Rattle.step_core.specs.Shown.{actor_of}
 use Rattle.tx_table.specs.Seated.{locations_in}
 use Rattle.tx_turns.specs.Dues.{IsDeed}

@@ -1,5 +1,5 @@
 use Rattle.std.proofs.Common.{arith, ap, sym}
-use Rattle.word_machine.specs.Notices.{Stored}
+use Rattle.tx_machine.specs.Notices.{Stored}
 use Rattle.step_core.specs.Answers.{result_of}
 use Rattle.step_core.proofs.Lists.{none_left, some_left}
 use Rattle.step_core.proofs.actor.Actor.first.Goals as goal

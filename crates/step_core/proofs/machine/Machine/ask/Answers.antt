@@ -1,7 +1,7 @@
 use Rattle.std.proofs.Common.{◌≡◌, ℕ, Option, Some, Result, Ok, Err, OnOk, OnErr, IfOk, List, refl, ap, ◌∙◌, subst, arith, length, map}
 use Rattle.std.proofs.lemmas.Option.{slice_get_read}
-use Rattle.word_machine.specs.Requests.{Request, ask}
-use Rattle.word_machine.specs.Notices.{reply}
+use Rattle.tx_machine.specs.Requests.{Request, ask}
+use Rattle.tx_machine.specs.Notices.{reply}
 use Rattle.step_core.specs.Answers.{request_of, result_of}
 use Rattle.step_core.specs.Shown.{actor_of, record_of, Shown, shown, Asks}
 use Rattle.step_core.specs.Sound.{Fits}

@@ -1,5 +1,5 @@
 use Rattle.std.proofs.Common.{◌≡◌, ◌<◌, true, subst}
-use Rattle.word_machine.specs.Progress.{step_limit}
+use Rattle.tx_machine.specs.Progress.{step_limit}
 use Rattle.step_core.specs.Answers.{request_of}
 use Rattle.step_core.specs.Shown.{Shown, shown, actor_in}
 use Rattle.step_core.specs.Opaque.{steps_due}

@@ -1,6 +1,6 @@
 use Rattle.std.proofs.Common.{◌≡◌, ◌<◌, ltb, true, Some, None, length, refl, sym, ap, subst, ◌∙◌, arith}
 use Rattle.seq_model.specs.declared.limits.TheConstants.{CALL_LIMIT}
-use Rattle.word_machine.proofs.Sets.{put-same}
+use Rattle.tx_machine.proofs.Sets.{put-same}
 use Rattle.replay_log.specs.Worlds.{Seat}
 use Rattle.std.specs.Prelude.{IsSome}
 use Rattle.step_core.specs.declared.actor.Actor.{Actor}

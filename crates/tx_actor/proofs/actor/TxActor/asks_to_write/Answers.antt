@@ -3,7 +3,7 @@ use Rattle.seq_model.specs.declared.call.Call.{Call}
 use Rattle.seq_model.specs.declared.call.Op.TheVariants.{Write}
 use Rattle.seq_model.specs.declared.call.Reply.TheVariants.{Done}
 use Rattle.seq_model.specs.declared.limits.TheConstants.{CALL_LIMIT}
-use Rattle.word_machine.proofs.Sets.{put-same}
+use Rattle.tx_machine.proofs.Sets.{put-same}
 use Rattle.replay_log.specs.Worlds.{ask_op, fits}
 use Rattle.tx_actor.specs.Asks.{Asks}
 use Rattle.tx_actor.specs.Keeping.{KeepsIn}

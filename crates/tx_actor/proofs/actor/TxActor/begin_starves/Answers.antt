@@ -1,7 +1,7 @@
 use Rattle.std.proofs.Common.{refl, sym, ap, ◌∙◌}
-use Rattle.word_machine.proofs.Sets.{put-same}
-use Rattle.word_machine.specs.Actor.{Actor}
-use Rattle.word_machine.specs.Requests.{ask, AskAbort}
+use Rattle.tx_machine.proofs.Sets.{put-same}
+use Rattle.tx_machine.specs.Actor.{Actor}
+use Rattle.tx_machine.specs.Requests.{ask, AskAbort}
 use Rattle.tx_actor.specs.Running.{is_recorded, at}
 use Rattle.tx_actor.proofs.RunsLemmas.{seat_as}
 use Rattle.tx_actor.proofs.KeepingLemmas.{keeps_cleared}

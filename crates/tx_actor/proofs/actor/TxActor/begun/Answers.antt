@@ -1,5 +1,5 @@
 use Rattle.std.proofs.Common.{ap, refl, sym, ◌∙◌}
-use Rattle.word_machine.proofs.Sets.{put-same}
+use Rattle.tx_machine.proofs.Sets.{put-same}
 use Rattle.tx_actor.specs.Running.{is_recorded, at}
 use Rattle.tx_actor.proofs.RunsLemmas.{seat_as}
 use Rattle.tx_actor.proofs.KeepingLemmas.{keeps_plain}

@@ -2,7 +2,7 @@ use Rattle.std.specs.Global.{Vec}
 use Rattle.seq_model.specs.declared.call.Call.{Call}
 use Rattle.seq_model.specs.declared.call.Reply.{Reply}
 use Rattle.std.proofs.Common.{Option, sym, ap, ◌∙◌}
-use Rattle.word_machine.proofs.Sets.{put-same}
+use Rattle.tx_machine.proofs.Sets.{put-same}
 use Rattle.seq_model.specs.declared.refusal.Refusal.{Refusal}
 use Rattle.replay_log.specs.Worlds.{why}
 use Rattle.tx_actor.specs.Running.{is_recorded, at}

@@ -1,6 +1,6 @@
 use Rattle.std.proofs.Common.{drop, refl}
 use Rattle.tx_actor.proofs.LoadLemmas.{first_rest, goes_as, stale_as}
-use Rattle.word_machine.specs.Notices as notice
+use Rattle.tx_machine.specs.Notices as notice
 use Rattle.tx_actor.specs.declared.actor.Stage.TheVariants as stage
 use Rattle.tx_actor.proofs.HeardLemmas.{heard_ends, heard_goes}
 use Rattle.std.proofs.Common.{inl, inr, subst, sym}

@@ -1,5 +1,5 @@
 use Rattle.std.proofs.Common.{sym, ◌∙◌}
-use Rattle.word_machine.specs.Notices as notice
+use Rattle.tx_machine.specs.Notices as notice
 use Rattle.tx_actor.proofs.LoadLemmas.{none_as}
 use Rattle.tx_actor.proofs.HeardLemmas.{heard_none}
 use Rattle.std.proofs.Common.{subst}

@@ -1,5 +1,5 @@
 use Rattle.std.proofs.Common.{sym, ◌∙◌}
-use Rattle.word_machine.specs.Notices as notice
+use Rattle.tx_machine.specs.Notices as notice
 use Rattle.tx_actor.proofs.LoadLemmas.{moved_as, none_as}
 use Rattle.tx_actor.specs.declared.actor.Stage.TheVariants as stage
 use Rattle.tx_actor.proofs.HeardLemmas.{heard_ends, moved_none}

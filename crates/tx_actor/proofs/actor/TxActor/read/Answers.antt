@@ -1,5 +1,5 @@
 use Rattle.std.proofs.Common.{refl, sym, ◌∙◌}
-use Rattle.word_machine.proofs.Sets.{put-same}
+use Rattle.tx_machine.proofs.Sets.{put-same}
 use Rattle.replay_log.specs.Worlds.{Open}
 use Rattle.tx_actor.specs.Running.{seat_of}
 use Rattle.tx_actor.proofs.KeepingLemmas.{keeps_plain}

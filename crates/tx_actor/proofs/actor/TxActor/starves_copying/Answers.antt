@@ -1,5 +1,5 @@
 use Rattle.std.proofs.Common.{refl}
-use Rattle.word_machine.proofs.Sets.{put-same}
+use Rattle.tx_machine.proofs.Sets.{put-same}
 use Rattle.tx_actor.proofs.KeepingLemmas.{keeps_plain}
 use Rattle.tx_actor.specs.declared.actor.Stage.TheVariants as stage
 use Rattle.tx_actor.proofs.actor.TxActor.starves_copying.Goals as goal

@@ -1,5 +1,0 @@
-use Rattle.collection_machine.proofs.Runs.{unused_later}
-use Rattle.collection_machine.proofs.laws.numbers.Goals as goal
-
-pub returns : goal.returns
-returns g k = record { unused = λ c f clock memory parts actions later a ends. unused_later c f clock memory parts actions later a ends }

@@ -1,4 +1,0 @@
-pub mod Content
-pub mod Boosted
-pub mod Serial
-pub mod Vectors

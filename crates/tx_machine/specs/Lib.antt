@@ -1,0 +1,13 @@
+pub mod Actor
+pub mod Requests
+pub mod World
+pub mod Cells
+pub mod Notices
+pub mod Progress
+pub mod Opacity
+pub mod Vectors
+pub mod Refusals
+pub mod Content
+pub mod Boosted
+pub mod Serial
+pub mod BoostedVectors

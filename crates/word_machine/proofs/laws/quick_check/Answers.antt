@@ -1,5 +1,0 @@
-use Rattle.word_machine.proofs.Declared.{made}
-use Rattle.word_machine.proofs.laws.quick_check.Goals as goal
-
-pub returns-clause-made : goal.returns-clause-made
-returns-clause-made c = made
