@@ -4,8 +4,8 @@ use std::alloc::Global;
 use std::fmt::Write;
 use std::thread::Threads;
 use wolimevar::{
-    Bag, Body, Client, Contents, Counts, Entries, Layout, LentClient, Map, PriorityQueue, Queue,
-    QueueItems, Refusal, Scope, Session, Shared, Store, Tally, Text, Transaction, Value, Word,
+    Bag, Body, Client, Counts, Entries, Layout, Map, PriorityQueue, Queue, QueueItems, Refusal,
+    Scope, Session, Shared, Store, Tally, Text, Transaction, Value, Word,
 };
 
 /// The handles of a store with a word and a collection of each kind.
@@ -177,19 +177,6 @@ fn call_client<S: Scope<u64>>(
     )?)
 }
 
-fn call_lent(text: &mut String, client: &mut LentClient<u64>, word: Word) -> Result<(), Refusal> {
-    let (held, written) = client.atomically(1_000, &Count(word))?;
-    let (then, read) = client.look(1_000, &Held(word))?;
-    let same = read.number == written.number; // true
-    let last = client.last_number() == read.number; // true
-    let ahead = client.learn(99); // Err(Ahead { clock: 4 })
-    let refusals = client.tally().refusals(); // 0
-    Ok(writeln!(
-        text,
-        "a lent client's calls = {held} {then} {same} {last} {ahead:?} {refusals}"
-    )?)
-}
-
 fn call_store(text: &mut String, store: &mut Store<u64>, word: Word) -> Result<(), Refusal> {
     let (held, receipt) = store.atomically(1_000, &Count(word))?;
     let (number, calls) = (receipt.number, receipt.calls.len()); // 1, 2
@@ -227,29 +214,42 @@ fn lend(text: &mut String, store: Store<u64>, word: Word) -> Result<(), Refusal>
         return Err(Refusal::Memory);
     };
     let mut client = lender.client()?;
-    call_lent(text, &mut client, word)?;
+    let (held, written) = client.atomically(1_000, &Count(word))?;
+    let (then, read) = client.look(1_000, &Held(word))?;
+    let same = read.number == written.number; // true
+    let last = client.last_number() == read.number; // true
+    let ahead = client.learn(99); // Err(Ahead { clock: 4 })
+    let refusals = client.tally().refusals(); // 0
+    writeln!(
+        text,
+        "a lent client's calls = {held} {then} {same} {last} {ahead:?} {refusals}"
+    )?;
     drop(client);
     let out = lender.take_back(); // 0
     let Ok(store) = lender.end() else {
         return Err(Refusal::NotIdle);
     };
     let contents = store.close()?;
-    let held = contents.word(word); // Some(10)
+    let left = contents.word(word); // Some(10)
     drop(contents);
-    Ok(writeln!(text, "a lender's calls = {out} {held:?}")?)
+    Ok(writeln!(text, "a lender's calls = {out} {left:?}")?)
 }
 
-fn lay_out(alloc: Global, layout: &mut Layout<u64>) -> Result<Handles, Refusal> {
-    Ok(Handles {
+fn open(alloc: Global) -> Result<(Store<u64>, Handles), Refusal> {
+    let mut layout: Layout<u64> = Layout::new(alloc);
+    let handles = Handles {
         word: layout.word(0)?,
         map: layout.map(64, Entries::new(alloc))?,
         bag: layout.bag(64, Counts::new(alloc))?,
         priorities: layout.priority_queue(1, Counts::new(alloc))?,
         queue: layout.queue(8, QueueItems::new(alloc))?,
-    })
+    };
+    let store = layout.open()?;
+    Ok((store, handles))
 }
 
-fn lay_out_filled(alloc: Global, layout: &mut Layout<u64>) -> Result<Handles, Refusal> {
+fn open_filled(alloc: Global) -> Result<(Store<u64>, Handles), Refusal> {
+    let mut layout = Layout::numbered(alloc, 1);
     let word = layout.word(7)?;
     let mut entries = Entries::new(alloc);
     entries.insert(1, 10)?;
@@ -263,20 +263,18 @@ fn lay_out_filled(alloc: Global, layout: &mut Layout<u64>) -> Result<Handles, Re
     let mut items = QueueItems::new(alloc);
     items.push(6)?;
     let queue = layout.queue(8, items)?;
-    Ok(Handles {
+    let store = layout.open()?;
+    let handles = Handles {
         word,
         map,
         bag,
         priorities,
         queue,
-    })
+    };
+    Ok((store, handles))
 }
 
-fn print_contents(
-    text: &mut String,
-    contents: &Contents<u64>,
-    handles: Handles,
-) -> Result<(), Refusal> {
+fn print_contents(text: &mut String, store: Store<u64>, handles: Handles) -> Result<(), Refusal> {
     let Handles {
         word,
         map,
@@ -284,6 +282,7 @@ fn print_contents(
         priorities,
         queue,
     } = handles;
+    let contents = store.close()?;
     let held = contents.word(word); // Some(7)
     let entries = contents.map(map);
     let value = entries.and_then(|entries| entries.get(1)); // Some(10)
@@ -293,21 +292,12 @@ fn print_contents(
     let least = counts.and_then(|counts| counts.least()); // Some(5)
     let items = contents.queue(queue);
     let first = items.and_then(|items| items.first()); // Some(6)
-    Ok(writeln!(
+    let printed = writeln!(
         text,
         "contents = {held:?} {value:?} {copies:?} {least:?} {first:?}"
-    )?)
-}
-
-fn open_filled(text: &mut String) -> Result<(), Refusal> {
-    let alloc = *text.allocator();
-    let mut layout = Layout::numbered(alloc, 1);
-    let handles = lay_out_filled(alloc, &mut layout)?;
-    let store = layout.open()?;
-    let contents = store.close()?;
-    let printed = print_contents(text, &contents, handles);
+    );
     drop(contents);
-    printed
+    Ok(printed?)
 }
 
 fn print_values(text: &mut String) -> Result<(), Refusal> {
@@ -323,14 +313,13 @@ fn print_values(text: &mut String) -> Result<(), Refusal> {
 }
 
 pub fn test<R: Threads + Sync>(rt: &R, alloc: Global, text: &mut String) -> Result<(), Refusal> {
-    let mut layout: Layout<u64> = Layout::new(alloc);
-    let handles = lay_out(alloc, &mut layout)?;
-    let mut store = layout.open()?;
+    let (mut store, handles) = open(alloc)?;
     call_store(text, &mut store, handles.word)?;
     let (answers, _) = store.atomically(1_000, &Calls { alloc, handles })?;
     text.push_str(answers.as_str())?;
     serve_visits(rt, text, &mut store, handles.word)?;
     lend(text, store, handles.word)?;
-    open_filled(text)?;
+    let (store, handles) = open_filled(alloc)?;
+    print_contents(text, store, handles)?;
     print_values(text)
 }

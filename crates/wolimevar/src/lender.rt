@@ -78,6 +78,11 @@ impl<V: Value> Lender<V> {
     /// A client for any thread.
     ///
     /// `TooLong` where 63 are out, or were not taken back yet, and `Memory` where an allocation fails: then the lender is unchanged.
+    ///
+    /// ```
+    /// let mut client = lender.client()?;
+    /// let (held, written) = client.atomically(1_000, &Count(word))?;
+    /// ```
     #[tactic(auto, using(crate::proofs::LenderLemmas::share_less))]
     pub fn client(&mut self) -> Result<LentClient<V>, Refusal>
         ensures same { self.new.store ≡ self.old.store }
@@ -104,6 +109,11 @@ impl<V: Value> Lender<V> {
     ///
     /// No clause says which clients it finds. A client whose drop has returned is found, if that drop came before, as where its thread was
     /// joined.
+    ///
+    /// ```
+    /// drop(client);
+    /// let out = lender.take_back(); // 0
+    /// ```
     #[tactic(auto, using(crate::proofs::LenderLemmas::taken_back))]
     pub fn take_back(&mut self) -> u64
         ensures back { HasTakenBack self.old self.new }
@@ -115,6 +125,13 @@ impl<V: Value> Lender<V> {
 
     /// Takes back the clients that were dropped, and gives the store back, which has the receipts of all. While a client is out it gives
     /// back the lender, with what was taken back.
+    ///
+    /// ```
+    /// let Ok(store) = lender.end() else {
+    ///     return Err(Refusal::NotIdle);
+    /// };
+    /// let contents = store.close()?;
+    /// ```
     pub fn end(mut self) -> Result<Store<V>, StillLent<V>>
         ensures store { IfOk result (λ store. HasTakenBack self (record { store = store; shares = SHARES })) }
         ensures lender { IfErr result (λ still. HasTakenBack self still.lender) }

@@ -79,6 +79,11 @@ impl<V: Value> LentClient<V> {
     }
 
     /// Runs the body as one transaction, which may write, like [`crate::Client::atomically`].
+    ///
+    /// ```
+    /// let mut client = lender.client()?;
+    /// let (held, written) = client.atomically(1_000, &Count(word))?;
+    /// ```
     pub fn atomically<B: Body<V>>(
         &mut self,
         tries: u64,
@@ -97,6 +102,12 @@ impl<V: Value> LentClient<V> {
     }
 
     /// Runs the body as one declared reader, like [`crate::Client::look`].
+    ///
+    /// ```
+    /// let (held, written) = client.atomically(1_000, &Count(word))?;
+    /// let (then, read) = client.look(1_000, &Held(word))?;
+    /// let same = read.number == written.number; // true
+    /// ```
     pub fn look<B: Body<V>>(
         &mut self,
         tries: u64,
@@ -128,6 +139,11 @@ impl<V: Value> LentClient<V> {
     }
 
     /// How the attempts of this client ended, counted.
+    ///
+    /// ```
+    /// let (then, read) = client.look(1_000, &Held(word))?;
+    /// let refusals = client.tally().refusals(); // 0
+    /// ```
     pub fn tally(&self) -> Tally
         ensures { result ≡ self.now.tally }
     {
@@ -135,6 +151,11 @@ impl<V: Value> LentClient<V> {
     }
 
     /// The greatest number that this client committed or learnt; 0 at first.
+    ///
+    /// ```
+    /// let (then, read) = client.look(1_000, &Held(word))?;
+    /// let last = client.last_number() == read.number; // true
+    /// ```
     pub fn last_number(&self) -> u64
         ensures { result ≡ self.now.last }
     {
@@ -142,6 +163,11 @@ impl<V: Value> LentClient<V> {
     }
 
     /// Learns the number of a commit at this store, like [`crate::Client::learn`].
+    ///
+    /// ```
+    /// let (held, written) = client.atomically(1_000, &Count(word))?;
+    /// let ahead = client.learn(99); // Err(Ahead { clock: 4 })
+    /// ```
     pub fn learn(&mut self, number: u64) -> Result<(), Refusal>
         ensures same { self.new.actor ≡ self.old.actor }
         ensures receipts { self.new.receipts ≡ self.old.receipts }

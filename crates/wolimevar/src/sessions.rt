@@ -35,6 +35,14 @@ pub trait Session<V> {
     ghost serves: { Self → Self.Out → List (ℕ × ARecord V) → Type 0 } = { λ _ _ _. ⊤ };
 
     /// Runs in a thread of its own, for as long as it likes.
+    ///
+    /// ```
+    /// fn serve<S: Scope<u64>>(self, client: &mut Client<'_, u64, S>) -> Result<String, Refusal> {
+    ///     let mut text = String::new(self.alloc);
+    ///     call_client(&mut text, client, self.word)?;
+    ///     Ok(text)
+    /// }
+    /// ```
     fn serve<S: Scope<V>>(self, client: &mut Client<'_, V, S>) -> Self::Out
         requires new { client.old.receipts ≡ [] }
         ensures served { serves self result client.new.receipts };
