@@ -16,12 +16,15 @@ ghost use Rattle.wolimevar.specs.Sessions.{receipts_at};
 
 use crate::homes::{Home, Own, home_for};
 use crate::lent::LentClient;
+use crate::serving::Serving;
+use crate::sessions::Session;
 use crate::store::Store;
 use crate::tally::Tally;
 use seq_model::{Refusal, Value};
 use std::alloc::Global;
 use std::marker::Model;
 use std::sync::Arc;
+use std::thread::Threads;
 use tx_engine::TxSeat;
 use tx_table::{SHARES, TxTable};
 
@@ -102,6 +105,27 @@ impl<V: Value> Lender<V> {
         };
         let seat = self.seat.split(&self.table, 1);
         Ok(LentClient::of(Own { table, home }, self.number, seat))
+    }
+
+    /// Has a client serve the session in a thread of its own. Where no thread can be started, the session is served before this returns.
+    ///
+    /// Refused like [`Lender::client`]: then the session was not served, and the lender is unchanged.
+    pub fn spawn<R: Threads, N: Session<V> + Drop + Send + 'static>(
+        &mut self,
+        rt: &R,
+        session: N,
+    ) -> Result<Serving<V, N>, Refusal>
+    where
+        V: Send + Sync + 'static,
+        N::Out: Send + 'static,
+        ensures same { self.new.store ≡ self.old.store }
+        ensures share { IfOk result (λ _. self.new.shares + 1 ≡ self.old.shares) }
+        ensures session { IfOk result (λ serving. serving ≡ session) }
+        ensures none { OnErr result (self.new ≡ self.old) }
+        ensures why { IfErr result (λ cause. ((cause ≡ TooLong) × (self.old.shares ≤ 1)) ⊎ (cause ≡ OutOfMemory)) }
+    {
+        let client = self.client()?;
+        Ok(Serving::start(rt, client, session))
     }
 
     /// Takes back the clients that were dropped, and returns how many are still out. Their receipts are added to the store's, those of one

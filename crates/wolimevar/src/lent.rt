@@ -13,6 +13,7 @@ use crate::body::Body;
 use crate::failures::Failure;
 use crate::homes::Own;
 use crate::runner::Runner;
+use crate::sessions::{Session, serve_one};
 use crate::tally::Tally;
 use seq_model::{Refusal, Value};
 use std::marker::{Brand, Model};
@@ -136,6 +137,28 @@ impl<V: Value> LentClient<V> {
     {
         self.runner
             .run::<Brand, B>(&self.own.table, tries, body, declared)
+    }
+
+    /// Serves a session, and returns what it returned, with this client, which has the session's receipts.
+    pub(crate) fn serve<N: Session<V> + Drop>(self, session: N) -> (N::Out, LentClient<V>)
+        requires new { self.receipts ≡ [] }
+        ensures served { N.serves session result.0 result.1.receipts }
+        ensures counts { result.1.tally ≡ self.tally }
+    {
+        let LentClient { own, runner } = self;
+        let Runner { store, seat, tally } = runner;
+        match seat {
+            Some(seat) => {
+                let (seat, out) = serve_one(&own.table, store, seat, session);
+                let runner = Runner {
+                    store,
+                    seat: Some(seat),
+                    tally,
+                };
+                (out, LentClient { own, runner })
+            }
+            None => unreachable!(),
+        }
     }
 
     /// How the attempts of this client ended, counted.

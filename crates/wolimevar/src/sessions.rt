@@ -77,7 +77,7 @@ fn serve_as<V: Value, S: Scope<V>, N: Session<V> + Drop>(
 }
 
 /// Serves a session, see `serve_as`.
-fn serve_one<V: Value, N: Session<V> + Drop>(
+pub(crate) fn serve_one<V: Value, N: Session<V> + Drop>(
     table: &TxTable<V>,
     store: u32,
     seat: TxSeat<V>,
