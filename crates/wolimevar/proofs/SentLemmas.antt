@@ -1,4 +1,5 @@
--- A lent client may go to any thread, where the values of its store may go there and be shared.
+-- A lent client, and a session with what its client is made of, may go to any thread, where the values of its store may go there and be
+-- shared.
 use denote.RattleType.{RattleType}
 use denote.Param.Send.{IsSend, IsSync, sendable, part_keyless}
 use Rattle.std.proofs.Crossing.{crosses}
@@ -19,6 +20,7 @@ use Rattle.wolimevar.specs.contracts.homes.Home as Home
 use Rattle.wolimevar.specs.contracts.homes.Own as Own
 use Rattle.wolimevar.specs.contracts.runner.Runner as Runner
 use Rattle.wolimevar.specs.contracts.lent.LentClient as LentClient
+use Rattle.wolimevar.specs.contracts.serving.Errand as Errand
 
 -- who has a `&` to a place has shares of the whole of it
 place_sync : (S V : RattleType) → IsSend S → IsSync (Place.the_row S V)
@@ -63,3 +65,7 @@ module _ (V : RattleType) where
 
       pub lent_client_send : IsSend (LentClient.the_row V)
       lent_client_send = search (sendable, own_send, runner_send) depth 30
+
+      module _ (N : RattleType) (n : IsSend N) where
+        pub errand_send : IsSend (Errand.the_field V N).row
+        errand_send = search (sendable, own_send, tx_seat_send) depth 30

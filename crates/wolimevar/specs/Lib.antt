@@ -11,3 +11,4 @@ pub mod Stores
 pub mod StoreSeats
 pub mod Sessions
 pub mod Lenders
+pub mod Errands
