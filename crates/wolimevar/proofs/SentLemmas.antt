@@ -2,7 +2,11 @@
 -- shared.
 use denote.RattleType.{RattleType}
 use denote.Param.Send.{IsSend, IsSync, sendable, part_keyless}
+use denote.Struct.Tuple.{TupleAt}
+use Rattle.std.proofs.Common.{ℕ, List, [], ◌∷◌}
 use Rattle.std.proofs.Crossing.{crosses}
+use Rattle.std.below.core.specs.contracts.marker.ClosureMark as ClosureMark
+use Rattle.std.specs.contracts.result.Result as Result
 use Rattle.atomic_table.specs.contracts.shared.Seat as Place
 use Rattle.atomic_table.proofs.shared.Seat.TheSendSync as place
 use Rattle.counted_slot.proofs.Counted.TheSendSync as counted
@@ -25,6 +29,16 @@ use Rattle.wolimevar.specs.contracts.serving.Errand as Errand
 -- who has a `&` to a place has shares of the whole of it
 place_sync : (S V : RattleType) → IsSend S → IsSync (Place.the_row S V)
 place_sync S V s = record { shared = λ d b o κ q. part_keyless (Place.the_row S V) (place.the_send S V s) q d b o }
+
+-- what every closure has beside what it captures
+pub mark_send : (A : RattleType) → IsSend (ClosureMark.the_row A)
+mark_send A = search (sendable, crosses) depth 30
+
+pub pair_send : (name : List ℕ) (A B : RattleType) → IsSend A → IsSend B → IsSend (TupleAt name (A ∷ B ∷ []))
+pair_send name A B a b = search sendable depth 30
+
+pub result_send : (A B : RattleType) → IsSend A → IsSend B → IsSend (Result.the_row A B)
+result_send A B a b = search sendable depth 30
 
 -- Each type as a field of another, from its own fields.
 module _ (V : RattleType) where
@@ -67,5 +81,5 @@ module _ (V : RattleType) where
       lent_client_send = search (sendable, own_send, runner_send) depth 30
 
       module _ (N : RattleType) (n : IsSend N) where
-        pub errand_send : IsSend (Errand.the_field V N).row
+        pub errand_send : IsSend (Errand.the_row V N)
         errand_send = search (sendable, own_send, tx_seat_send) depth 30
