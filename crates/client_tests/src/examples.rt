@@ -4,8 +4,8 @@ use std::alloc::Global;
 use std::fmt::Write;
 use std::thread::Threads;
 use wolimevar::{
-    Bag, Body, Client, Counts, Entries, Layout, Map, PriorityQueue, Queue, QueueItems, Refusal,
-    Scope, Session, Shared, Store, Tally, Text, Transaction, Value, Word,
+    Bag, Body, Client, Counts, Entries, Layout, Lender, Map, PriorityQueue, Queue, QueueItems,
+    Refusal, Scope, Session, Shared, Store, Tally, Text, Transaction, Value, Word,
 };
 
 /// The handles of a store with a word and a collection of each kind.
@@ -208,8 +208,28 @@ fn serve_visits<R: Threads + Sync>(
     Ok(())
 }
 
+fn spawn_visit<R: Threads + Sync>(
+    rt: &R,
+    text: &mut String,
+    lender: &mut Lender<u64>,
+    word: Word,
+) -> Result<(), Refusal> {
+    let alloc = *text.allocator();
+    let serving = lender.spawn(rt, Visit { alloc, word })?;
+    let (answers, client) = serving.join(rt);
+    drop(client);
+    let out = lender.take_back(); // 0
+    text.push_str(answers?.as_str())?;
+    Ok(writeln!(text, "then {out} out")?)
+}
+
 /// A client is lent, and the store is closed once it is back.
-fn lend(text: &mut String, store: Store<u64>, word: Word) -> Result<(), Refusal> {
+fn lend<R: Threads + Sync>(
+    rt: &R,
+    text: &mut String,
+    store: Store<u64>,
+    word: Word,
+) -> Result<(), Refusal> {
     let Ok(mut lender) = store.lend() else {
         return Err(Refusal::Memory);
     };
@@ -226,11 +246,12 @@ fn lend(text: &mut String, store: Store<u64>, word: Word) -> Result<(), Refusal>
     )?;
     drop(client);
     let out = lender.take_back(); // 0
+    spawn_visit(rt, text, &mut lender, word)?;
     let Ok(store) = lender.end() else {
         return Err(Refusal::NotIdle);
     };
     let contents = store.close()?;
-    let left = contents.word(word); // Some(10)
+    let left = contents.word(word); // Some(11)
     drop(contents);
     Ok(writeln!(text, "a lender's calls = {out} {left:?}")?)
 }
@@ -318,7 +339,7 @@ pub fn test<R: Threads + Sync>(rt: &R, alloc: Global, text: &mut String) -> Resu
     let (answers, _) = store.atomically(1_000, &Calls { alloc, handles })?;
     text.push_str(answers.as_str())?;
     serve_visits(rt, text, &mut store, handles.word)?;
-    lend(text, store, handles.word)?;
+    lend(rt, text, store, handles.word)?;
     let (store, handles) = open_filled(alloc)?;
     print_contents(text, store, handles)?;
     print_values(text)

@@ -67,7 +67,7 @@ fn answer_part<R: Threads + Sync>(
     match first.split_once(' ') {
         Some(("store", number)) => answer_at::<R, u64>(rt, alloc, text, number, rows),
         Some(("brittle", number)) => answer_at::<R, Brittle>(rt, alloc, text, number, rows),
-        None if first == "lent" => lent::test(alloc, text),
+        None if first == "lent" => lent::test(rt, alloc, text),
         None if first == "examples" => examples::test(rt, alloc, text),
         _ => answer_rows_alone(alloc, text, rows),
     }

@@ -108,6 +108,11 @@ impl<V: Value> Lender<V> {
     ///
     /// `TooLong` where 63 are out, or were not taken back yet, and `Memory` where an allocation fails or no thread can be started: then the
     /// session was not served, and the lender is unchanged.
+    ///
+    /// ```
+    /// let serving = lender.spawn(rt, Visit { alloc, word })?;
+    /// let (answers, client) = serving.join(rt);
+    /// ```
     #[tactic(auto, using(crate::proofs::LenderLemmas::share_less))]
     pub fn spawn<R: Threads, N: Session<V> + Drop + Send + 'static>(
         &mut self,

@@ -150,6 +150,12 @@ impl<V: Value, N: Session<V> + Drop> Serving<V, N> {
 
     /// Waits until the session has ended, and returns what it returned, with its client, whose receipts are the session's. The client may
     /// run more; dropped, it comes back to the lender.
+    ///
+    /// ```
+    /// let (answers, client) = serving.join(rt);
+    /// drop(client);
+    /// let out = lender.take_back(); // 0
+    /// ```
     pub fn join<R: Threads>(self, rt: &R) -> (N::Out, LentClient<V>)
         ensures served { N.serves self result.0 result.1.receipts }
     {

@@ -297,7 +297,7 @@ impl<V: Value> Store<V> {
     ///
     /// ```
     /// let contents = store.close()?;
-    /// let left = contents.word(word); // Some(10)
+    /// let left = contents.word(word); // Some(11)
     /// ```
     pub fn close(self) -> Result<Contents<V>, Memory>
         ensures number { IfOk result (λ contents. contents.store ≡ self.number) }
