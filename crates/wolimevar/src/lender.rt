@@ -138,11 +138,11 @@ impl<V: Value> Lender<V> {
             own.home.wait_no_more();
             return Err(Refusal::Memory);
         };
-        let seat = self.seat.split(&self.table, 1);
+        let share = self.seat.split(&self.table, 1);
         let errand = Errand {
             own,
             store: self.number,
-            seat,
+            seat: share,
             session,
         };
         match Serving::start(rt, &home, errand) {
