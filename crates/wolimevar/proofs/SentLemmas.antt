@@ -1,12 +1,10 @@
--- A lent client, and a session with what its client is made of, may go to any thread, where the values of its store may go there and be
--- shared.
+-- A lent client may go to any thread, where the values of its store may go there and be shared.
 use denote.RattleType.{RattleType}
 use denote.Param.Send.{IsSend, IsSync, sendable, part_keyless}
 use denote.Struct.Tuple.{TupleAt}
 use Rattle.std.proofs.Common.{ℕ, List, [], ◌∷◌}
 use Rattle.std.proofs.Crossing.{crosses}
 use Rattle.std.below.core.specs.contracts.marker.ClosureMark as ClosureMark
-use Rattle.std.specs.contracts.result.Result as Result
 use Rattle.atomic_table.specs.contracts.shared.Seat as Place
 use Rattle.atomic_table.proofs.shared.Seat.TheSendSync as place
 use Rattle.counted_slot.proofs.Counted.TheSendSync as counted
@@ -24,7 +22,6 @@ use Rattle.wolimevar.specs.contracts.homes.Home as Home
 use Rattle.wolimevar.specs.contracts.homes.Own as Own
 use Rattle.wolimevar.specs.contracts.runner.Runner as Runner
 use Rattle.wolimevar.specs.contracts.lent.LentClient as LentClient
-use Rattle.wolimevar.specs.contracts.serving.Errand as Errand
 
 -- who has a `&` to a place has shares of the whole of it
 place_sync : (S V : RattleType) → IsSend S → IsSync (Place.the_row S V)
@@ -34,11 +31,8 @@ place_sync S V s = record { shared = λ d b o κ q. part_keyless (Place.the_row 
 pub mark_send : (A : RattleType) → IsSend (ClosureMark.the_row A)
 mark_send A = search (sendable, crosses) depth 30
 
-pub pair_send : (name : List ℕ) (A B : RattleType) → IsSend A → IsSend B → IsSend (TupleAt name (A ∷ B ∷ []))
-pair_send name A B a b = search sendable depth 30
-
-pub result_send : (A B : RattleType) → IsSend A → IsSend B → IsSend (Result.the_row A B)
-result_send A B a b = search sendable depth 30
+pub captures_send : (name : List ℕ) (A B C : RattleType) → IsSend A → IsSend B → IsSend C → IsSend (TupleAt name (A ∷ B ∷ C ∷ []))
+captures_send name A B C a b c = search sendable depth 30
 
 -- Each type as a field of another, from its own fields.
 module _ (V : RattleType) where
@@ -79,7 +73,3 @@ module _ (V : RattleType) where
 
       pub lent_client_send : IsSend (LentClient.the_row V)
       lent_client_send = search (sendable, own_send, runner_send) depth 30
-
-      module _ (N : RattleType) (n : IsSend N) where
-        pub errand_send : IsSend (Errand.the_row V N)
-        errand_send = search (sendable, own_send, tx_seat_send) depth 30

@@ -11,4 +11,3 @@ pub mod Stores
 pub mod StoreSeats
 pub mod Sessions
 pub mod Lenders
-pub mod Errands

@@ -4,9 +4,8 @@
 //! client and the lender both own. A home takes seats of one table alone, its tag: so a seat that is found there fits, whoever left it.
 //!
 //! A home waits for the seat of its client (`FREE`), or has it (`PRESENT`), or is idle until another client gets it (`MARKED`).
-ghost use Rattle.std.specs.Prelude.{◌≡◌, ◌<◌, ◌%◌, All, IfOk, IfSome};
+ghost use Rattle.std.specs.Prelude.{◌≡◌, All, IfOk, IfSome};
 ghost use Rattle.std.specs.Arc.{arc_value};
-ghost use Rattle.counted_slot.specs.Counting.{IsTurn, readers};
 ghost use Rattle.wolimevar.specs.Backs.{IsBack};
 ghost use Rattle.wolimevar.specs.Homes.{IsHomeOf};
 
@@ -60,7 +59,7 @@ impl<V: Drop> Home<V> {
     }
 
     /// One more owner of it.
-    pub(crate) fn again(&self) -> Result<Home<V>, Memory>
+    fn again(&self) -> Result<Home<V>, Memory>
         ensures { IfOk result (IsHomeOf (arc_value self.now.slot).value) }
     {
         let slot = Arc::try_clone(&self.slot)?;
@@ -92,33 +91,15 @@ impl<V: Drop> Home<V> {
         Some(back.seat)
     }
 
-    /// Whether it had no seat, and was in the first of these two states. Then it is in the second one.
-    fn pass(&self, from: u64, to: u64) -> bool
-        requires from { IsTurn from TAKEN }
-        requires to { (to % 4 < 3) × (readers to ≡ 0) }
-    {
-        let (found, claim) = self.slot.turn(from, TAKEN);
-        if found != from {
+    /// Whether it was idle. Then it waits for a seat again.
+    fn wait_again(&self) -> bool {
+        let (found, claim) = self.slot.turn(MARKED, TAKEN);
+        if found != MARKED {
             claim.done();
             return false;
         }
-        claim.put(None, to);
+        claim.put(None, FREE);
         true
-    }
-
-    /// Whether it waits for a seat.
-    pub(crate) fn waits(&self) -> bool {
-        self.pass(FREE, FREE)
-    }
-
-    /// It was idle, and waits for a seat again; or neither.
-    fn wait_again(&self) -> bool {
-        self.pass(MARKED, FREE)
-    }
-
-    /// It waited for a seat, and is idle; or neither.
-    pub(crate) fn wait_no_more(&self) -> bool {
-        self.pass(FREE, MARKED)
     }
 }
 
@@ -139,7 +120,7 @@ fn idle_home<V: Drop>(table: &TxTable<V>, homes: &[Home<V>]) -> Option<Home<V>>
 }
 
 /// A home for one more client, which the list has too. It is an idle one, if there is one.
-fn home_for<V: Drop>(
+pub(crate) fn home_for<V: Drop>(
     alloc: Global,
     table: &TxTable<V>,
     homes: &mut Vec<Home<V>>,
@@ -154,22 +135,4 @@ fn home_for<V: Drop>(
     let home = Home::new(alloc, table)?;
     homes.push(home.again()?)?;
     Ok(home)
-}
-
-/// What a client of this table owns.
-pub(crate) fn own_for<V: Drop>(
-    alloc: Global,
-    table: &Arc<TxTable<V>>,
-    homes: &mut Vec<Home<V>>,
-) -> Result<Own<V>, Memory>
-    requires own { All (IsHomeOf (arc_value table.now)) homes.old.items }
-    ensures own { All (IsHomeOf (arc_value table.now)) homes.new.items }
-    ensures same { IfOk result (λ own. arc_value own.table ≡ arc_value table.now) }
-{
-    let shared = Arc::try_clone(table)?;
-    let home = home_for(alloc, table, homes)?;
-    Ok(Own {
-        table: shared,
-        home,
-    })
 }

@@ -14,9 +14,9 @@ ghost use Rattle.wolimevar.specs.Homes.{IsHomeOf};
 ghost use Rattle.wolimevar.specs.Lenders.{HasBack, HasTakenBack};
 ghost use Rattle.wolimevar.specs.Sessions.{receipts_at};
 
-use crate::homes::{Home, own_for};
+use crate::homes::{Home, Own, home_for};
 use crate::lent::LentClient;
-use crate::serving::{Errand, Serving};
+use crate::serving::Serving;
 use crate::sessions::Session;
 use crate::store::Store;
 use crate::tally::Tally;
@@ -97,23 +97,24 @@ impl<V: Value> Lender<V> {
         if self.seat.shares() <= 1 {
             return Err(Refusal::TooLong);
         }
-        let Ok(own) = own_for(self.alloc, &self.table, &mut self.homes) else {
+        let Ok(table) = Arc::try_clone(&self.table) else {
+            return Err(Refusal::Memory);
+        };
+        let Ok(home) = home_for(self.alloc, &self.table, &mut self.homes) else {
             return Err(Refusal::Memory);
         };
         let seat = self.seat.split(&self.table, 1);
-        Ok(LentClient::of(own, self.number, seat))
+        Ok(LentClient::of(Own { table, home }, self.number, seat))
     }
 
-    /// Has a client serve the session in a thread of its own.
+    /// Has a client serve the session in a thread of its own. Where no thread can be started, it is served before this returns.
     ///
-    /// `TooLong` where 63 are out, or were not taken back yet, and `Memory` where an allocation fails or no thread can be started: then the
-    /// session was not served, and the lender is unchanged.
+    /// Refused like [`Lender::client`]: then the session was not served, and the lender is unchanged.
     ///
     /// ```
     /// let serving = lender.spawn(rt, Visit { alloc, word })?;
-    /// let (answers, client) = serving.join(rt);
+    /// let answers = serving.join(rt);
     /// ```
-    #[tactic(auto, using(crate::proofs::LenderLemmas::share_less))]
     pub fn spawn<R: Threads, N: Session<V> + Drop + Send + 'static>(
         &mut self,
         rt: &R,
@@ -128,30 +129,8 @@ impl<V: Value> Lender<V> {
         ensures none { OnErr result (self.new ≡ self.old) }
         ensures why { IfErr result (λ cause. ((cause ≡ TooLong) × (self.old.shares ≤ 1)) ⊎ (cause ≡ OutOfMemory)) }
     {
-        if self.seat.shares() <= 1 {
-            return Err(Refusal::TooLong);
-        }
-        let Ok(own) = own_for(self.alloc, &self.table, &mut self.homes) else {
-            return Err(Refusal::Memory);
-        };
-        let Ok(home) = own.home.again() else {
-            own.home.wait_no_more();
-            return Err(Refusal::Memory);
-        };
-        let share = self.seat.split(&self.table, 1);
-        let errand = Errand {
-            own,
-            store: self.number,
-            seat: share,
-            session,
-        };
-        match Serving::start(rt, &home, errand) {
-            Ok(serving) => Ok(serving),
-            Err(errand) => {
-                self.seat.join(&self.table, errand.seat);
-                Err(Refusal::Memory)
-            }
-        }
+        let client = self.client()?;
+        Ok(Serving::start(rt, client, session))
     }
 
     /// Takes back the clients that were dropped, and returns how many are still out. Their receipts are added to the store's, those of one

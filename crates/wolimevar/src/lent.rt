@@ -139,8 +139,7 @@ impl<V: Value> LentClient<V> {
             .run::<Brand, B>(&self.own.table, tries, body, declared)
     }
 
-    /// Serves a session, and returns what it returned, with this client, which has the session's receipts.
-    pub(crate) fn serve<N: Session<V> + Drop>(self, session: N) -> (N::Out, LentClient<V>)
+    fn played<N: Session<V> + Drop>(self, session: N) -> (N::Out, LentClient<V>)
         requires new { self.receipts ≡ [] }
         ensures served { N.serves session result.0 result.1.receipts }
         ensures counts { result.1.tally ≡ self.tally }
@@ -159,6 +158,16 @@ impl<V: Value> LentClient<V> {
             }
             None => unreachable!(),
         }
+    }
+
+    /// Serves a session, and goes home with its receipts.
+    pub(crate) fn serve<N: Session<V> + Drop>(self, session: N) -> N::Out
+        requires new { self.receipts ≡ [] }
+        ensures served { (receipts : _) × N.serves session result receipts }
+    {
+        let (out, client) = self.played(session);
+        drop(client);
+        out
     }
 
     /// How the attempts of this client ended, counted.

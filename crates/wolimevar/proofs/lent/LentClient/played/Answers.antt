@@ -3,7 +3,7 @@ use Rattle.std.specs.Arc.{arc_value}
 use Rattle.tx_table.specs.declared.table.TxTable.{TxTable}
 use Rattle.tx_engine.specs.Ready.{IsReady}
 use Rattle.wolimevar.proofs.LenderLemmas.{served_client}
-use Rattle.wolimevar.proofs.lent.LentClient.serve.Goals as goal
+use Rattle.wolimevar.proofs.lent.LentClient.played.Goals as goal
 
 pub invariant_of-result : goal.invariant_of-result
 invariant_of-result g c =
