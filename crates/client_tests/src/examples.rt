@@ -216,8 +216,7 @@ fn spawn_visit<R: Threads + Sync>(
 ) -> Result<(), Refusal> {
     let alloc = *text.allocator();
     let serving = lender.spawn(rt, Visit { alloc, word })?;
-    let (answers, client) = serving.join(rt);
-    drop(client);
+    let answers = serving.join(rt);
     let out = lender.take_back(); // 0
     text.push_str(answers?.as_str())?;
     Ok(writeln!(text, "then {out} out")?)

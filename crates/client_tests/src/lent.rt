@@ -118,11 +118,7 @@ fn serve_two<R: Threads>(
 ) -> Result<(), Refusal> {
     let first = lender.spawn(rt, Counting(word))?;
     let second = lender.spawn(rt, Counting(word))?;
-    let (one, client) = first.join(rt);
-    let (other, its_client) = second.join(rt);
-    let commits = one.saturating_add(other);
-    drop(client);
-    drop(its_client);
+    let commits = first.join(rt).saturating_add(second.join(rt));
     let out = lender.take_back();
     writeln!(
         text,
