@@ -1,10 +1,13 @@
-//! Two clients that are lent: one is dropped once its lender was asked to end, the other one later. Then one is dropped after a body that
-//! has aborted, and as many are lent as there can be.
+//! Two clients that are lent: one is dropped once its lender was asked to end, the other one later. Two more serve sessions in threads of
+//! their own. Then one is dropped after a body that has aborted, and as many are lent as there can be.
+use crate::examples::Count;
 use crate::scripts::TRIES;
 use std::alloc::Global;
 use std::fmt::Write;
+use std::thread::Threads;
 use wolimevar::{
-    Body, Failure, Layout, Lender, LentClient, Refusal, Scope, StillLent, Store, Transaction, Word,
+    Body, Client, Failure, Layout, Lender, LentClient, Refusal, Scope, Session, StillLent, Store,
+    Transaction, Word,
 };
 
 /// One more than the clients that may be lent at once.
@@ -23,22 +26,6 @@ impl Made {
             commits: self.commits.saturating_add(other.commits),
             sum: self.sum.saturating_add(other.sum),
         }
-    }
-}
-
-/// A word holds one more. It gives what the word held.
-#[derive(Drop)]
-struct Count(Word);
-
-impl Body<u64> for Count {
-    type Out = u64;
-
-    type Error = Refusal;
-
-    fn run<S: Scope<u64>>(&self, tx: &mut Transaction<'_, u64, S>) -> Result<u64, Refusal> {
-        let number = self.0.read(tx)?;
-        self.0.write(tx, number.saturating_add(1))?;
-        Ok(number)
     }
 }
 
@@ -104,6 +91,42 @@ fn run_both(
     Ok((made.and(others), lender))
 }
 
+/// Counts a word ten times, and returns how often that committed.
+#[derive(Drop)]
+struct Counting(Word);
+
+impl Session<u64> for Counting {
+    type Out = u64;
+
+    fn serve<S: Scope<u64>>(self, client: &mut Client<'_, u64, S>) -> u64 {
+        let mut commits = 0u64;
+        for _ in 0..10u64 {
+            if client.atomically(TRIES, &Count(self.0)).is_ok() {
+                commits = commits.saturating_add(1);
+            }
+        }
+        commits
+    }
+}
+
+/// Two sessions are served in threads of their own.
+fn serve_two<R: Threads>(
+    rt: &R,
+    text: &mut String,
+    lender: &mut Lender<u64>,
+    word: Word,
+) -> Result<(), Refusal> {
+    let first = lender.spawn(rt, Counting(word))?;
+    let second = lender.spawn(rt, Counting(word))?;
+    let commits = first.join(rt).saturating_add(second.join(rt));
+    let out = lender.take_back();
+    writeln!(
+        text,
+        "two sessions in threads = {commits} commits, then {out} out"
+    )?;
+    Ok(())
+}
+
 /// A client whose body aborts is dropped.
 fn drop_after_abort(
     text: &mut String,
@@ -159,12 +182,13 @@ fn open(alloc: Global) -> Result<(Store<u64>, Word), Refusal> {
     Ok((store, word))
 }
 
-pub fn test(alloc: Global, text: &mut String) -> Result<(), Refusal> {
+pub fn test<R: Threads>(rt: &R, alloc: Global, text: &mut String) -> Result<(), Refusal> {
     let (store, word) = open(alloc)?;
     let Ok(lender) = store.lend() else {
         return Err(Refusal::Memory);
     };
     let (made, mut lender) = run_both(text, lender, word)?;
+    serve_two(rt, text, &mut lender, word)?;
     drop_after_abort(text, &mut lender, word)?;
     lend_too_many(alloc, text, &mut lender)?;
     let Ok(mut store) = lender.end() else {

@@ -5,6 +5,7 @@
 #![tactic(auto)]
 
 mod contents;
+mod examples;
 mod handles;
 mod layouts;
 mod lent;

@@ -2,13 +2,13 @@
 use crate::contents::print_closed;
 use crate::handles::{All, all_of, open};
 use crate::layouts::opens;
-use crate::lent;
 use crate::numbers::{Brittle, Number};
 use crate::refusals::{print_explained, print_failures};
 use crate::scripts::{Script, print_ran, run_at_store};
 use crate::sessions::{answer_clients, print_learnt, print_tally};
 use crate::steps::number_of;
 use crate::values::print_given;
+use crate::{examples, lent};
 use std::alloc::{AllocError, Global};
 use std::fmt::Write;
 use std::thread::Threads;
@@ -27,7 +27,7 @@ use wolimevar::{Refusal, Store, Tally};
 /// - `clients N PART / PART` has so many sessions do these parts, see [`crate::sessions`].
 /// - `learn N` learns a number, and `tally` counts how the store's attempts ended.
 ///
-/// The part `lent` is one test, see [`crate::lent`]. Elsewhere stand `layout KIND N`, `value TYPE`, `tally` of no attempts, `failures`, and
+/// The parts `lent` and `examples` are one test each, see [`crate::lent`] and [`crate::examples`]. Elsewhere stand `layout KIND N`, `value TYPE`, `tally` of no attempts, `failures`, and
 /// `explain`.
 pub fn answer_all<R: Threads + Sync>(
     rt: &R,
@@ -67,7 +67,8 @@ fn answer_part<R: Threads + Sync>(
     match first.split_once(' ') {
         Some(("store", number)) => answer_at::<R, u64>(rt, alloc, text, number, rows),
         Some(("brittle", number)) => answer_at::<R, Brittle>(rt, alloc, text, number, rows),
-        None if first == "lent" => lent::test(alloc, text),
+        None if first == "lent" => lent::test(rt, alloc, text),
+        None if first == "examples" => examples::test(rt, alloc, text),
         _ => answer_rows_alone(alloc, text, rows),
     }
 }

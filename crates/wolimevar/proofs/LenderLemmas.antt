@@ -49,6 +49,14 @@ module _ {V : Type 0} where
     share = share;
   }
 
+  -- one that has served a session
+  pub served_client : (t : TxTable V) (seat : Option (TxSeat V)) (s u : TxSeat V) → IsLent t seat → seat ≡ Some s → IsReady t u
+      → (view u.seat).shares ≡ (view s.seat).shares → AreBy (actor u.seat) (view u.seat).receipts → IsLent t (Some u)
+  served_client t seat s u lent is ready shares own = record {
+    client = at_client None t u ready tt own;
+    share = shares ∙ subst (λ (x : Option (TxSeat V)). shares_at x ≡ 1) is lent.share;
+  }
+
   -- a store whose seat is this one lends
   pub store_lends : (t : TxTable V) (seat : Option (TxSeat V)) (s : TxSeat V) → IsAtStore t seat → seat ≡ Some s → IsAtLender t s []
   store_lends t seat s at is = record {

@@ -1,7 +1,10 @@
 -- A lent client may go to any thread, where the values of its store may go there and be shared.
 use denote.RattleType.{RattleType}
 use denote.Param.Send.{IsSend, IsSync, sendable, part_keyless}
+use denote.Struct.Tuple.{TupleAt}
+use Rattle.std.proofs.Common.{ℕ, List, [], ◌∷◌}
 use Rattle.std.proofs.Crossing.{crosses}
+use Rattle.std.below.core.specs.contracts.marker.ClosureMark as ClosureMark
 use Rattle.atomic_table.specs.contracts.shared.Seat as Place
 use Rattle.atomic_table.proofs.shared.Seat.TheSendSync as place
 use Rattle.counted_slot.proofs.Counted.TheSendSync as counted
@@ -23,6 +26,13 @@ use Rattle.wolimevar.specs.contracts.lent.LentClient as LentClient
 -- who has a `&` to a place has shares of the whole of it
 place_sync : (S V : RattleType) → IsSend S → IsSync (Place.the_row S V)
 place_sync S V s = record { shared = λ d b o κ q. part_keyless (Place.the_row S V) (place.the_send S V s) q d b o }
+
+-- what every closure has beside what it captures
+pub mark_send : (A : RattleType) → IsSend (ClosureMark.the_row A)
+mark_send A = search (sendable, crosses) depth 30
+
+pub captures_send : (name : List ℕ) (A B C : RattleType) → IsSend A → IsSend B → IsSend C → IsSend (TupleAt name (A ∷ B ∷ C ∷ []))
+captures_send name A B C a b c = search sendable depth 30
 
 -- Each type as a field of another, from its own fields.
 module _ (V : RattleType) where

@@ -26,6 +26,12 @@ impl Bag {
     }
 
     /// How many copies of the element the multiset has.
+    ///
+    /// ```
+    /// bag.add(tx, 3)??;
+    /// bag.add(tx, 3)??;
+    /// let copies = bag.count(tx, 3)?; // 2
+    /// ```
     pub fn count<V: Value, S: Scope<V>>(
         &self,
         tx: &mut Transaction<'_, V, S>,
@@ -38,6 +44,11 @@ impl Bag {
     }
 
     /// Adds one copy of the element. [`Full`] where it has 4,294,967,295 copies already.
+    ///
+    /// ```
+    /// bag.add(tx, 3)??;
+    /// let copies = bag.count(tx, 3)?; // 2
+    /// ```
     pub fn add<V: Value, S: Scope<V>>(
         &self,
         tx: &mut Transaction<'_, V, S>,
@@ -50,6 +61,12 @@ impl Bag {
     }
 
     /// Takes one copy of the element out, and returns whether there was one.
+    ///
+    /// ```
+    /// let copies = bag.count(tx, 3)?; // 2
+    /// let taken = bag.take(tx, 3)?; // true
+    /// let left = bag.count(tx, 3)?; // 1
+    /// ```
     pub fn take<V: Value, S: Scope<V>>(
         &self,
         tx: &mut Transaction<'_, V, S>,

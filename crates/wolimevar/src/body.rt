@@ -31,6 +31,15 @@ pub trait Body<V> {
 
     ghost aborts: { Self → Self.Error → List (ACall V × AReply V) → Type 0 } = { λ _ _ _. ⊤ };
 
+    /// Runs in a transaction.
+    ///
+    /// ```
+    /// fn run<S: Scope<u64>>(&self, tx: &mut Transaction<'_, u64, S>) -> Result<u64, Refusal> {
+    ///     let number = self.0.read(tx)?;
+    ///     self.0.write(tx, number.saturating_add(1))?;
+    ///     Ok(number)
+    /// }
+    /// ```
     fn run<S: Scope<V>>(&self, tx: &mut Transaction<'_, V, S>) -> Result<Self::Out, Self::Error>
         ensures makes { IfOk result (λ out. makes self.now out tx.new.calls) }
         ensures aborts { IfErr result (λ error. aborts self.now error tx.new.calls) };

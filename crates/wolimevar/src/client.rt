@@ -95,6 +95,11 @@ impl<'t, V: Value, S: Scope<V>> Client<'t, V, S> {
     /// After a conflict ([`Refusal::is_conflict`]) it waits and attempts the body again, `tries` times in all, and once at least. Any other
     /// refusal, and an error of the body's own, is returned at once ([`Failure`]). Then the transaction has changed nothing, and the client
     /// has no receipt more.
+    ///
+    /// ```
+    /// let (held, receipt) = client.atomically(1_000, &Count(word))?;
+    /// let last = client.last_number() == receipt.number; // true
+    /// ```
     pub fn atomically<B: Body<V>>(
         &mut self,
         tries: u64,
@@ -116,6 +121,11 @@ impl<'t, V: Value, S: Scope<V>> Client<'t, V, S> {
     /// keeps no read set, so it may read as much as its calls allow, and it commits without a lock; but a location that others change
     /// meanwhile refuses it (`Moved`), so a long reader beside many writers needs more tries. Its receipt says that nothing was
     /// written.
+    ///
+    /// ```
+    /// let (then, reader) = client.look(1_000, &Held(word))?;
+    /// let writes = reader.writes; // false
+    /// ```
     pub fn look<B: Body<V>>(
         &mut self,
         tries: u64,
@@ -146,6 +156,11 @@ impl<'t, V: Value, S: Scope<V>> Client<'t, V, S> {
     }
 
     /// How the attempts of this client ended, counted.
+    ///
+    /// ```
+    /// let (then, reader) = client.look(1_000, &Held(word))?;
+    /// let committed = client.tally().committed; // 2
+    /// ```
     pub fn tally(&self) -> Tally
         ensures { result ≡ self.now.tally }
     {
@@ -154,6 +169,12 @@ impl<'t, V: Value, S: Scope<V>> Client<'t, V, S> {
 
     /// The greatest number that this client committed or learnt; 0 at first. Numbers are in commit order: what has this number, or a lower
     /// one, is seen by the client's next transaction.
+    ///
+    /// ```
+    /// let first = client.last_number(); // 0
+    /// let (held, receipt) = client.atomically(1_000, &Count(word))?;
+    /// let last = client.last_number() == receipt.number; // true
+    /// ```
     pub fn last_number(&self) -> u64
         ensures { result ≡ self.now.last }
     {
@@ -162,6 +183,11 @@ impl<'t, V: Value, S: Scope<V>> Client<'t, V, S> {
 
     /// Learns the number of a commit of another client of this store: the client's next transaction begins at it or above, so it sees that
     /// commit. `Ahead` where the store's clock is below the number, which is of no commit here; then nothing is learnt.
+    ///
+    /// ```
+    /// let (held, receipt) = client.atomically(1_000, &Count(word))?;
+    /// let learnt = client.learn(receipt.number); // Ok(())
+    /// ```
     pub fn learn(&mut self, number: u64) -> Result<(), Refusal>
         ensures same { self.new.actor ≡ self.old.actor }
         ensures receipts { self.new.receipts ≡ self.old.receipts }

@@ -35,6 +35,11 @@ impl<V: Value> Contents<V> {
     }
 
     /// The entries of a map.
+    ///
+    /// ```
+    /// let entries = contents.map(map);
+    /// let value = entries.and_then(|entries| entries.get(1)); // Some(10)
+    /// ```
     pub fn map(&self, map: Map<V>) -> Option<&Entries<V>>
         ensures { IfSome result (λ entries. HeldAt self.now.store self.now.state map.store map.number (held.Map entries.now)) }
     {
@@ -45,6 +50,11 @@ impl<V: Value> Contents<V> {
     }
 
     /// The elements of a multiset, each with how many copies there are.
+    ///
+    /// ```
+    /// let counts = contents.bag(bag);
+    /// let copies = counts.map(|counts| counts.copies(3)); // Some(2)
+    /// ```
     pub fn bag(&self, bag: Bag) -> Option<&Counts>
         ensures { IfSome result (λ counts. HeldAt self.now.store self.now.state bag.store bag.number (held.Bag counts.now)) }
     {
@@ -55,6 +65,11 @@ impl<V: Value> Contents<V> {
     }
 
     /// The elements of a priority queue, each with how many copies there are.
+    ///
+    /// ```
+    /// let counts = contents.priority_queue(priorities);
+    /// let least = counts.and_then(|counts| counts.least()); // Some(5)
+    /// ```
     pub fn priority_queue(&self, queue: PriorityQueue) -> Option<&Counts>
         ensures { IfSome result (λ counts. HeldAt self.now.store self.now.state queue.store queue.number (held.Pq counts.now)) }
     {
@@ -65,6 +80,11 @@ impl<V: Value> Contents<V> {
     }
 
     /// The items of a queue, the first one first.
+    ///
+    /// ```
+    /// let items = contents.queue(queue);
+    /// let first = items.and_then(|items| items.first()); // Some(6)
+    /// ```
     pub fn queue(&self, queue: Queue) -> Option<&QueueItems>
         ensures { IfSome result (λ items. (head : _) × HeldAt self.now.store self.now.state queue.store queue.number (held.Queue head items.now)) }
     {
@@ -75,6 +95,11 @@ impl<V: Value> Contents<V> {
     }
 
     /// What a word holds.
+    ///
+    /// ```
+    /// let contents = store.close()?;
+    /// let held = contents.word(word); // Some(7)
+    /// ```
     pub fn word(&self, word: Word) -> Option<u64>
         ensures { IfSome result (λ number. WordAt self.now.store self.now.state word.store word.number number) }
     {

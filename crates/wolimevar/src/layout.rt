@@ -44,6 +44,11 @@ impl<V: Drop> Drop for Layout<V> {
 
 impl<V: Value> Layout<V> {
     /// An empty layout, whose store has the number 0.
+    ///
+    /// ```
+    /// let mut layout: Layout<u64> = Layout::new(alloc);
+    /// let store = layout.open()?;
+    /// ```
     pub fn new(alloc: Global) -> Layout<V>
         ensures store { result.store ≡ 0 }
     {
@@ -52,6 +57,11 @@ impl<V: Value> Layout<V> {
 
     /// An empty layout, whose store has this number. A program with several stores gives each another number: a handle is `NoSuch` at a
     /// store of another number.
+    ///
+    /// ```
+    /// let mut layout = Layout::numbered(alloc, 1);
+    /// let store = layout.open()?;
+    /// ```
     pub fn numbered(alloc: Global, number: u32) -> Layout<V>
         ensures store { result.store ≡ number }
     {
@@ -75,6 +85,11 @@ impl<V: Value> Layout<V> {
     }
 
     /// Adds a word that holds this number at first. `TooLong` beyond 4,294,967,295 words; `Memory` where an allocation fails.
+    ///
+    /// ```
+    /// let word = layout.word(7)?;
+    /// let store = layout.open()?;
+    /// ```
     pub fn word(&mut self, number: u64) -> Result<Word, Refusal>
         ensures same { self.new.store ≡ self.old.store }
         ensures store { IfOk result (λ handle. handle.store ≡ self.new.store) }
@@ -88,6 +103,12 @@ impl<V: Value> Layout<V> {
     }
 
     /// Adds a map that holds these entries at first. Refused like `word`.
+    ///
+    /// ```
+    /// let mut entries = Entries::new(alloc);
+    /// entries.insert(1, 10)?;
+    /// let map = layout.map(64, entries)?;
+    /// ```
     pub fn map(&mut self, stripes: u32, entries: Entries<V>) -> Result<Map<V>, Refusal>
         ensures same { self.new.store ≡ self.old.store }
         ensures store { IfOk result (λ handle. handle.store ≡ self.new.store) }
@@ -98,6 +119,12 @@ impl<V: Value> Layout<V> {
     }
 
     /// Adds a multiset that holds these counts at first. Refused like `word`.
+    ///
+    /// ```
+    /// let mut counts = Counts::new(alloc);
+    /// counts.set_copies(3, 2)?;
+    /// let bag = layout.bag(64, counts)?;
+    /// ```
     pub fn bag(&mut self, stripes: u32, counts: Counts) -> Result<Bag, Refusal>
         ensures same { self.new.store ≡ self.old.store }
         ensures store { IfOk result (λ handle. handle.store ≡ self.new.store) }
@@ -108,6 +135,12 @@ impl<V: Value> Layout<V> {
     }
 
     /// Adds a priority queue that holds these counts at first. Refused like `word`.
+    ///
+    /// ```
+    /// let mut counts = Counts::new(alloc);
+    /// counts.set_copies(5, 1)?;
+    /// let priorities = layout.priority_queue(1, counts)?;
+    /// ```
     pub fn priority_queue(&mut self, stripes: u32, counts: Counts) -> Result<PriorityQueue, Refusal>
         ensures same { self.new.store ≡ self.old.store }
         ensures store { IfOk result (λ handle. handle.store ≡ self.new.store) }
@@ -118,6 +151,12 @@ impl<V: Value> Layout<V> {
     }
 
     /// Adds a queue that holds these items at first. Refused like `word`.
+    ///
+    /// ```
+    /// let mut items = QueueItems::new(alloc);
+    /// items.push(6)?;
+    /// let queue = layout.queue(8, items)?;
+    /// ```
     pub fn queue(&mut self, stripes: u32, items: QueueItems) -> Result<Queue, Refusal>
         ensures same { self.new.store ≡ self.old.store }
         ensures store { IfOk result (λ handle. handle.store ≡ self.new.store) }
@@ -129,6 +168,12 @@ impl<V: Value> Layout<V> {
 
     /// Opens a store that holds all this. `TooLong` where there are more than 256 collections or more than 1,048,576 locations, a
     /// collection can't have so many stripes, or has more than 4,294,967,295 copies of an element; `Memory` where an allocation fails.
+    ///
+    /// ```
+    /// let mut layout = Layout::numbered(alloc, 1);
+    /// let word = layout.word(7)?;
+    /// let store = layout.open()?;
+    /// ```
     pub fn open(self) -> Result<Store<V>, Refusal>
         ensures number { IfOk result (λ store. store.number ≡ self.store) }
         ensures words { IfOk result (λ store. store.opening.words ≡ self.words.items) }

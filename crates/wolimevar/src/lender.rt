@@ -16,12 +16,15 @@ ghost use Rattle.wolimevar.specs.Sessions.{receipts_at};
 
 use crate::homes::{Home, Own, home_for};
 use crate::lent::LentClient;
+use crate::serving::Serving;
+use crate::sessions::Session;
 use crate::store::Store;
 use crate::tally::Tally;
 use seq_model::{Refusal, Value};
 use std::alloc::Global;
 use std::marker::Model;
 use std::sync::Arc;
+use std::thread::Threads;
 use tx_engine::TxSeat;
 use tx_table::{SHARES, TxTable};
 
@@ -78,6 +81,11 @@ impl<V: Value> Lender<V> {
     /// A client for any thread.
     ///
     /// `TooLong` where 63 are out, or were not taken back yet, and `Memory` where an allocation fails: then the lender is unchanged.
+    ///
+    /// ```
+    /// let mut client = lender.client()?;
+    /// let (held, written) = client.atomically(1_000, &Count(word))?;
+    /// ```
     #[tactic(auto, using(crate::proofs::LenderLemmas::share_less))]
     pub fn client(&mut self) -> Result<LentClient<V>, Refusal>
         ensures same { self.new.store ≡ self.old.store }
@@ -99,11 +107,42 @@ impl<V: Value> Lender<V> {
         Ok(LentClient::of(Own { table, home }, self.number, seat))
     }
 
+    /// Has a client serve the session in a thread of its own. Where no thread can be started, it is served before this returns.
+    ///
+    /// Refused like [`Lender::client`]: then the session was not served, and the lender is unchanged.
+    ///
+    /// ```
+    /// let serving = lender.spawn(rt, Visit { alloc, word })?;
+    /// let answers = serving.join(rt);
+    /// ```
+    pub fn spawn<R: Threads, N: Session<V> + Drop + Send + 'static>(
+        &mut self,
+        rt: &R,
+        session: N,
+    ) -> Result<Serving<V, N>, Refusal>
+    where
+        V: Send + Sync + 'static,
+        N::Out: Send + 'static,
+        ensures same { self.new.store ≡ self.old.store }
+        ensures share { IfOk result (λ _. self.new.shares + 1 ≡ self.old.shares) }
+        ensures session { IfOk result (λ serving. serving ≡ session) }
+        ensures none { OnErr result (self.new ≡ self.old) }
+        ensures why { IfErr result (λ cause. ((cause ≡ TooLong) × (self.old.shares ≤ 1)) ⊎ (cause ≡ OutOfMemory)) }
+    {
+        let client = self.client()?;
+        Ok(Serving::start(rt, client, session))
+    }
+
     /// Takes back the clients that were dropped, and returns how many are still out. Their receipts are added to the store's, those of one
     /// client after those of another.
     ///
     /// No clause says which clients it finds. A client whose drop has returned is found, if that drop came before, as where its thread was
     /// joined.
+    ///
+    /// ```
+    /// drop(client);
+    /// let out = lender.take_back(); // 0
+    /// ```
     #[tactic(auto, using(crate::proofs::LenderLemmas::taken_back))]
     pub fn take_back(&mut self) -> u64
         ensures back { HasTakenBack self.old self.new }
@@ -115,6 +154,13 @@ impl<V: Value> Lender<V> {
 
     /// Takes back the clients that were dropped, and gives the store back, which has the receipts of all. While a client is out it gives
     /// back the lender, with what was taken back.
+    ///
+    /// ```
+    /// let Ok(store) = lender.end() else {
+    ///     return Err(Refusal::NotIdle);
+    /// };
+    /// let contents = store.close()?;
+    /// ```
     pub fn end(mut self) -> Result<Store<V>, StillLent<V>>
         ensures store { IfOk result (λ store. HasTakenBack self (record { store = store; shares = SHARES })) }
         ensures lender { IfErr result (λ still. HasTakenBack self still.lender) }

@@ -13,6 +13,7 @@ use crate::body::Body;
 use crate::failures::Failure;
 use crate::homes::Own;
 use crate::runner::Runner;
+use crate::sessions::{Session, serve_one};
 use crate::tally::Tally;
 use seq_model::{Refusal, Value};
 use std::marker::{Brand, Model};
@@ -79,6 +80,11 @@ impl<V: Value> LentClient<V> {
     }
 
     /// Runs the body as one transaction, which may write, like [`crate::Client::atomically`].
+    ///
+    /// ```
+    /// let mut client = lender.client()?;
+    /// let (held, written) = client.atomically(1_000, &Count(word))?;
+    /// ```
     pub fn atomically<B: Body<V>>(
         &mut self,
         tries: u64,
@@ -97,6 +103,12 @@ impl<V: Value> LentClient<V> {
     }
 
     /// Runs the body as one declared reader, like [`crate::Client::look`].
+    ///
+    /// ```
+    /// let (held, written) = client.atomically(1_000, &Count(word))?;
+    /// let (then, read) = client.look(1_000, &Held(word))?;
+    /// let same = read.number == written.number; // true
+    /// ```
     pub fn look<B: Body<V>>(
         &mut self,
         tries: u64,
@@ -127,7 +139,43 @@ impl<V: Value> LentClient<V> {
             .run::<Brand, B>(&self.own.table, tries, body, declared)
     }
 
+    fn played<N: Session<V> + Drop>(self, session: N) -> (N::Out, LentClient<V>)
+        requires new { self.receipts ≡ [] }
+        ensures served { N.serves session result.0 result.1.receipts }
+        ensures counts { result.1.tally ≡ self.tally }
+    {
+        let LentClient { own, runner } = self;
+        let Runner { store, seat, tally } = runner;
+        match seat {
+            Some(seat) => {
+                let (seat, out) = serve_one(&own.table, store, seat, session);
+                let runner = Runner {
+                    store,
+                    seat: Some(seat),
+                    tally,
+                };
+                (out, LentClient { own, runner })
+            }
+            None => unreachable!(),
+        }
+    }
+
+    /// Serves a session, and goes home with its receipts.
+    pub(crate) fn serve<N: Session<V> + Drop>(self, session: N) -> N::Out
+        requires new { self.receipts ≡ [] }
+        ensures served { (receipts : _) × N.serves session result receipts }
+    {
+        let (out, client) = self.played(session);
+        drop(client);
+        out
+    }
+
     /// How the attempts of this client ended, counted.
+    ///
+    /// ```
+    /// let (then, read) = client.look(1_000, &Held(word))?;
+    /// let refusals = client.tally().refusals(); // 0
+    /// ```
     pub fn tally(&self) -> Tally
         ensures { result ≡ self.now.tally }
     {
@@ -135,6 +183,11 @@ impl<V: Value> LentClient<V> {
     }
 
     /// The greatest number that this client committed or learnt; 0 at first.
+    ///
+    /// ```
+    /// let (then, read) = client.look(1_000, &Held(word))?;
+    /// let last = client.last_number() == read.number; // true
+    /// ```
     pub fn last_number(&self) -> u64
         ensures { result ≡ self.now.last }
     {
@@ -142,6 +195,11 @@ impl<V: Value> LentClient<V> {
     }
 
     /// Learns the number of a commit at this store, like [`crate::Client::learn`].
+    ///
+    /// ```
+    /// let (held, written) = client.atomically(1_000, &Count(word))?;
+    /// let ahead = client.learn(99); // Err(Ahead { clock: 4 })
+    /// ```
     pub fn learn(&mut self, number: u64) -> Result<(), Refusal>
         ensures same { self.new.actor ≡ self.old.actor }
         ensures receipts { self.new.receipts ≡ self.old.receipts }

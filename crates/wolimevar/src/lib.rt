@@ -10,7 +10,8 @@
 //! 4. [`Store::run`] serves a list of [`Session`]s, each in a thread of its own with a [`Client`]. A client runs bodies:
 //!    [`Client::atomically`] attempts a body until it commits, and [`Client::look`] does so with one that only reads. Each commit returns its
 //!    [`Receipt`]: the transaction's number in commit order, and its calls with their replies. Outside of `run`, the store runs bodies itself.
-//!    For threads of one's own there is [`Store::lend`]: a [`Lender`] hands out [`LentClient`]s, which go back when they are dropped.
+//!    For threads of one's own there is [`Store::lend`]: a [`Lender`] starts them one by one ([`Lender::spawn`]), and hands out
+//!    [`LentClient`]s, which go back when they are dropped.
 //! 5. [`Store::close`] returns the [`Contents`], read by the same handles.
 //!
 //! Answers are typed: `map.get(tx, key)?` is an `Option` of a value, `queue.dequeue(tx)?` an `Option<u64>`. A change that may find its
@@ -45,6 +46,7 @@ mod queues;
 mod replies;
 mod runner;
 mod scope;
+mod serving;
 mod sessions;
 mod shared;
 mod store;
@@ -67,6 +69,7 @@ pub use priority_queues::PriorityQueue;
 pub use queues::Queue;
 pub use scope::Scope;
 pub use seq_model::{Counts, Entries, Memory, QueueItems, Refusal, Value};
+pub use serving::Serving;
 pub use sessions::Session;
 pub use shared::Shared;
 pub use store::Store;

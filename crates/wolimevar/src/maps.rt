@@ -33,6 +33,11 @@ impl<V: Value> Map<V> {
     }
 
     /// A copy of the value at a key.
+    ///
+    /// ```
+    /// let held = map.put(tx, 1, 20)?; // Some(10)
+    /// let found = map.get(tx, 1)?; // Some(20)
+    /// ```
     pub fn get<S: Scope<V>>(
         &self,
         tx: &mut Transaction<'_, V, S>,
@@ -45,6 +50,11 @@ impl<V: Value> Map<V> {
     }
 
     /// Puts a value at a key, and returns the value that was there before.
+    ///
+    /// ```
+    /// let before = map.put(tx, 1, 10)?; // None
+    /// let held = map.put(tx, 1, 20)?; // Some(10)
+    /// ```
     pub fn put<S: Scope<V>>(
         &self,
         tx: &mut Transaction<'_, V, S>,
@@ -58,6 +68,11 @@ impl<V: Value> Map<V> {
     }
 
     /// Removes a key, and returns the value that was there.
+    ///
+    /// ```
+    /// let removed = map.remove(tx, 1)?; // Some(20)
+    /// let then = map.get(tx, 1)?; // None
+    /// ```
     pub fn remove<S: Scope<V>>(
         &self,
         tx: &mut Transaction<'_, V, S>,
@@ -70,6 +85,11 @@ impl<V: Value> Map<V> {
     }
 
     /// How many keys the map has. It reads every stripe.
+    ///
+    /// ```
+    /// let before = map.put(tx, 1, 10)?; // None
+    /// let keys = map.len(tx)?; // 1
+    /// ```
     pub fn len<S: Scope<V>>(&self, tx: &mut Transaction<'_, V, S>) -> Result<u64, Refusal>
         ensures { IfOk result (λ count. HasMade tx.old self.now.store self.now.number op.Len (replies.Number count) tx.new) }
     {

@@ -26,6 +26,12 @@ impl PriorityQueue {
     }
 
     /// The least element. It is not taken out.
+    ///
+    /// ```
+    /// priorities.insert(tx, 5)??;
+    /// priorities.insert(tx, 4)??;
+    /// let least = priorities.least(tx)?; // Some(4)
+    /// ```
     pub fn least<V: Value, S: Scope<V>>(
         &self,
         tx: &mut Transaction<'_, V, S>,
@@ -37,6 +43,11 @@ impl PriorityQueue {
     }
 
     /// Inserts one copy of the element. [`Full`] where it has 4,294,967,295 copies already.
+    ///
+    /// ```
+    /// priorities.insert(tx, 4)??;
+    /// let least = priorities.least(tx)?; // Some(4)
+    /// ```
     pub fn insert<V: Value, S: Scope<V>>(
         &self,
         tx: &mut Transaction<'_, V, S>,
@@ -49,6 +60,11 @@ impl PriorityQueue {
     }
 
     /// Takes one copy of the least element out, and returns it. It reads every stripe, so it costs as much as there are stripes.
+    ///
+    /// ```
+    /// let taken = priorities.take_least(tx)?; // Some(4)
+    /// let then = priorities.least(tx)?; // Some(5)
+    /// ```
     pub fn take_least<V: Value, S: Scope<V>>(
         &self,
         tx: &mut Transaction<'_, V, S>,

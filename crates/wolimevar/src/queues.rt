@@ -27,6 +27,12 @@ impl Queue {
     }
 
     /// Adds an item at the end. [`Full`] once the queue's positions are used up.
+    ///
+    /// ```
+    /// queue.enqueue(tx, 6)??;
+    /// queue.enqueue(tx, 7)??;
+    /// let first = queue.peek(tx)?; // Some(6)
+    /// ```
     pub fn enqueue<V: Value, S: Scope<V>>(
         &self,
         tx: &mut Transaction<'_, V, S>,
@@ -39,6 +45,12 @@ impl Queue {
     }
 
     /// Takes the first item out, and returns it.
+    ///
+    /// ```
+    /// let first = queue.peek(tx)?; // Some(6)
+    /// let taken = queue.dequeue(tx)?; // Some(6)
+    /// let items = queue.len(tx)?; // 1
+    /// ```
     pub fn dequeue<V: Value, S: Scope<V>>(
         &self,
         tx: &mut Transaction<'_, V, S>,
@@ -50,6 +62,11 @@ impl Queue {
     }
 
     /// The first item. It is not taken out.
+    ///
+    /// ```
+    /// let first = queue.peek(tx)?; // Some(6)
+    /// let taken = queue.dequeue(tx)?; // Some(6)
+    /// ```
     pub fn peek<V: Value, S: Scope<V>>(
         &self,
         tx: &mut Transaction<'_, V, S>,
@@ -61,6 +78,11 @@ impl Queue {
     }
 
     /// How many items the queue has.
+    ///
+    /// ```
+    /// let taken = queue.dequeue(tx)?; // Some(6)
+    /// let items = queue.len(tx)?; // 1
+    /// ```
     pub fn len<V: Value, S: Scope<V>>(&self, tx: &mut Transaction<'_, V, S>) -> Result<u64, Refusal>
         ensures { IfOk result (λ count. HasMade tx.old self.now.store self.now.number op.Len (replies.Number count) tx.new) }
     {

@@ -35,6 +35,14 @@ pub trait Session<V> {
     ghost serves: { Self → Self.Out → List (ℕ × ARecord V) → Type 0 } = { λ _ _ _. ⊤ };
 
     /// Runs in a thread of its own, for as long as it likes.
+    ///
+    /// ```
+    /// fn serve<S: Scope<u64>>(self, client: &mut Client<'_, u64, S>) -> Result<String, Refusal> {
+    ///     let mut text = String::new(self.alloc);
+    ///     call_client(&mut text, client, self.word)?;
+    ///     Ok(text)
+    /// }
+    /// ```
     fn serve<S: Scope<V>>(self, client: &mut Client<'_, V, S>) -> Self::Out
         requires new { client.old.receipts ≡ [] }
         ensures served { serves self result client.new.receipts };
@@ -69,7 +77,7 @@ fn serve_as<V: Value, S: Scope<V>, N: Session<V> + Drop>(
 }
 
 /// Serves a session, see `serve_as`.
-fn serve_one<V: Value, N: Session<V> + Drop>(
+pub(crate) fn serve_one<V: Value, N: Session<V> + Drop>(
     table: &TxTable<V>,
     store: u32,
     seat: TxSeat<V>,

@@ -29,6 +29,12 @@ impl<T> Model for Shared<T> {
 
 impl<T: Value> Shared<T> {
     /// Allocates the one place for the value. `Memory` where that fails.
+    ///
+    /// ```
+    /// let name = Text::of(alloc, "Ada")?;
+    /// let shared = Shared::new(alloc, name)?;
+    /// let copy = shared.try_copy()?;
+    /// ```
     pub fn new(alloc: Global, value: T) -> Result<Shared<T>, Memory>
         ensures { IfOk result (λ shared. shared ≡ value) }
     {
@@ -37,6 +43,11 @@ impl<T: Value> Shared<T> {
     }
 
     /// The value.
+    ///
+    /// ```
+    /// let copy = shared.try_copy()?;
+    /// let same = copy.get().same(shared.get()); // true
+    /// ```
     pub fn get(&self) -> &T
         ensures { result.now ≡ self.now }
     {

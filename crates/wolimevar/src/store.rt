@@ -67,6 +67,11 @@ impl<V> Model for Store<V> {
 
 impl<V: Value> Store<V> {
     /// Runs the body as one transaction, which may write, like [`crate::Client::atomically`].
+    ///
+    /// ```
+    /// let (held, receipt) = store.atomically(1_000, &Count(word))?;
+    /// let (number, calls) = (receipt.number, receipt.calls.len()); // 1, 2
+    /// ```
     pub fn atomically<B: Body<V>>(
         &mut self,
         tries: u64,
@@ -86,6 +91,12 @@ impl<V: Value> Store<V> {
     }
 
     /// Runs the body as one declared reader, like [`crate::Client::look`].
+    ///
+    /// ```
+    /// let (held, receipt) = store.atomically(1_000, &Count(word))?;
+    /// let (then, reader) = store.look(1_000, &Held(word))?;
+    /// let same = reader.number == receipt.number; // true
+    /// ```
     pub fn look<B: Body<V>>(
         &mut self,
         tries: u64,
@@ -142,6 +153,11 @@ impl<V: Value> Store<V> {
     }
 
     /// How the attempts of the store itself ended, counted. Those of a session are counted by its client.
+    ///
+    /// ```
+    /// let tally = store.tally();
+    /// let (attempts, committed) = (tally.attempts(), tally.committed); // 2, 2
+    /// ```
     pub fn tally(&self) -> Tally
         ensures { result ≡ self.now.tally }
     {
@@ -149,6 +165,11 @@ impl<V: Value> Store<V> {
     }
 
     /// The greatest number that the store, or a session of a `run`, committed or learnt; 0 at first.
+    ///
+    /// ```
+    /// let (held, receipt) = store.atomically(1_000, &Count(word))?;
+    /// let last = store.last_number(); // 1
+    /// ```
     pub fn last_number(&self) -> u64
         ensures { result ≡ self.now.last }
     {
@@ -159,6 +180,12 @@ impl<V: Value> Store<V> {
     }
 
     /// Learns the number of a commit at this store, like [`crate::Client::learn`].
+    ///
+    /// ```
+    /// let last = store.last_number(); // 1
+    /// let learnt = store.learn(last); // Ok(())
+    /// let ahead = store.learn(99); // Err(Ahead { clock: 1 })
+    /// ```
     pub fn learn(&mut self, number: u64) -> Result<(), Refusal>
         ensures number { self.new.number ≡ self.old.number }
         ensures opening { self.new.opening ≡ self.old.opening }
@@ -187,6 +214,11 @@ impl<V: Value> Store<V> {
     ///
     /// Where a thread can't be started, its session is served after others; so a session that waits for another one to do something may
     /// wait forever.
+    ///
+    /// ```
+    /// let visits = vec![in alloc; Visit { alloc, word }]?;
+    /// let outs = store.run(rt, visits)?;
+    /// ```
     pub fn run<R: Threads + Sync, N: Session<V> + Drop + Send>(
         &mut self,
         rt: &R,
@@ -222,6 +254,13 @@ impl<V: Value> Store<V> {
     }
 
     /// Makes it a lender of clients, for threads that `run` doesn't start. Where an allocation fails it is the store, unchanged.
+    ///
+    /// ```
+    /// let Ok(mut lender) = store.lend() else {
+    ///     return Err(Refusal::Memory);
+    /// };
+    /// let mut client = lender.client()?;
+    /// ```
     pub fn lend(self) -> Result<Lender<V>, Store<V>>
         ensures lender { IfOk result (λ lender. lender ≡ record { store = self; shares = SHARES }) }
         ensures store { IfErr result (λ store. store ≡ self) }
@@ -255,6 +294,11 @@ impl<V: Value> Store<V> {
 
     /// Ends the store, and returns what it holds: what its receipts leave, one transaction after another in commit order. `Memory` where
     /// an allocation fails.
+    ///
+    /// ```
+    /// let contents = store.close()?;
+    /// let left = contents.word(word); // Some(11)
+    /// ```
     pub fn close(self) -> Result<Contents<V>, Memory>
         ensures number { IfOk result (λ contents. contents.store ≡ self.number) }
         ensures left { IfOk result (λ contents. IsLeftBy self contents.state) }

@@ -30,6 +30,11 @@ fn one_more(count: u64) -> u64
 
 impl Tally {
     /// No attempts.
+    ///
+    /// ```
+    /// let tally = Tally::new();
+    /// let attempts = tally.attempts(); // 0
+    /// ```
     pub fn new() -> Tally
         ensures { result ≡ counts 0 0 0 0 0 0 0 0 0 }
     {
@@ -47,6 +52,11 @@ impl Tally {
     }
 
     /// How many attempts there were in all, or the greatest `u64` if there were more.
+    ///
+    /// ```
+    /// let tally = store.tally();
+    /// let (attempts, committed) = (tally.attempts(), tally.committed); // 2, 2
+    /// ```
     pub fn attempts(&self) -> u64
         ensures { result ≡ min (attempts self.now) (2 ^ 64 - 1) }
     {
@@ -56,6 +66,11 @@ impl Tally {
     }
 
     /// How many of them were refused, or the greatest `u64` if there were more.
+    ///
+    /// ```
+    /// let (held, written) = client.atomically(1_000, &Count(word))?;
+    /// let refusals = client.tally().refusals(); // 0
+    /// ```
     pub fn refusals(&self) -> u64
         ensures { result ≡ min (refusals self.now) (2 ^ 64 - 1) }
     {

@@ -28,6 +28,11 @@ impl Model for Text {
 
 impl Text {
     /// A copy of this text. `Memory` where an allocation fails.
+    ///
+    /// ```
+    /// let name = Text::of(alloc, "Ada")?;
+    /// let bytes = name.as_str().len(); // 3
+    /// ```
     pub fn of(alloc: Global, text: &str) -> Result<Text, Memory>
         ensures { IfOk result (λ made. made ≡ text.now) }
     {
@@ -37,6 +42,11 @@ impl Text {
     }
 
     /// The text.
+    ///
+    /// ```
+    /// let name = Text::of(alloc, "Ada")?;
+    /// let bytes = name.as_str().len(); // 3
+    /// ```
     pub fn as_str(&self) -> &str
         ensures { result.now ≡ self.now }
     {

@@ -25,6 +25,11 @@ impl Word {
     }
 
     /// What the word holds.
+    ///
+    /// ```
+    /// word.write(tx, 7)?;
+    /// let held = word.read(tx)?; // 7
+    /// ```
     pub fn read<V: Value, S: Scope<V>>(
         &self,
         tx: &mut Transaction<'_, V, S>,
@@ -36,6 +41,12 @@ impl Word {
     }
 
     /// Writes the word. Other transactions see it once this one commits.
+    ///
+    /// ```
+    /// let held = word.read(tx)?; // 7
+    /// word.write(tx, held.saturating_add(1))?;
+    /// let then = word.read(tx)?; // 8
+    /// ```
     pub fn write<V: Value, S: Scope<V>>(
         &self,
         tx: &mut Transaction<'_, V, S>,
