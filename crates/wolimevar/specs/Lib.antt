@@ -1,3 +1,4 @@
+pub mod Gates
 pub mod Asked
 pub mod Made
 pub mod Frames

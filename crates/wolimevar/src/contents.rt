@@ -4,11 +4,14 @@ ghost use Rattle.seq_model.specs.declared.held.Held.TheVariants as held;
 ghost use Rattle.wolimevar.specs.Stores.{HeldAt, WordAt};
 
 use crate::bags::Bag;
+use crate::contents_over::{BagCounts, LaneItems, MapEntries};
+use crate::gates::Gates;
+use crate::lanes::Lanes;
 use crate::maps::Map;
 use crate::priority_queues::PriorityQueue;
 use crate::queues::Queue;
 use crate::words::Word;
-use seq_model::{Counts, Entries, Held, QueueItems, State, Value};
+use seq_model::{Counts, Held, QueueItems, State, Value};
 
 /// What the words and the collections of a store hold once it is closed, read by their handles. A handle of a store with another number, of
 /// another kind, or beyond the layout finds `None`.
@@ -29,23 +32,33 @@ impl<V: Value> Contents<V> {
         self.state.held().get(number as usize)
     }
 
+    /// The collections with these numbers, at the store with this number.
+    fn held_at(&self, store: u32, gates: Gates) -> Option<&[Held<V>]> {
+        if self.store != store {
+            return None;
+        }
+        let first = gates.first as usize;
+        let last = first.checked_add(gates.others as usize)?;
+        self.state.held().get(first..=last)
+    }
+
     /// The entries of a map.
-    pub fn map(&self, map: Map<V>) -> Option<&Entries<V>>
-        ensures { IfSome result (λ entries. HeldAt self.now.store self.now.state map.store map.number (held.Map entries.now)) }
-    {
-        match self.held(map.store, map.number) {
-            Some(Held::Map(entries)) => Some(entries),
-            _ => None,
+    pub fn map(&self, map: Map<V>) -> Option<MapEntries<'_, V>> {
+        let held = self.held_at(map.store, map.gates)?;
+        if held.iter().all(|held| matches!(held, Held::Map(_))) {
+            Some(MapEntries { held, gates: map.gates })
+        } else {
+            None
         }
     }
 
     /// The elements of a multiset, each with how many copies there are.
-    pub fn bag(&self, bag: Bag) -> Option<&Counts>
-        ensures { IfSome result (λ counts. HeldAt self.now.store self.now.state bag.store bag.number (held.Bag counts.now)) }
-    {
-        match self.held(bag.store, bag.number) {
-            Some(Held::Bag(counts)) => Some(counts),
-            _ => None,
+    pub fn bag(&self, bag: Bag) -> Option<BagCounts<'_, V>> {
+        let held = self.held_at(bag.store, bag.gates)?;
+        if held.iter().all(|held| matches!(held, Held::Bag(_))) {
+            Some(BagCounts { held, gates: bag.gates })
+        } else {
+            None
         }
     }
 
@@ -66,6 +79,16 @@ impl<V: Value> Contents<V> {
         match self.held(queue.store, queue.number) {
             Some(Held::Queue { head: _, items }) => Some(items),
             _ => None,
+        }
+    }
+
+    /// The items of a queue in lanes.
+    pub fn lanes(&self, lanes: Lanes) -> Option<LaneItems<'_, V>> {
+        let held = self.held_at(lanes.store, lanes.gates)?;
+        if held.iter().all(|held| matches!(held, Held::Queue { .. })) {
+            Some(LaneItems { held })
+        } else {
+            None
         }
     }
 

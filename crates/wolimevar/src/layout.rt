@@ -3,6 +3,7 @@ ghost use Rattle.std.specs.Prelude.{◌≡◌, IfOk, Some, map, slice_get};
 ghost use Rattle.seq_model.specs.declared.held.Held.TheVariants as held;
 
 use crate::bags::Bag;
+use crate::gates::Gates;
 use crate::maps::Map;
 use crate::priority_queues::PriorityQueue;
 use crate::queues::Queue;
@@ -28,6 +29,8 @@ pub(crate) struct Collection<V> {
 pub struct Layout<V> {
     pub(crate) alloc: Global,
     pub(crate) store: u32,
+    /// What keys are hashed with in collections over several gates.
+    pub(crate) seed: u64,
     pub(crate) words: Vec<u64>,
     pub(crate) collections: Vec<Collection<V>>,
 }
@@ -48,6 +51,7 @@ impl<V: Value> Layout<V> {
         Layout {
             alloc,
             store: number,
+            seed: 0,
             words: Vec::new(alloc),
             collections: Vec::new(alloc),
         }
@@ -84,7 +88,7 @@ impl<V: Value> Layout<V> {
         ensures holds { IfOk result (λ handle. slice_get (map (λ c. c.held) self.new.collections.items) handle.number ≡ Some (held.Map entries)) }
     {
         let number = self.add(stripes, Held::Map(entries))?;
-        Ok(Map::of(self.store, number))
+        Ok(Map::over(self.store, Gates::one(number)))
     }
 
     /// Adds a multiset that holds these counts at first. Refused like `word`.
@@ -94,7 +98,7 @@ impl<V: Value> Layout<V> {
         ensures holds { IfOk result (λ handle. slice_get (map (λ c. c.held) self.new.collections.items) handle.number ≡ Some (held.Bag counts)) }
     {
         let number = self.add(stripes, Held::Bag(counts))?;
-        Ok(Bag::of(self.store, number))
+        Ok(Bag::over(self.store, Gates::one(number)))
     }
 
     /// Adds a priority queue that holds these counts at first. Refused like `word`.
@@ -127,6 +131,7 @@ impl<V: Value> Layout<V> {
         let Layout {
             alloc,
             store: number,
+            seed: _,
             words,
             collections,
         } = self;

@@ -2,6 +2,8 @@
 ghost use Rattle.std.specs.Prelude.{◌≡◌, IfOk};
 ghost use Rattle.wolimevar.specs.Made.{HasMade, RefusesForeign, with_call};
 
+use crate::gates::Gates;
+use crate::replies::number_in;
 use crate::scope::Scope;
 use seq_model::{Call, Op, Refusal, Reply, Value};
 use std::marker::{Model, PhantomData};
@@ -25,6 +27,8 @@ pub struct Transaction<'t, V, S: Scope<V>> {
     pub(crate) seat: TxSeat<V>,
     /// The number of its store, which the handles of the store's layout have too.
     pub(crate) store: u32,
+    /// The lane of its client.
+    pub(crate) lane: u64,
     /// The refusal of the last call, if it was refused.
     pub(crate) refused: Option<Refusal>,
     pub(crate) scope: PhantomData<S>,
@@ -88,5 +92,32 @@ impl<'t, V: Value, S: Scope<V>> Transaction<'t, V, S> {
                 Err(cause)
             }
         }
+    }
+
+    /// A call on the one of these collections that has the key.
+    pub(crate) fn call_at(
+        &mut self,
+        store: u32,
+        gates: Gates,
+        key: u64,
+        op: Op<V>,
+    ) -> Result<Reply<V>, Refusal> {
+        let number = gates.number(gates.place(key))?;
+        self.call(store, number, op)
+    }
+
+    /// How many keys, or items, these collections have together. `TooLong` where they are more than a `u64` can say.
+    pub(crate) fn total_len(&mut self, store: u32, gates: Gates) -> Result<u64, Refusal> {
+        let mut total = self.len_of(store, gates.first)?;
+        'others: for i in 0..gates.others {
+            let count = self.len_of(store, gates.number(i.saturating_add(1))?)?;
+            total = total.checked_add(count).ok_or(Refusal::TooLong)?;
+        }
+        Ok(total)
+    }
+
+    fn len_of(&mut self, store: u32, number: u32) -> Result<u64, Refusal> {
+        let reply = self.call(store, number, Op::Len)?;
+        number_in(reply)
     }
 }

@@ -1,0 +1,73 @@
+//! Where a collection over several gates lies.
+//!
+//! A collection of the table has one gate, which each call on it takes. A map or a multiset over several gates is laid over as many
+//! collections of the table, with consecutive numbers: a hash of a key says in which of them the key is. So calls on different keys seldom
+//! wait for each other.
+ghost use Rattle.std.specs.Prelude.{◌≡◌, ◌+◌, ◌≤◌, IfOk};
+ghost use Rattle.wolimevar.specs.Gates.{hash_of, place_of};
+
+use seq_model::Refusal;
+
+/// An odd number near 2 to the 64th over the golden ratio: products of neighbours with it are far from each other.
+pub(crate) const SPREAD: u64 = 11_400_714_819_323_198_485;
+
+/// Another odd number, for the second round.
+pub(crate) const MIX: u64 = 13_787_848_793_156_543_929;
+
+/// Collections of the table with consecutive numbers, and what the hash of a key starts from.
+#[derive(Clone, Copy)]
+pub(crate) struct Gates {
+    pub(crate) first: u32,
+    /// How many there are beside the first one.
+    pub(crate) others: u32,
+    pub(crate) seed: u64,
+}
+
+fn hash_of(seed: u64, key: u64) -> u64
+    ensures { result ≡ hash_of seed key }
+{
+    let spread = key.wrapping_add(seed).wrapping_mul(SPREAD);
+    spread
+        .wrapping_add(spread / 4_294_967_296)
+        .wrapping_mul(MIX)
+        / 4_294_967_296
+}
+
+impl Gates {
+    /// One collection.
+    pub(crate) fn one(number: u32) -> Gates
+        ensures first { result.first ≡ number }
+        ensures others { result.others ≡ 0 }
+    {
+        Gates {
+            first: number,
+            others: 0,
+            seed: 0,
+        }
+    }
+
+    /// Which of the collections has a key, counted from 0.
+    pub(crate) fn place(self, key: u64) -> u32
+        ensures place { result ≡ place_of self key }
+        ensures within { result ≤ self.others }
+    {
+        if self.others == 0 {
+            return 0;
+        }
+        (hash_of(self.seed, key) % (u64::from(self.others) + 1)) as u32
+    }
+
+    /// Which of the collections a client with this lane takes first, counted from 0.
+    pub(crate) fn lane(self, lane: u64) -> u32
+        ensures within { result ≤ self.others }
+    {
+        (lane % (u64::from(self.others) + 1)) as u32
+    }
+
+    /// The number of one of the collections.
+    pub(crate) fn number(self, place: u32) -> Result<u32, Refusal>
+        ensures { IfOk result (λ number. number ≡ self.first + place) }
+    {
+        self.first.checked_add(place).ok_or(Refusal::NoSuch)
+    }
+}
