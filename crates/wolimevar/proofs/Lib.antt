@@ -1,3 +1,5 @@
+pub mod GateLemmas
+pub mod SumLemmas
 pub mod AskedLemmas
 pub mod FrameLemmas
 pub mod EndLemmas

@@ -2,7 +2,8 @@
 ghost use Rattle.std.specs.Prelude.{◌≡◌, IfOk};
 ghost use Rattle.seq_model.specs.declared.call.Op.TheVariants as op;
 ghost use Rattle.seq_model.specs.declared.call.Reply.TheVariants as replies;
-ghost use Rattle.wolimevar.specs.Made.{HasMade, room_reply, yes_reply};
+ghost use Rattle.wolimevar.specs.Answered.{BagAnswers};
+ghost use Rattle.wolimevar.specs.Made.{room_reply, yes_reply};
 
 use crate::changes::Full;
 use crate::gates::Gates;
@@ -27,36 +28,39 @@ impl Bag {
     }
 
     /// How many copies of the element the multiset has.
+    #[tactic(auto, using(crate::proofs::GateLemmas::bag_counts))]
     pub fn count<V: Value, S: Scope<V>>(
         &self,
         tx: &mut Transaction<'_, V, S>,
         element: u64,
     ) -> Result<u64, Refusal>
-        ensures { IfOk result (λ count. HasMade tx.old self.now.store self.now.number (op.Count element) (replies.Number count) tx.new) }
+        ensures { IfOk result (λ count. BagAnswers tx.old self.now (op.Count element) (replies.Number count) tx.new) }
     {
         let reply = tx.call_at(self.store, self.gates, element, Op::Count(element))?;
         number_in(reply)
     }
 
     /// Adds one copy of the element. [`Full`] where it has 4,294,967,295 copies already.
+    #[tactic(auto, using(crate::proofs::GateLemmas::bag_adds))]
     pub fn add<V: Value, S: Scope<V>>(
         &self,
         tx: &mut Transaction<'_, V, S>,
         element: u64,
     ) -> Result<Result<(), Full>, Refusal>
-        ensures { IfOk result (λ added. HasMade tx.old self.now.store self.now.number (op.Add element) (room_reply added) tx.new) }
+        ensures { IfOk result (λ added. BagAnswers tx.old self.now (op.Add element) (room_reply added) tx.new) }
     {
         let reply = tx.call_at(self.store, self.gates, element, Op::Add(element))?;
         room_in(reply)
     }
 
     /// Takes one copy of the element out, and returns whether there was one.
+    #[tactic(auto, using(crate::proofs::GateLemmas::bag_takes))]
     pub fn take<V: Value, S: Scope<V>>(
         &self,
         tx: &mut Transaction<'_, V, S>,
         element: u64,
     ) -> Result<bool, Refusal>
-        ensures { IfOk result (λ taken. HasMade tx.old self.now.store self.now.number (op.Take element) (yes_reply taken) tx.new) }
+        ensures { IfOk result (λ taken. BagAnswers tx.old self.now (op.Take element) (yes_reply taken) tx.new) }
     {
         let reply = tx.call_at(self.store, self.gates, element, Op::Take(element))?;
         yes_in(reply)

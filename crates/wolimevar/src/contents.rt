@@ -38,8 +38,8 @@ impl<V: Value> Contents<V> {
             return None;
         }
         let first = gates.first as usize;
-        let last = first.checked_add(gates.others as usize)?;
-        self.state.held().get(first..=last)
+        let end = first.checked_add(gates.others as usize)?.checked_add(1)?;
+        self.state.held().get(first..end)
     }
 
     /// The entries of a map.

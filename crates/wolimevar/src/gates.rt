@@ -3,7 +3,7 @@
 //! A collection of the table has one gate, which each call on it takes. A map or a multiset over several gates is laid over as many
 //! collections of the table, with consecutive numbers: a hash of a key says in which of them the key is. So calls on different keys seldom
 //! wait for each other.
-ghost use Rattle.std.specs.Prelude.{◌≡◌, ◌+◌, ◌≤◌, IfOk};
+ghost use Rattle.std.specs.Prelude.{◌≡◌, ◌+◌, ◌≤◌, ◌%◌, IfOk};
 ghost use Rattle.wolimevar.specs.Gates.{hash_of, place_of};
 
 use seq_model::Refusal;
@@ -23,14 +23,13 @@ pub(crate) struct Gates {
     pub(crate) seed: u64,
 }
 
+#[tactic(auto, unfolding(crate::specs::Gates::hash_of, crate::specs::Gates::spread_of))]
 fn hash_of(seed: u64, key: u64) -> u64
     ensures { result ≡ hash_of seed key }
 {
     let spread = key.wrapping_add(seed).wrapping_mul(SPREAD);
-    spread
-        .wrapping_add(spread / 4_294_967_296)
-        .wrapping_mul(MIX)
-        / 4_294_967_296
+    let mixed = spread.wrapping_add(spread / 0x1_0000_0000);
+    mixed.wrapping_mul(MIX) / 0x1_0000_0000
 }
 
 impl Gates {
@@ -47,27 +46,26 @@ impl Gates {
     }
 
     /// Which of the collections has a key, counted from 0.
-    pub(crate) fn place(self, key: u64) -> u32
+    #[tactic(auto, unfolding(crate::specs::Gates::place_of))]
+    pub(crate) fn place(self, key: u64) -> u64
         ensures place { result ≡ place_of self key }
-        ensures within { result ≤ self.others }
     {
         if self.others == 0 {
             return 0;
         }
-        (hash_of(self.seed, key) % (u64::from(self.others) + 1)) as u32
-    }
-
-    /// Which of the collections a client with this lane takes first, counted from 0.
-    pub(crate) fn lane(self, lane: u64) -> u32
-        ensures within { result ≤ self.others }
-    {
-        (lane % (u64::from(self.others) + 1)) as u32
+        hash_of(self.seed, key) % (u64::from(self.others) + 1)
     }
 
     /// The number of one of the collections.
-    pub(crate) fn number(self, place: u32) -> Result<u32, Refusal>
+    pub(crate) fn number(self, place: u64) -> Result<u32, Refusal>
         ensures { IfOk result (λ number. number ≡ self.first + place) }
     {
-        self.first.checked_add(place).ok_or(Refusal::NoSuch)
+        let Some(number) = u64::from(self.first).checked_add(place) else {
+            return Err(Refusal::NoSuch);
+        };
+        let Ok(number) = u32::try_from(number) else {
+            return Err(Refusal::NoSuch);
+        };
+        Ok(number)
     }
 }

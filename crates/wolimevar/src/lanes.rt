@@ -1,5 +1,6 @@
 //! The handle of a queue in lanes.
-ghost use Rattle.std.specs.Prelude.{◌≡◌};
+ghost use Rattle.std.specs.Prelude.{◌≡◌, ◌+◌, ◌≤◌, IfOk};
+ghost use Rattle.wolimevar.specs.Lanes.{HasDoneWithLanes, HasTakenFrom, IsAdded, IsCounted, IsTaken};
 
 use crate::changes::Full;
 use crate::gates::Gates;
@@ -25,43 +26,54 @@ impl Lanes {
         Lanes { store, gates }
     }
 
+    /// Which lane is a client's own, counted from 0.
+    fn own(self, lane: u64) -> u64
+        ensures { result ≤ self.gates.others }
+    {
+        lane % (u64::from(self.gates.others) + 1)
+    }
+
     /// Adds an item at the end of the client's lane. [`Full`] once the lane's positions are used up.
     pub fn enqueue<V: Value, S: Scope<V>>(
         &self,
         tx: &mut Transaction<'_, V, S>,
         item: u64,
-    ) -> Result<Result<(), Full>, Refusal> {
-        let number = self.gates.number(self.gates.lane(tx.lane))?;
+    ) -> Result<Result<(), Full>, Refusal>
+        ensures { IfOk result (λ added. HasDoneWithLanes tx.old self.now (λ lanes t. IsAdded self.now.gates lanes item added t) tx.new) }
+    {
+        let number = self.gates.number(self.own(tx.lane))?;
         let reply = tx.call(self.store, number, Op::Enqueue(item))?;
         room_in(reply)
     }
 
-    /// Takes the first item of a lane out, and returns it: of the client's own lane, or of the next one after it that has any. `None` where
-    /// all lanes are empty.
+    /// Takes the first item of a lane out, and returns it: of the client's own lane, or of the next one after it that has any, the first
+    /// lane being after the last. `None` where all lanes are empty.
     pub fn dequeue<V: Value, S: Scope<V>>(
         &self,
         tx: &mut Transaction<'_, V, S>,
-    ) -> Result<Option<u64>, Refusal> {
-        let own = self.gates.lane(tx.lane);
-        if let Some(item) = self.dequeue_of(tx, own, self.gates.others)? {
-            return Ok(Some(item));
-        }
-        match own.checked_sub(1) {
-            Some(last) => self.dequeue_of(tx, 0, last),
-            None => Ok(None),
+    ) -> Result<Option<u64>, Refusal>
+        ensures { IfOk result (λ found. HasDoneWithLanes tx.old self.now (λ lanes t. IsTaken self.now.gates lanes found t) tx.new) }
+    {
+        let own = self.own(tx.lane);
+        let last = u64::from(self.gates.others) + 1;
+        match self.dequeue_from(tx, own, last)? {
+            Some(item) => Ok(Some(item)),
+            None => self.dequeue_from(tx, 0, own),
         }
     }
 
-    /// Takes the first item out of the first of these lanes that has any.
-    fn dequeue_of<V: Value, S: Scope<V>>(
+    /// Takes the first item out of the first lane from `first` on and before `end` that has any.
+    fn dequeue_from<V: Value, S: Scope<V>>(
         &self,
         tx: &mut Transaction<'_, V, S>,
-        first: u32,
-        last: u32,
-    ) -> Result<Option<u64>, Refusal> {
-        let count = u64::from(last).saturating_sub(u64::from(first)).saturating_add(1);
-        'lanes: for i in 0..count {
-            let number = self.gates.number(first)?.checked_add(i as u32).ok_or(Refusal::NoSuch)?;
+        first: u64,
+        end: u64,
+    ) -> Result<Option<u64>, Refusal>
+        requires { end ≤ self.now.gates.others + 1 }
+        ensures { IfOk result (λ found. HasTakenFrom tx.old self.now first end found tx.new) }
+    {
+        'lanes: for i in first..end {
+            let number = self.gates.number(i)?;
             let reply = tx.call(self.store, number, Op::Dequeue)?;
             if let Some(item) = found_in(reply)? {
                 return Ok(Some(item));
@@ -71,10 +83,9 @@ impl Lanes {
     }
 
     /// How many items all lanes have.
-    pub fn len<V: Value, S: Scope<V>>(
-        &self,
-        tx: &mut Transaction<'_, V, S>,
-    ) -> Result<u64, Refusal> {
+    pub fn len<V: Value, S: Scope<V>>(&self, tx: &mut Transaction<'_, V, S>) -> Result<u64, Refusal>
+        ensures { IfOk result (λ count. HasDoneWithLanes tx.old self.now (λ lanes t. IsCounted self.now.gates lanes count t) tx.new) }
+    {
         tx.total_len(self.store, self.gates)
     }
 }

@@ -85,7 +85,7 @@ impl<V: Value> Layout<V> {
     pub fn map(&mut self, stripes: u32, entries: Entries<V>) -> Result<Map<V>, Refusal>
         ensures same { self.new.store ≡ self.old.store }
         ensures store { IfOk result (λ handle. handle.store ≡ self.new.store) }
-        ensures holds { IfOk result (λ handle. slice_get (map (λ c. c.held) self.new.collections.items) handle.number ≡ Some (held.Map entries)) }
+        ensures holds { IfOk result (λ handle. slice_get (map (λ c. c.held) self.new.collections.items) handle.gates.first ≡ Some (held.Map entries)) }
     {
         let number = self.add(stripes, Held::Map(entries))?;
         Ok(Map::over(self.store, Gates::one(number)))
@@ -95,7 +95,7 @@ impl<V: Value> Layout<V> {
     pub fn bag(&mut self, stripes: u32, counts: Counts) -> Result<Bag, Refusal>
         ensures same { self.new.store ≡ self.old.store }
         ensures store { IfOk result (λ handle. handle.store ≡ self.new.store) }
-        ensures holds { IfOk result (λ handle. slice_get (map (λ c. c.held) self.new.collections.items) handle.number ≡ Some (held.Bag counts)) }
+        ensures holds { IfOk result (λ handle. slice_get (map (λ c. c.held) self.new.collections.items) handle.gates.first ≡ Some (held.Bag counts)) }
     {
         let number = self.add(stripes, Held::Bag(counts))?;
         Ok(Bag::over(self.store, Gates::one(number)))

@@ -3,7 +3,7 @@ ghost use Rattle.std.specs.Prelude.{◌≡◌, IfOk};
 ghost use Rattle.seq_model.specs.Calls.{value_reply};
 ghost use Rattle.seq_model.specs.declared.call.Op.TheVariants as op;
 ghost use Rattle.seq_model.specs.declared.call.Reply.TheVariants as replies;
-ghost use Rattle.wolimevar.specs.Made.{HasMade};
+ghost use Rattle.wolimevar.specs.Answered.{MapAnswers};
 
 use crate::gates::Gates;
 use crate::replies::value_in;
@@ -34,45 +34,49 @@ impl<V: Value> Map<V> {
     }
 
     /// A copy of the value at a key.
+    #[tactic(auto, using(crate::proofs::GateLemmas::map_gets))]
     pub fn get<S: Scope<V>>(
         &self,
         tx: &mut Transaction<'_, V, S>,
         key: u64,
     ) -> Result<Option<V>, Refusal>
-        ensures { IfOk result (λ found. HasMade tx.old self.now.store self.now.number (op.Get key) (value_reply found) tx.new) }
+        ensures { IfOk result (λ found. MapAnswers tx.old self.now (op.Get key) (value_reply found) tx.new) }
     {
         let reply = tx.call_at(self.store, self.gates, key, Op::Get(key))?;
         value_in(reply)
     }
 
     /// Puts a value at a key, and returns the value that was there before.
+    #[tactic(auto, using(crate::proofs::GateLemmas::map_puts))]
     pub fn put<S: Scope<V>>(
         &self,
         tx: &mut Transaction<'_, V, S>,
         key: u64,
         value: V,
     ) -> Result<Option<V>, Refusal>
-        ensures { IfOk result (λ held. HasMade tx.old self.now.store self.now.number (op.Put key value) (value_reply held) tx.new) }
+        ensures { IfOk result (λ held. MapAnswers tx.old self.now (op.Put key value) (value_reply held) tx.new) }
     {
         let reply = tx.call_at(self.store, self.gates, key, Op::Put(key, value))?;
         value_in(reply)
     }
 
     /// Removes a key, and returns the value that was there.
+    #[tactic(auto, using(crate::proofs::GateLemmas::map_removes))]
     pub fn remove<S: Scope<V>>(
         &self,
         tx: &mut Transaction<'_, V, S>,
         key: u64,
     ) -> Result<Option<V>, Refusal>
-        ensures { IfOk result (λ held. HasMade tx.old self.now.store self.now.number (op.Remove key) (value_reply held) tx.new) }
+        ensures { IfOk result (λ held. MapAnswers tx.old self.now (op.Remove key) (value_reply held) tx.new) }
     {
         let reply = tx.call_at(self.store, self.gates, key, Op::Remove(key))?;
         value_in(reply)
     }
 
     /// How many keys the map has. It reads every stripe.
+    #[tactic(auto, using(crate::proofs::SumLemmas::map_len))]
     pub fn len<S: Scope<V>>(&self, tx: &mut Transaction<'_, V, S>) -> Result<u64, Refusal>
-        ensures { IfOk result (λ count. HasMade tx.old self.now.store self.now.number op.Len (replies.Number count) tx.new) }
+        ensures { IfOk result (λ count. MapAnswers tx.old self.now op.Len (replies.Number count) tx.new) }
     {
         tx.total_len(self.store, self.gates)
     }

@@ -1,5 +1,7 @@
 //! A transaction, as a body sees it.
-ghost use Rattle.std.specs.Prelude.{◌≡◌, IfOk};
+ghost use Rattle.std.specs.Prelude.{◌≡◌, ◌+◌, IfOk};
+ghost use Rattle.wolimevar.specs.Answered.{HasSummed};
+ghost use Rattle.wolimevar.specs.Gates.{place_of};
 ghost use Rattle.wolimevar.specs.Made.{HasMade, RefusesForeign, with_call};
 
 use crate::gates::Gates;
@@ -101,23 +103,23 @@ impl<'t, V: Value, S: Scope<V>> Transaction<'t, V, S> {
         gates: Gates,
         key: u64,
         op: Op<V>,
-    ) -> Result<Reply<V>, Refusal> {
+    ) -> Result<Reply<V>, Refusal>
+        ensures { IfOk result (λ reply. HasMade self.old store (gates.first + place_of gates key) op reply self.new) }
+    {
         let number = gates.number(gates.place(key))?;
         self.call(store, number, op)
     }
 
     /// How many keys, or items, these collections have together. `TooLong` where they are more than a `u64` can say.
-    pub(crate) fn total_len(&mut self, store: u32, gates: Gates) -> Result<u64, Refusal> {
-        let mut total = self.len_of(store, gates.first)?;
-        'others: for i in 0..gates.others {
-            let count = self.len_of(store, gates.number(i.saturating_add(1))?)?;
+    pub(crate) fn total_len(&mut self, store: u32, gates: Gates) -> Result<u64, Refusal>
+        ensures { IfOk result (λ total. HasSummed self.old store gates total self.new) }
+    {
+        let mut total = 0u64;
+        'gates: for i in 0..u64::from(gates.others) + 1 {
+            let reply = self.call(store, gates.number(i)?, Op::Len)?;
+            let count = number_in(reply)?;
             total = total.checked_add(count).ok_or(Refusal::TooLong)?;
         }
         Ok(total)
-    }
-
-    fn len_of(&mut self, store: u32, number: u32) -> Result<u64, Refusal> {
-        let reply = self.call(store, number, Op::Len)?;
-        number_in(reply)
     }
 }
