@@ -1,5 +1,6 @@
 pub mod GateLemmas
 pub mod SumLemmas
+pub mod LaneLemmas
 pub mod AskedLemmas
 pub mod FrameLemmas
 pub mod EndLemmas

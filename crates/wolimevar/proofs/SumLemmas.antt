@@ -161,11 +161,11 @@ module _ {V : Type 0} where
       (calls_with (first + 1) ms n
       ∙ ap (λ t. len_calls (first + 1) ms ++ (record { target = t; op = ops.Len }, replies.Number n) ∷ []) there)
 
-  joined_calls : (xs ys zs : List (Call V × Reply V)) → (xs ++ ys) ++ zs ≡ xs ++ (ys ++ zs)
+  pub joined_calls : (xs ys zs : List (Call V × Reply V)) → (xs ++ ys) ++ zs ≡ xs ++ (ys ++ zs)
   joined_calls [] ys zs = refl
   joined_calls (x ∷ xs) ys zs = ap (λ (cs : List (Call V × Reply V)). x ∷ cs) (joined_calls xs ys zs)
 
-  no_more_calls : (xs : List (Call V × Reply V)) → xs ≡ xs ++ []
+  pub no_more_calls : (xs : List (Call V × Reply V)) → xs ≡ xs ++ []
   no_more_calls [] = refl
   no_more_calls (x ∷ xs) = ap (λ (cs : List (Call V × Reply V)). x ∷ cs) (no_more_calls xs)
 

@@ -54,6 +54,8 @@ module _ {V : Type 0} where
   IsTakenFrom g first end lanes (Some item) t = IsTaken g lanes (Some item) t
   IsTakenFrom g first end lanes None t = ((i : ℕ) → first ≤ i → i < end → lanes i ≡ []) × AreLanes g lanes t.held
 
-  abbrev pub HasTakenFrom : TransactionShown V → Lanes → ℕ → ℕ → Option ℕ → TransactionShown V → Type 0
-  HasTakenFrom before l first end found now =
-      HasDoneWithLanes before l (λ lanes t. IsTakenFrom l.gates first end lanes found t) now
+  pub record HasTakenFrom (before : TransactionShown V) (l : Lanes) (first end : ℕ) (found : Option ℕ) (now : TransactionShown V) : Type 0 where
+    pub own : first < end → before.store ≡ l.store
+    pub more : List (Call V × Reply V)
+    pub made : now ≡ record { store = before.store; calls = before.calls ++ more }
+    pub are : DoWithLanes l.gates (λ lanes t. IsTakenFrom l.gates first end lanes found t) more

@@ -34,6 +34,7 @@ impl Lanes {
     }
 
     /// Adds an item at the end of the client's lane. [`Full`] once the lane's positions are used up.
+    #[tactic(auto, using(crate::proofs::LaneLemmas::has_added))]
     pub fn enqueue<V: Value, S: Scope<V>>(
         &self,
         tx: &mut Transaction<'_, V, S>,
@@ -48,6 +49,7 @@ impl Lanes {
 
     /// Takes the first item of a lane out, and returns it: of the client's own lane, or of the next one after it that has any, the first
     /// lane being after the last. `None` where all lanes are empty.
+    #[tactic(auto, using(crate::proofs::LaneLemmas::taken_first, crate::proofs::LaneLemmas::taken_then))]
     pub fn dequeue<V: Value, S: Scope<V>>(
         &self,
         tx: &mut Transaction<'_, V, S>,
@@ -83,6 +85,7 @@ impl Lanes {
     }
 
     /// How many items all lanes have.
+    #[tactic(auto, using(crate::proofs::LaneLemmas::lanes_len))]
     pub fn len<V: Value, S: Scope<V>>(&self, tx: &mut Transaction<'_, V, S>) -> Result<u64, Refusal>
         ensures { IfOk result (λ count. HasDoneWithLanes tx.old self.now (λ lanes t. IsCounted self.now.gates lanes count t) tx.new) }
     {
