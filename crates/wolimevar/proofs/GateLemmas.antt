@@ -24,24 +24,25 @@ use Rattle.wolimevar.specs.declared.bags.Bag.{Bag}
 use Rattle.wolimevar.specs.declared.gates.Gates.{Gates}
 use Rattle.wolimevar.specs.declared.maps.Map.{Map}
 use Rattle.wolimevar.specs.Answered.{AreOneCall, BagAnswers, HasMadeMore, IsCallOn, MapAnswers}
-use Rattle.wolimevar.specs.Gates.{AreSameBeside, LieOver, place_of}
+use Rattle.conflict.specs.Places.{mod_below}
+use Rattle.wolimevar.specs.Gates.{AreSameBeside, LieOver, hash_of, place_of}
 use Rattle.wolimevar.specs.Made.{HasMade, TransactionShown}
 
 -- ---- places
 mod_within : (x n : ℕ) → x % (n + 1) ≤ n
-mod_within x n = omega arith
+mod_within x n = let h = mod_below x (n + 1) (omega arith) in omega (arith, h)
 
 pub place_within : (g : Gates) (k : ℕ) → place_of g k ≤ g.others
 unfolding place_of
-place_within g k = elim (g.others == 0) as (λ b. cond b 0 (_ % (g.others + 1)) ≤ g.others) [ true ↦ omega arith | false ↦ mod_within _ g.others ]
+place_within g k = elim (g.others == 0) as (λ b. cond b 0 (hash_of g.seed k % (g.others + 1)) ≤ g.others) [ true ↦ omega arith | false ↦ mod_within _ g.others ]
 
 pub place_of_one : (g : Gates) (k : ℕ) → g.others ≡ 0 → place_of g k ≡ 0
 place_of_one g k one = let h = place_within g k in omega (arith, h, one)
 
-equal : (n : ℕ) → (n == n) ≡ true
+pub equal : (n : ℕ) → (n == n) ≡ true
 equal n = grind (arith, nat_tests)
 
-unequal : (n m : ℕ) → (n == m) ≡ false → m ≡ n → ⊥
+pub unequal : (n m : ℕ) → (n == m) ≡ false → m ≡ n → ⊥
 unequal n m h e = grind (arith, nat_tests)
 
 -- ---- a list with one entry changed
@@ -315,16 +316,16 @@ module _ {V : Type 0} (k : ℕ) where
   added_is : (m : Multiset) → add_call {V = V} k m ≡ added m
   added_is m = at (nat_lt (copies m k) COPY_LIMIT)
     where
-      at : (b : Bool) → (if b then (replies.Done {V = V}, with_copies m k (copies m k + 1)) else (replies.Full, m))
-          ≡ by_test k (λ n. nat_lt n COPY_LIMIT) replies.Done replies.Full (λ u n. with_copies u k (n + 1)) (λ u n. u) (one_more k) (no_change k) b m (copies m k)
+      at : (b : Bool) → ◌≡◌ {A = Reply V × Multiset} (if b then (replies.Done, with_copies m k (copies m k + 1)) else (replies.Full, m))
+          (by_test k (λ n. nat_lt n COPY_LIMIT) replies.Done replies.Full (λ u n. with_copies u k (n + 1)) (λ u n. u) (one_more k) (no_change k) b m (copies m k))
       at true = refl
       at false = refl
 
   taken_is : (m : Multiset) → take_call {V = V} k m ≡ taken m
   taken_is m = at (copies m k == 0)
     where
-      at : (b : Bool) → (if b then (replies.No {V = V}, m) else (replies.Yes, with_copies m k (copies m k - 1)))
-          ≡ by_test k (λ n. n == 0) replies.No replies.Yes (λ u n. u) (λ u n. with_copies u k (n - 1)) (no_change k) (one_fewer k) b m (copies m k)
+      at : (b : Bool) → ◌≡◌ {A = Reply V × Multiset} (if b then (replies.No, m) else (replies.Yes, with_copies m k (copies m k - 1)))
+          (by_test k (λ n. n == 0) replies.No replies.Yes (λ u n. u) (λ u n. with_copies u k (n - 1)) (no_change k) (one_fewer k) b m (copies m k))
       at true = refl
       at false = refl
 
@@ -371,3 +372,22 @@ module _ {V : Type 0} (k : ℕ) where
         (subst (λ (call : Multiset → Option (Reply V × Multiset)). HasMadeMore (AreOneCall held.Bag call b.gates (ops.Take k) r) before b.store now)
         (λ i m. Some (sym (taken_is m) i))
         (made_one held.Bag (ops.Take k) taken k at_take b.gates before now b.store r has))
+
+-- ---- what is held at the end
+module _ {V X : Type 0} (kind : FinMap nat_cmp X → Held V) (g : Gates) (hs : List (Held V)) (u part : FinMap nat_cmp X) (k : ℕ) where
+  pub part_is : LieOver kind g u hs → ((m n : FinMap nat_cmp X) → kind m ≡ kind n → m ≡ n)
+      → slice_get hs (g.first + place_of g k) ≡ Some (kind part) → get part k ≡ get u k
+  part_is lie one at =
+      let e : Some (kind (retain_keys u (λ q. place_of g q == place_of g k))) ≡ Some (kind part) =
+      sym (lie (place_of g k) (place_within g k)) ∙ at in
+      let same : kind (retain_keys u (λ q. place_of g q == place_of g k)) ≡ kind part = cc in
+      ap (λ m. get m k) (sym (one _ _ same)) ∙ kept_at (λ q. place_of g q == place_of g k) u k (equal (place_of g k))
+
+module _ {V : Type 0} (g : Gates) (hs : List (Held V)) (k : ℕ) where
+  pub got_of : (u part : FinMap nat_cmp V) → LieOver held.Map g u hs → slice_get hs (g.first + place_of g k) ≡ Some (held.Map part)
+      → get part k ≡ get u k
+  got_of u part lie at = part_is held.Map g hs u part k lie (λ m n e. cc) at
+
+  pub copies_of : (u part : Multiset) → LieOver held.Bag g u hs → slice_get hs (g.first + place_of g k) ≡ Some (held.Bag part)
+      → copies part k ≡ copies u k
+  copies_of u part lie at = ap (λ o. unwrap_or o 0) (part_is held.Bag g hs u part k lie (λ m n e. cc) at)

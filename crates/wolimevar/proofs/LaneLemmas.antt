@@ -22,11 +22,11 @@ use Rattle.wolimevar.specs.Gates.{AreSameBeside}
 use Rattle.wolimevar.specs.Lanes.{AreLanes, DoWithLanes, HasDoneWithLanes, HasTakenFrom, IsAdded, IsCounted, IsTaken}
 use Rattle.wolimevar.specs.Lanes.{IsTakenFrom, total_of, with_lane}
 use Rattle.wolimevar.specs.Made.{HasMade, TransactionShown, room_reply}
-use Rattle.wolimevar.proofs.GateLemmas.{set_here, set_there}
+use Rattle.wolimevar.proofs.GateLemmas.{set_here, set_there, unequal}
 use Rattle.wolimevar.proofs.SumLemmas.{HasLen, below, counts_sum, joined_calls, lens_leave, no_more_calls}
 
-unequal : (n m : ℕ) → (n == m) ≡ false → m ≡ n → ⊥
-unequal n m h e = grind (arith, nat_tests)
+
+
 
 lane_here : (lanes : ℕ → List ℕ) (i : ℕ) (xs : List ℕ) → with_lane lanes i xs i ≡ xs
 lane_here lanes i xs = ap (λ b. if b then xs else lanes i) (let e : (i == i) ≡ true = grind (arith, nat_tests) in e)
@@ -102,8 +102,8 @@ module _ {V : Type 0} where
           subst (λ (p : Reply V × ℕ × List ℕ). DoesAdd (Ok done) (with_queue p.1 p.2)) (sym is)
           ((i, le, subst (λ ys. AreLanes g (with_lane lanes i (ys ++ item ∷ [])) (with_queue head (xs ++ item ∷ [])).held) (sym same)
           (changed head (xs ++ item ∷ []))), beside head (xs ++ item ∷ []))
-      adds (Ok done) false head xs q same is reply = absurd (let e : replies.Full {V = V} ≡ replies.Done = sym (ap (λ (p : Reply V × ℕ × List ℕ). p.0) is) ∙ reply in cc)
-      adds (Err full) true head xs q same is reply = absurd (let e : replies.Done {V = V} ≡ replies.Full = sym (ap (λ (p : Reply V × ℕ × List ℕ). p.0) is) ∙ reply in cc)
+      adds (Ok done) false head xs q same is reply = absurd (let e : ◌≡◌ {A = Reply V} replies.Full replies.Done = sym (ap (λ (p : Reply V × ℕ × List ℕ). p.0) is) ∙ reply in cc)
+      adds (Err full) true head xs q same is reply = absurd (let e : ◌≡◌ {A = Reply V} replies.Done replies.Full = sym (ap (λ (p : Reply V × ℕ × List ℕ). p.0) is) ∙ reply in cc)
       adds (Err full) false head xs q same is reply =
           subst (λ (p : Reply V × ℕ × List ℕ). DoesAdd (Err full) (with_queue p.1 p.2)) (sym is)
           (unchanged_lanes head xs same, beside head xs)
@@ -139,11 +139,11 @@ module _ {V : Type 0} where
         subst (λ (p : Reply V × ℕ × List ℕ). IsTakenHere None (with_queue p.1 p.2)) (sym is)
         (same, unchanged_lanes head [] same, beside head [])
     takes None head (x ∷ xs) q same is reply =
-        absurd (let e : replies.Found {V = V} x ≡ replies.Nothing = sym (ap (λ (p : Reply V × ℕ × List ℕ). p.0) is) ∙ reply in cc)
+        absurd (let e : ◌≡◌ {A = Reply V} (replies.Found x) replies.Nothing = sym (ap (λ (p : Reply V × ℕ × List ℕ). p.0) is) ∙ reply in cc)
     takes (Some item) head [] q same is reply =
-        absurd (let e : replies.Nothing {V = V} ≡ replies.Found item = sym (ap (λ (p : Reply V × ℕ × List ℕ). p.0) is) ∙ reply in cc)
+        absurd (let e : ◌≡◌ {A = Reply V} replies.Nothing (replies.Found item) = sym (ap (λ (p : Reply V × ℕ × List ℕ). p.0) is) ∙ reply in cc)
     takes (Some item) head (x ∷ xs) q same is reply =
-        let e : replies.Found {V = V} x ≡ replies.Found item = sym (ap (λ (p : Reply V × ℕ × List ℕ). p.0) is) ∙ reply in
+        let e : ◌≡◌ {A = Reply V} (replies.Found x) (replies.Found item) = sym (ap (λ (p : Reply V × ℕ × List ℕ). p.0) is) ∙ reply in
         let is_item : x ≡ item = cc in
         subst (λ (p : Reply V × ℕ × List ℕ). IsTakenHere (Some item) (with_queue p.1 p.2)) (sym is)
         ((i, xs, le, same ∙ ap (λ y. y ∷ xs) is_item, changed (head + 1) xs), beside (head + 1) xs)
@@ -229,17 +229,17 @@ module _ {V : Type 0} where
   pub taken_then : (before mid now : TransactionShown V) (l : Lanes) (own end : ℕ) (found : Option ℕ) → own < end → end ≡ l.gates.others + 1
       → HasTakenFrom before l own end None mid → HasTakenFrom mid l 0 own found now
       → HasDoneWithLanes before l (λ lanes t. IsTaken l.gates lanes found t) now
-  taken_then before mid now l own end found lt ends first then_ = record {
+  taken_then before mid now l own end found lt ends first second = record {
     own = first.own lt;
-    more = first.more ++ then_.more;
-    made = then_.made
-        ∙ (λ j. record { store = (first.made j).store; calls = (first.made j).calls ++ then_.more })
-        ∙ ap (λ (cs : List (Call V × Reply V)). record { store = before.store; calls = cs }) (joined_calls before.calls first.more then_.more);
+    more = first.more ++ second.more;
+    made = second.made
+        ∙ (λ j. record { store = (first.made j).store; calls = (first.made j).calls ++ second.more })
+        ∙ ap (λ (cs : List (Call V × Reply V)). record { store = before.store; calls = cs }) (joined_calls before.calls first.more second.more);
     are = λ s lanes at legal.
-        let parts = legal_parts first.more then_.more s legal in
+        let parts = legal_parts first.more second.more s legal in
         let one = first.are s lanes at parts.0 in
-        let two = then_.are (after_calls first.more s) lanes one.0.1 parts.1 in
-        subst (λ t. IsTaken l.gates lanes found t × AreSameBeside l.gates s t) (sym (after_calls-append first.more then_.more s))
+        let two = second.are (after_calls first.more s) lanes one.0.1 parts.1 in
+        subst (λ t. IsTaken l.gates lanes found t × AreSameBeside l.gates s t) (sym (after_calls-append first.more second.more s))
         (around l.gates own end found lanes _ ends one.0.0 two.0, then_same l.gates s (after_calls first.more s) _ one.1 two.1);
   }
 

@@ -30,7 +30,7 @@ use Rattle.wolimevar.proofs.GateLemmas.{place_within}
 
 -- ---- sums below a number
 abbrev pub below : (ℕ → ℕ) → ℕ → ℕ
-below f 0 = 0
+below f zero = 0
 below f (suc n) = below f n + f n
 
 below_same : (f h : ℕ → ℕ) (n : ℕ) → ((i : ℕ) → i < n → f i ≡ h i) → below f n ≡ below h n

@@ -1,5 +1,5 @@
 -- Where a collection over several gates lies: each of its keys is in one of the collections of the table, by a hash.
-use Rattle.std.specs.Prelude.{◌≡◌, ◌⊎◌, ℕ, ◌+◌, ◌*◌, ◌/◌, ◌%◌, ◌<◌, ◌≤◌, List, Some, slice_get, ◌==◌, if◌then◌else◌}
+use Rattle.std.specs.Prelude.{◌≡◌, ◌⊎◌, ℕ, ◌+◌, ◌*◌, ◌/◌, ◌%◌, ◌<◌, ◌≤◌, List, Some, length, slice_get, ◌==◌, if◌then◌else◌}
 use Rattle.std.specs.Ordering.{nat_cmp}
 use Rattle.std.specs.FinMap.{FinMap, retain_keys}
 use Rattle.seq_model.specs.Contents.{Contents}
@@ -18,6 +18,11 @@ hash_of seed key =
 -- which of the collections has the key, counted from 0
 unfoldable pub place_of : Gates → ℕ → ℕ
 place_of g key = if g.others == 0 then 0 else hash_of g.seed key % (g.others + 1)
+
+-- each of these is the map u at the keys that have their place in it
+abbrev pub AreParts : {X : Type 0} → Gates → FinMap nat_cmp X → List (FinMap nat_cmp X) → Type 0
+AreParts g u parts =
+    (length parts ≡ g.others + 1) × ((i : ℕ) → i ≤ g.others → slice_get parts i ≡ Some (retain_keys u (λ key. place_of g key == i)))
 
 module _ {V : Type 0} where
   -- What lies over these collections is the map u: each of them holds the entries of u whose keys have their place in it.

@@ -1,5 +1,5 @@
 -- A queue in lanes: each lane is a queue, with an order of its own.
-use Rattle.std.specs.Prelude.{◌≡◌, ℕ, suc, ◌+◌, ◌<◌, ◌≤◌, List, [], ◌∷◌, ◌++◌, length, Option, Some, None, Result, Ok, Err, slice_get, ◌==◌, if◌then◌else◌}
+use Rattle.std.specs.Prelude.{◌≡◌, ℕ, zero, suc, ◌+◌, ◌<◌, ◌≤◌, List, [], ◌∷◌, ◌++◌, length, Option, Some, None, Result, Ok, Err, slice_get, ◌==◌, if◌then◌else◌}
 use Rattle.seq_model.specs.declared.call.Call.{Call}
 use Rattle.seq_model.specs.declared.call.Reply.{Reply}
 use Rattle.seq_model.specs.declared.held.Held.{Held}
@@ -18,10 +18,19 @@ with_lane lanes lane items i = if i == lane then items else lanes i
 
 -- how many items the first lanes have together
 abbrev pub total_of : (ℕ → List ℕ) → ℕ → ℕ
-total_of lanes 0 = 0
+total_of lanes zero = 0
 total_of lanes (suc n) = total_of lanes n + length (lanes n)
 
+-- the first lane has these items, and no other has any
+abbrev pub first_lane : List ℕ → ℕ → List ℕ
+first_lane items i = if i == 0 then items else []
+
 module _ {V : Type 0} where
+  -- queues of these items in the first lane
+  abbrev pub AreFirstOf : Gates → List ℕ → List (Held V) → Type 0
+  AreFirstOf g items hs =
+      (length hs ≡ g.others + 1) × ((i : ℕ) → i ≤ g.others → slice_get hs i ≡ Some (held.Queue 0 (first_lane items i)))
+
   -- each of these collections is a queue of the items of its lane
   abbrev pub AreLanes : Gates → (ℕ → List ℕ) → List (Held V) → Type 0
   AreLanes g lanes hs = (i : ℕ) → i ≤ g.others → (head : ℕ) × (slice_get hs (g.first + i) ≡ Some (held.Queue head (lanes i)))

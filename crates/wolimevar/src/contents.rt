@@ -1,11 +1,10 @@
 //! What a store holds at its end.
 ghost use Rattle.std.specs.Prelude.{◌≡◌, IfSome, Some, slice_get};
 ghost use Rattle.seq_model.specs.declared.held.Held.TheVariants as held;
-ghost use Rattle.wolimevar.specs.Stores.{HeldAt, WordAt};
+ghost use Rattle.wolimevar.specs.Stores.{AreHeld, HeldAt, WordAt};
 
 use crate::bags::Bag;
 use crate::contents_over::{BagCounts, LaneItems, MapEntries};
-use crate::gates::Gates;
 use crate::lanes::Lanes;
 use crate::maps::Map;
 use crate::priority_queues::PriorityQueue;
@@ -32,33 +31,37 @@ impl<V: Value> Contents<V> {
         self.state.held().get(number as usize)
     }
 
-    /// The collections with these numbers, at the store with this number.
-    fn held_at(&self, store: u32, gates: Gates) -> Option<&[Held<V>]> {
+    /// What the collections of the store with this number hold.
+    fn all_held(&self, store: u32) -> Option<&[Held<V>]>
+        ensures { IfSome result (λ held. (self.now.store ≡ store) × (held.now ≡ self.now.state.held)) }
+    {
         if self.store != store {
             return None;
         }
-        let first = gates.first as usize;
-        let end = first.checked_add(gates.others as usize)?.checked_add(1)?;
-        self.state.held().get(first..end)
+        Some(self.state.held())
     }
 
     /// The entries of a map.
-    pub fn map(&self, map: Map<V>) -> Option<MapEntries<'_, V>> {
-        let held = self.held_at(map.store, map.gates)?;
-        if held.iter().all(|held| matches!(held, Held::Map(_))) {
-            Some(MapEntries { held, gates: map.gates })
-        } else {
-            None
+    pub fn map(&self, map: Map<V>) -> Option<MapEntries<'_, V>>
+        ensures { IfSome result (λ entries. AreHeld self.now.store self.now.state map.store map.gates entries.held.now entries.gates) }
+    {
+        let held = self.all_held(map.store)?;
+        let gates = map.gates;
+        match gates.held_at(held, 0) {
+            Some(Held::Map(_)) => Some(MapEntries { held, gates }),
+            _ => None,
         }
     }
 
     /// The elements of a multiset, each with how many copies there are.
-    pub fn bag(&self, bag: Bag) -> Option<BagCounts<'_, V>> {
-        let held = self.held_at(bag.store, bag.gates)?;
-        if held.iter().all(|held| matches!(held, Held::Bag(_))) {
-            Some(BagCounts { held, gates: bag.gates })
-        } else {
-            None
+    pub fn bag(&self, bag: Bag) -> Option<BagCounts<'_, V>>
+        ensures { IfSome result (λ counts. AreHeld self.now.store self.now.state bag.store bag.gates counts.held.now counts.gates) }
+    {
+        let held = self.all_held(bag.store)?;
+        let gates = bag.gates;
+        match gates.held_at(held, 0) {
+            Some(Held::Bag(_)) => Some(BagCounts { held, gates }),
+            _ => None,
         }
     }
 
@@ -83,12 +86,14 @@ impl<V: Value> Contents<V> {
     }
 
     /// The items of a queue in lanes.
-    pub fn lanes(&self, lanes: Lanes) -> Option<LaneItems<'_, V>> {
-        let held = self.held_at(lanes.store, lanes.gates)?;
-        if held.iter().all(|held| matches!(held, Held::Queue { .. })) {
-            Some(LaneItems { held })
-        } else {
-            None
+    pub fn lanes(&self, lanes: Lanes) -> Option<LaneItems<'_, V>>
+        ensures { IfSome result (λ items. AreHeld self.now.store self.now.state lanes.store lanes.gates items.held.now items.gates) }
+    {
+        let held = self.all_held(lanes.store)?;
+        let gates = lanes.gates;
+        match gates.held_at(held, 0) {
+            Some(Held::Queue { .. }) => Some(LaneItems { held, gates }),
+            _ => None,
         }
     }
 

@@ -1,4 +1,11 @@
 //! What a collection that may lie over several gates holds at the end.
+ghost use Rattle.std.specs.Prelude.{◌≡◌};
+ghost use Rattle.std.specs.Option.{option_copied};
+ghost use Rattle.std.specs.FinMap as map;
+ghost use Rattle.seq_model.specs.Counts.{copies};
+ghost use Rattle.seq_model.specs.declared.held.Held.TheVariants as held;
+ghost use Rattle.wolimevar.specs.Gates.{LieOver};
+
 use crate::gates::Gates;
 use seq_model::{Held, QueueItems, Value};
 use std::collections::btree_map::Iter;
@@ -13,8 +20,11 @@ pub struct MapEntries<'a, V> {
 
 impl<'a, V: Value> MapEntries<'a, V> {
     /// The value at a key.
-    pub fn get(&self, key: u64) -> Option<&'a V> {
-        match self.held.get(self.gates.place(key) as usize) {
+    #[tactic(auto, using(crate::proofs::GateLemmas::got_of))]
+    pub fn get(&self, key: u64) -> Option<&'a V>
+        ensures { (whole : _) → LieOver held.Map self.now.gates whole self.now.held.now → option_copied result ≡ map.get whole key }
+    {
+        match self.gates.held_at(self.held, self.gates.place(key)) {
             Some(Held::Map(entries)) => entries.get(key),
             _ => None,
         }
@@ -23,7 +33,7 @@ impl<'a, V: Value> MapEntries<'a, V> {
     /// How many keys there are.
     pub fn len(&self) -> usize {
         let mut total = 0usize;
-        for held in self.held {
+        for held in self.gates.all_of(self.held) {
             if let Held::Map(entries) = held {
                 total = total.saturating_add(entries.len());
             }
@@ -35,7 +45,7 @@ impl<'a, V: Value> MapEntries<'a, V> {
     pub fn iter(&self) -> MapIter<'a, V> {
         MapIter {
             part: None,
-            rest: self.held,
+            rest: self.gates.all_of(self.held),
         }
     }
 }
@@ -81,8 +91,11 @@ pub struct BagCounts<'a, V> {
 
 impl<'a, V: Value> BagCounts<'a, V> {
     /// How many copies of an element there are.
-    pub fn copies(&self, element: u64) -> u64 {
-        match self.held.get(self.gates.place(element) as usize) {
+    #[tactic(auto, using(crate::proofs::GateLemmas::copies_of))]
+    pub fn copies(&self, element: u64) -> u64
+        ensures { (whole : _) → LieOver held.Bag self.now.gates whole self.now.held.now → result ≡ copies whole element }
+    {
+        match self.gates.held_at(self.held, self.gates.place(element)) {
             Some(Held::Bag(counts)) => counts.copies(element),
             _ => 0,
         }
@@ -93,7 +106,7 @@ impl<'a, V: Value> BagCounts<'a, V> {
     pub fn iter(&self) -> BagIter<'a, V> {
         BagIter {
             part: None,
-            rest: self.held,
+            rest: self.gates.all_of(self.held),
         }
     }
 }
@@ -134,12 +147,16 @@ impl<'a, V: Value> Iterator for BagIter<'a, V> {
 #[derive_where(Clone, Copy)]
 pub struct LaneItems<'a, V> {
     pub(crate) held: &'a [Held<V>],
+    pub(crate) gates: Gates,
 }
 
 impl<'a, V: Value> LaneItems<'a, V> {
     /// The items of one lane, counted from 0, the first one first.
-    pub fn lane(&self, lane: usize) -> Option<&'a QueueItems> {
-        match self.held.get(lane) {
+    pub fn lane(&self, lane: u32) -> Option<&'a QueueItems> {
+        if lane > self.gates.others {
+            return None;
+        }
+        match self.gates.held_at(self.held, u64::from(lane)) {
             Some(Held::Queue { head: _, items }) => Some(items),
             _ => None,
         }
@@ -148,7 +165,7 @@ impl<'a, V: Value> LaneItems<'a, V> {
     /// How many items all lanes have.
     pub fn len(&self) -> usize {
         let mut total = 0usize;
-        for held in self.held {
+        for held in self.gates.all_of(self.held) {
             if let Held::Queue { head: _, items } = held {
                 total = total.saturating_add(items.len());
             }

@@ -3,10 +3,11 @@
 //! A collection of the table has one gate, which each call on it takes. A map or a multiset over several gates is laid over as many
 //! collections of the table, with consecutive numbers: a hash of a key says in which of them the key is. So calls on different keys seldom
 //! wait for each other.
-ghost use Rattle.std.specs.Prelude.{◌≡◌, ◌+◌, ◌≤◌, ◌%◌, IfOk};
+ghost use Rattle.std.specs.Prelude.{◌≡◌, ◌+◌, ◌≤◌, IfOk, slice_get};
+ghost use Rattle.std.specs.Option.{option_copied};
 ghost use Rattle.wolimevar.specs.Gates.{hash_of, place_of};
 
-use seq_model::Refusal;
+use seq_model::{Held, Refusal};
 
 /// An odd number near 2 to the 64th over the golden ratio: products of neighbours with it are far from each other.
 pub(crate) const SPREAD: u64 = 11_400_714_819_323_198_485;
@@ -46,9 +47,10 @@ impl Gates {
     }
 
     /// Which of the collections has a key, counted from 0.
-    #[tactic(auto, unfolding(crate::specs::Gates::place_of))]
+    #[tactic(auto, unfolding(crate::specs::Gates::place_of), using(crate::proofs::GateLemmas::place_within))]
     pub(crate) fn place(self, key: u64) -> u64
         ensures place { result ≡ place_of self key }
+        ensures within { result ≤ self.others }
     {
         if self.others == 0 {
             return 0;
@@ -67,5 +69,21 @@ impl Gates {
             return Err(Refusal::NoSuch);
         };
         Ok(number)
+    }
+
+    /// What one of the collections holds, of what all collections of a store hold.
+    pub(crate) fn held_at<V>(self, held: &[Held<V>], place: u64) -> Option<&Held<V>>
+        requires { place ≤ self.others }
+        ensures { option_copied result ≡ slice_get held.now (self.first + place) }
+    {
+        held.get((u64::from(self.first) + place) as usize)
+    }
+
+    /// What these collections hold, or less where there are not so many.
+    pub(crate) fn all_of<V>(self, held: &[Held<V>]) -> &[Held<V>] {
+        let first = (self.first as usize).min(held.len());
+        let (_, rest) = held.split_at(first);
+        let count = (self.others as usize + 1).min(rest.len());
+        rest.split_at(count).0
     }
 }

@@ -1,5 +1,6 @@
 //! What a store opens with.
 ghost use Rattle.std.specs.Prelude.{◌≡◌, IfOk, Some, map, slice_get};
+ghost use Rattle.wolimevar.specs.Gates.{LieOver};
 ghost use Rattle.seq_model.specs.declared.held.Held.TheVariants as held;
 
 use crate::bags::Bag;
@@ -82,20 +83,24 @@ impl<V: Value> Layout<V> {
     }
 
     /// Adds a map that holds these entries at first. Refused like `word`.
+    #[tactic(auto, using(crate::proofs::LayoutLemmas::one_map))]
     pub fn map(&mut self, stripes: u32, entries: Entries<V>) -> Result<Map<V>, Refusal>
         ensures same { self.new.store ≡ self.old.store }
         ensures store { IfOk result (λ handle. handle.store ≡ self.new.store) }
         ensures holds { IfOk result (λ handle. slice_get (map (λ c. c.held) self.new.collections.items) handle.gates.first ≡ Some (held.Map entries)) }
+        ensures lies { IfOk result (λ handle. LieOver held.Map handle.gates entries (map (λ c. c.held) self.new.collections.items)) }
     {
         let number = self.add(stripes, Held::Map(entries))?;
         Ok(Map::over(self.store, Gates::one(number)))
     }
 
     /// Adds a multiset that holds these counts at first. Refused like `word`.
+    #[tactic(auto, using(crate::proofs::LayoutLemmas::one_bag))]
     pub fn bag(&mut self, stripes: u32, counts: Counts) -> Result<Bag, Refusal>
         ensures same { self.new.store ≡ self.old.store }
         ensures store { IfOk result (λ handle. handle.store ≡ self.new.store) }
         ensures holds { IfOk result (λ handle. slice_get (map (λ c. c.held) self.new.collections.items) handle.gates.first ≡ Some (held.Bag counts)) }
+        ensures lies { IfOk result (λ handle. LieOver held.Bag handle.gates counts (map (λ c. c.held) self.new.collections.items)) }
     {
         let number = self.add(stripes, Held::Bag(counts))?;
         Ok(Bag::over(self.store, Gates::one(number)))
