@@ -38,13 +38,15 @@ pub fn report_gated<R: Runtime + AllocGlobal + Threads + Sync>(
     transactions: u32,
 ) -> io::Result<()> {
     let (committed, refused, seconds) = gated::time(rt, kind, threads, transactions)?;
-    let speed = committed as f64 / seconds / 1e3;
-    match kind {
-        Kind::Map(gates, writes) => print!(rt; "a store's map over {gates} gates, {writes} writes of ten calls")?,
-        Kind::Queue => print!(rt; "a store's queue, one item taken and put back")?,
-        Kind::Lanes(lanes) => print!(rt; "a store's queue in {lanes} lanes, one item taken and put back")?,
-    }
-    println!(rt; ", {threads} threads: {speed:.0} thousand transactions a second; refused: {refused}")
+    let speed = f64::from(u32::try_from(committed).unwrap_or(u32::MAX)) / seconds / 1e3;
+    let (name, gates, writes) = match kind {
+        Kind::Map(gates, writes) => ("a map", gates, writes),
+        Kind::Queue => ("a queue", 1, 10),
+        Kind::Lanes(lanes) => ("a queue in lanes", lanes, 10),
+    };
+    println!(rt;
+        "{name} of a store, {gates} gates, {writes} writes of ten calls, {threads} threads: {speed:.0} thousand transactions a second; refused: {refused}"
+    )
 }
 
 pub fn report_seats<R: Runtime + AllocGlobal + Threads + Sync>(
