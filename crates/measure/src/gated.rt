@@ -42,10 +42,10 @@ enum Handle {
     Lanes(Lanes),
 }
 
-/// Four calls on keys of a map, the first ones of which put; or an item that goes round.
+/// Four calls on keys of a map; or an item that goes round.
 #[derive(Drop)]
 enum Step {
-    Keys(Map<u64>, [u64; 4], [bool; 4]),
+    Keys(Map<u64>, [(u64, bool); 4]),
     Queue(Queue),
     Lanes(Lanes),
 }
@@ -57,9 +57,9 @@ impl Body<u64> for Step {
 
     fn run<S: Scope<u64>>(&self, tx: &mut Transaction<'_, u64, S>) -> Result<(), Refusal> {
         match self {
-            Step::Keys(map, keys, writes) => {
-                for (key, write) in keys.iter().zip(writes) {
-                    if *write {
+            Step::Keys(map, calls) => {
+                for (key, puts) in calls {
+                    if *puts {
                         map.put(tx, *key, *key)?;
                     } else {
                         map.get(tx, *key)?;
@@ -86,16 +86,22 @@ struct Guest {
     seed: u64,
 }
 
+/// A key, and whether a value is put there.
+fn drawn(writes: u32, random: &mut Xoshiro256PlusPlus) -> (u64, bool) {
+    let key = random.next_u64() % KEYS;
+    (key, random.next_u64() % 10 < u64::from(writes))
+}
+
 fn step_of(handle: Handle, random: &mut Xoshiro256PlusPlus) -> Step {
     match handle {
         Handle::Map(map, writes) => {
-            let mut keys = [0; 4];
-            let mut puts = [false; 4];
-            for (key, put) in keys.iter_mut().zip(&mut puts) {
-                *key = random.next_u64() % KEYS;
-                *put = random.next_u64() % 10 < u64::from(writes);
-            }
-            Step::Keys(map, keys, puts)
+            let calls = [
+                drawn(writes, random),
+                drawn(writes, random),
+                drawn(writes, random),
+                drawn(writes, random),
+            ];
+            Step::Keys(map, calls)
         }
         Handle::Queue(queue) => Step::Queue(queue),
         Handle::Lanes(lanes) => Step::Lanes(lanes),
@@ -153,12 +159,13 @@ pub fn time<R: Runtime + AllocGlobal + Threads + Sync>(
     threads: u32,
     transactions: u32,
 ) -> io::Result<(u64, u64, f64)> {
-    let Ok((mut store, handle)) = open(rt.alloc(), kind) else {
+    let Ok(opened) = open(rt.alloc(), kind) else {
         return Err(io::Error::other("the store can't be opened"));
     };
+    let (mut store, handle) = opened;
     let mut guests = Vec::new(rt.alloc());
     for thread in 0..threads {
-        let seed = u64::from(thread) + 1;
+        let seed = u64::from(thread).saturating_add(1);
         guests.push(Guest { handle, transactions, seed })?;
     }
     let start = Instant::now(rt);
