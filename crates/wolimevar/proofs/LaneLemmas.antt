@@ -25,9 +25,6 @@ use Rattle.wolimevar.specs.Made.{HasMade, TransactionShown, room_reply}
 use Rattle.wolimevar.proofs.GateLemmas.{set_here, set_there, unequal}
 use Rattle.wolimevar.proofs.SumLemmas.{HasLen, below, counts_sum, joined_calls, lens_leave, no_more_calls}
 
-
-
-
 lane_here : (lanes : ℕ → List ℕ) (i : ℕ) (xs : List ℕ) → with_lane lanes i xs i ≡ xs
 lane_here lanes i xs = ap (λ b. if b then xs else lanes i) (let e : (i == i) ≡ true = grind (arith, nat_tests) in e)
 
@@ -57,15 +54,18 @@ module _ {V : Type 0} where
       where
         by : (b : Bool) → (i == j) ≡ b → (h : ℕ) × (slice_get (with_queue head xs).held (g.first + j) ≡ Some (held.Queue h (after j)))
         by true is =
-            let same : i ≡ j = eqb-true i j is in
-            (head, subst (λ n. slice_get (with_queue head xs).held (g.first + n) ≡ Some (held.Queue head (after n))) same
-            (set_here s.held (g.first + i) (held.Queue (at i le).0 (lanes i)) (held.Queue head xs) (at i le).1
-            ∙ ap (λ ys. Some (held.Queue head ys)) (sym here)))
+            let same : i ≡ j = eqb-true i j is in (
+              head,
+              subst (λ n. slice_get (with_queue head xs).held (g.first + n) ≡ Some (held.Queue head (after n))) same
+                  (set_here s.held (g.first + i) (held.Queue (at i le).0 (lanes i)) (held.Queue head xs) (at i le).1
+                  ∙ ap (λ ys. Some (held.Queue head ys)) (sym here)),
+            )
         by false other =
-            let apart = unequal i j other in
-            ((at j le_j).0,
-            set_there s.held (g.first + i) (g.first + j) (held.Queue head xs) (λ e. apart (omega (arith, e)))
-            ∙ (at j le_j).1 ∙ ap (λ ys. Some (held.Queue (at j le_j).0 ys)) (sym (there j apart)))
+            let apart = unequal i j other in (
+              (at j le_j).0,
+              set_there s.held (g.first + i) (g.first + j) (held.Queue head xs) (λ e. apart (omega (arith, e)))
+                  ∙ (at j le_j).1 ∙ ap (λ ys. Some (held.Queue (at j le_j).0 ys)) (sym (there j apart)),
+            )
 
     changed : (head : ℕ) (xs : List ℕ) → AreLanes g (with_lane lanes i xs) (with_queue head xs).held
     changed head xs = lanes_after head xs (with_lane lanes i xs) (lane_here lanes i xs) (λ j apart. lane_there lanes i j xs apart)
@@ -99,9 +99,15 @@ module _ {V : Type 0} where
           → lanes i ≡ xs → q ≡ (if b then (replies.Done, head, xs ++ item ∷ []) else (replies.Full, head, xs)) → q.0 ≡ room_reply added
           → DoesAdd added (with_queue q.1 q.2)
       adds (Ok done) true head xs q same is reply =
-          subst (λ (p : Reply V × ℕ × List ℕ). DoesAdd (Ok done) (with_queue p.1 p.2)) (sym is)
-          ((i, le, subst (λ ys. AreLanes g (with_lane lanes i (ys ++ item ∷ [])) (with_queue head (xs ++ item ∷ [])).held) (sym same)
-          (changed head (xs ++ item ∷ []))), beside head (xs ++ item ∷ []))
+          subst (λ (p : Reply V × ℕ × List ℕ). DoesAdd (Ok done) (with_queue p.1 p.2)) (sym is) (
+            (
+              i,
+              le,
+              subst (λ ys. AreLanes g (with_lane lanes i (ys ++ item ∷ [])) (with_queue head (xs ++ item ∷ [])).held) (sym same)
+                  (changed head (xs ++ item ∷ [])),
+            ),
+            beside head (xs ++ item ∷ []),
+          )
       adds (Ok done) false head xs q same is reply = absurd (let e : ◌≡◌ {A = Reply V} replies.Full replies.Done = sym (ap (λ (p : Reply V × ℕ × List ℕ). p.0) is) ∙ reply in cc)
       adds (Err full) true head xs q same is reply = absurd (let e : ◌≡◌ {A = Reply V} replies.Done replies.Full = sym (ap (λ (p : Reply V × ℕ × List ℕ). p.0) is) ∙ reply in cc)
       adds (Err full) false head xs q same is reply =

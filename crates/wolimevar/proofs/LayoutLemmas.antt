@@ -94,9 +94,10 @@ module _ {X : Type 0} (g : Gates) where
       none false = refl
 
   pub no_parts : (parts : List (FinMap nat_cmp X)) → parts ≡ replicate (g.others + 1) empty → AreParts g empty parts
-  no_parts parts are =
-      (ap length are ∙ length-replicate (g.others + 1) empty,
-      λ i le. ap (λ ps. slice_get ps i) are ∙ in_replicate (g.others + 1) i empty (omega (arith, le)) ∙ ap Some (sym (none_kept (λ k. place_of g k == i))))
+  no_parts parts are = (
+    ap length are ∙ length-replicate (g.others + 1) empty,
+    λ i le. ap (λ ps. slice_get ps i) are ∙ in_replicate (g.others + 1) i empty (omega (arith, le)) ∙ ap Some (sym (none_kept (λ k. place_of g k == i))),
+  )
 
   pub with_entry : (u : FinMap nat_cmp X) (parts : List (FinMap nat_cmp X)) (k : ℕ) (v : X) (part : FinMap nat_cmp X) → AreParts g u parts
       → slice_get parts (place_of g k) ≡ Some part → AreParts g (insert u k v) (slice_set parts (place_of g k) (insert part k v))

@@ -68,12 +68,7 @@ impl<V: Value> Layout<V> {
     /// Adds a queue in so many lanes, each of so many stripes, whose first lane holds these items at first. `TooLong` for no lanes, or
     /// more than 256; otherwise refused like `word`.
     #[tactic(auto, using(crate::proofs::LayoutLemmas::laid_lanes))]
-    pub fn lanes(
-        &mut self,
-        lanes: u32,
-        stripes: u32,
-        items: QueueItems,
-    ) -> Result<Lanes, Refusal>
+    pub fn lanes(&mut self, lanes: u32, stripes: u32, items: QueueItems) -> Result<Lanes, Refusal>
         ensures same { self.new.store ≡ self.old.store }
         ensures store { IfOk result (λ handle. handle.store ≡ self.new.store) }
         ensures holds { IfOk result (λ handle. AreLanes handle.gates (first_lane items) (map (λ c. c.held) self.new.collections.items)) }

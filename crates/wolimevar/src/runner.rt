@@ -40,7 +40,13 @@ impl<V: Value> Runner<V> {
         match self.seat.take() {
             Some(seat) => {
                 let (seat, tally, ended) = retry(
-                    table, self.caller, seat, self.tally, body, declared, tries,
+                    table,
+                    self.caller,
+                    seat,
+                    self.tally,
+                    body,
+                    declared,
+                    tries,
                 );
                 self.seat = Some(seat);
                 self.tally = tally;
