@@ -49,7 +49,10 @@ fn print_wide<V: Number>(
     let copies = counts.map_or(0, |counts| counts.copies(3));
     let elements = counts.map_or(0, |counts| counts.iter().count());
     let items = contents.lanes(handles.lanes).map_or(0, |lanes| lanes.len());
-    writeln!(text, "over gates = {len} {keys} {value:?} {copies} {elements} {items}")
+    writeln!(
+        text,
+        "over gates = {len} {keys} {value:?} {copies} {elements} {items}"
+    )
 }
 
 fn print_all<V: Number>(

@@ -23,12 +23,8 @@ fn lay_out(alloc: Global, layout: &mut Layout<u64>, asked: &str) -> Result<(), R
     match kind {
         "bags" => add_bags(alloc, layout, number),
         "stripes" => layout.map(stripes, Entries::new(alloc)).map(|_| ()),
-        "gates" => layout
-            .map_over(stripes, 1, Entries::new(alloc))
-            .map(|_| ()),
-        "lanes" => layout
-            .lanes(stripes, 1, QueueItems::new(alloc))
-            .map(|_| ()),
+        "gates" => layout.map_over(stripes, 1, Entries::new(alloc)).map(|_| ()),
+        "lanes" => layout.lanes(stripes, 1, QueueItems::new(alloc)).map(|_| ()),
         "queue" => layout.queue(stripes, QueueItems::new(alloc)).map(|_| ()),
         _ => layout.bag(1, copies(alloc, number)?).map(|_| ()),
     }

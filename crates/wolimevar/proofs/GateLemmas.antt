@@ -1,7 +1,7 @@
 -- A call at one key, on a map or a multiset over several gates: the collection that has the key answers as the whole one would.
 use Rattle.std.proofs.Common.{◌≡◌, ◌⊎◌, ℕ, zero, suc, ◌+◌, ◌-◌, ◌%◌, ◌<◌, ◌≤◌, ◌==◌, Bool, true, false, cond, List, [], ◌∷◌, Option, Some, None, inl, inr}
 use Rattle.std.proofs.Common.{refl, sym, ap, subst, ◌∙◌, arith, eqb-true, unwrap_or, nat_lt}
-use Rattle.std.specs.Prelude.{option_map, option_and_then, slice_get, slice_set, if◌then◌else◌}
+use Rattle.std.specs.Prelude.{Err, IfOk, Ok, Result, option_map, option_and_then, slice_get, slice_set, if◌then◌else◌}
 use Rattle.std.specs.Cmp.{nat_cmp_total}
 use Rattle.std.specs.Ordering.{nat_cmp, eq_by_cmp}
 use Rattle.std.specs.FinMap.{FinMap, get, get-insert, get-remove, get-retain_keys, insert, nat_cmp-IsAntisymmetric, remove, retain_keys}
@@ -391,3 +391,8 @@ module _ {V : Type 0} (g : Gates) (hs : List (Held V)) (k : ℕ) where
   pub copies_of : (u part : Multiset) → LieOver held.Bag g u hs → slice_get hs (g.first + place_of g k) ≡ Some (held.Bag part)
       → copies part k ≡ copies u k
   copies_of u part lie at = ap (λ o. unwrap_or o 0) (part_is held.Bag g hs u part k lie (λ m n e. cc) at)
+
+-- ---- answers
+pub on_ok : {A E : Type 0} (P Q : A → Type 0) (r : Result A E) → ((a : A) → P a → Q a) → IfOk r P → IfOk r Q
+on_ok P Q (Ok a) f h = f a h
+on_ok P Q (Err e) f h = tt

@@ -262,13 +262,13 @@ module _ {V : Type 0} where
   counted : (g : Gates) (total : ℕ) (calls : List (Call V × Reply V)) → AreSummed g total calls
       → DoWithLanes g (λ lanes t. IsCounted g lanes total t) calls
   counted g total calls are s lanes at legal =
-      let here : IsLegal (len_calls g.first are.counts) s = subst (λ cs. IsLegal cs s) are.calls legal in
+      let here : IsLegal (len_calls g.first are.counts) s = subst (λ cs. IsLegal cs s) are.made legal in
       let so = counts_sum g.first are.counts s (λ i. length (lanes i))
       (λ i lt. let le : i ≤ g.others = omega (arith, lt, are.all) in queue_has_len s (g.first + i) (at i le).0 (lanes i) (at i le).1) here in
       let many = ap (below (λ i. length (lanes i))) are.all in
-      let same : after_calls calls s ≡ s = ap (λ cs. after_calls cs s) are.calls ∙ lens_leave g.first are.counts s here in
+      let same : after_calls calls s ≡ s = ap (λ cs. after_calls cs s) are.made ∙ lens_leave g.first are.counts s here in
       subst (λ t. IsCounted g lanes total t × AreSameBeside g s t) (sym same)
-      ((are.total ∙ so ∙ many ∙ sym (total_below lanes (g.others + 1)), at), same_self g s)
+      ((are.is_sum ∙ so ∙ many ∙ sym (total_below lanes (g.others + 1)), at), same_self g s)
 
   pub lanes_len : (before now : TransactionShown V) (l : Lanes) (total : ℕ) → HasSummed before l.store l.gates total now
       → HasDoneWithLanes before l (λ lanes t. IsCounted l.gates lanes total t) now

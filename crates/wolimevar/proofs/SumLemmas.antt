@@ -134,7 +134,7 @@ module _ {V : Type 0} where
     pub own : 0 < i → before.store ≡ store
     pub counts : List ℕ
     pub many : length counts ≡ i
-    pub total : total ≡ sum counts
+    pub is_sum : total ≡ sum counts
     pub made : now ≡ record { store = before.store; calls = before.calls ++ len_calls first counts }
 
   one_longer : (xs : List ℕ) (x : ℕ) → length (xs ++ x ∷ []) ≡ length xs + 1
@@ -174,7 +174,7 @@ module _ {V : Type 0} where
     own = λ lt. absurd (omega (arith, lt));
     counts = [];
     many = refl;
-    total = refl;
+    is_sum = refl;
     made = ap (λ (cs : List (Call V × Reply V)). record { store = before.store; calls = cs }) (no_more_calls before.calls);
   }
 
@@ -185,7 +185,7 @@ module _ {V : Type 0} where
     own = λ lt. sym (ap (λ (t : TransactionShown V). t.store) so.made) ∙ has.0;
     counts = so.counts ++ count ∷ [];
     many = (let e = one_longer so.counts count in omega (arith, e, so.many));
-    total = (let e = sum_with so.counts count in omega (arith, e, so.total, adds));
+    is_sum = (let e = sum_with so.counts count in omega (arith, e, so.is_sum, adds));
     made = has.1
         ∙ (λ j. record { store = (so.made j).store; calls = (so.made j).calls ++ (record { target = number; op = ops.Len }, is j) ∷ [] })
         ∙ ap (λ t. record {
@@ -206,7 +206,7 @@ module _ {V : Type 0} where
     own = so.own (omega (arith, all));
     more = len_calls g.first so.counts;
     made = so.made;
-    are = record { counts = so.counts; all = so.many ∙ all; total = so.total; calls = refl };
+    are = record { counts = so.counts; all = so.many ∙ all; is_sum = so.is_sum; made = refl };
   }
 
   -- ---- of a map
@@ -229,17 +229,17 @@ module _ {V : Type 0} where
     total_is s u lie legal =
         let so = counts_sum g.first are.counts s (λ l. len (retain_keys u (λ k. place_of g k == l)))
         (λ i lt. map_has_len s (g.first + i) _ (lie i (omega (arith, lt, are.all))))
-        (subst (λ cs. IsLegal cs s) are.calls legal) in
+        (subst (λ cs. IsLegal cs s) are.made legal) in
         let many = ap (below (λ l. len (retain_keys u (λ k. place_of g k == l)))) are.all in
         let all = lens_add_up (place_of g) (g.others + 1) (λ k. let h = place_within g k in omega (arith, h)) u in
-        are.total ∙ so ∙ many ∙ all
+        are.is_sum ∙ so ∙ many ∙ all
 
     pub summed_map : AreOneCall held.Map (map_call ops.Len) g ops.Len (replies.Number total) calls
     summed_map = record {
-      one = λ single. are.calls ∙ only_one are.counts total g.first (omega (arith, single, are.all)) are.total;
+      one = λ single. are.made ∙ only_one are.counts total g.first (omega (arith, single, are.all)) are.is_sum;
       means = λ s u lie legal.
           let same : after_calls calls s ≡ s =
-          ap (λ cs. after_calls cs s) are.calls ∙ lens_leave g.first are.counts s (subst (λ cs. IsLegal cs s) are.calls legal) in
+          ap (λ cs. after_calls cs s) are.made ∙ lens_leave g.first are.counts s (subst (λ cs. IsLegal cs s) are.made legal) in
           subst (IsCallOn held.Map (map_call ops.Len) g u (replies.Number total) s) (sym same) (record {
             after = u;
             answers = ap (λ n. Some (replies.Number n, u)) (sym (total_is s u lie legal));

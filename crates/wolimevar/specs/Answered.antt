@@ -36,8 +36,8 @@ module _ {V : Type 0} where
   pub record AreSummed (g : Gates) (total : ℕ) (calls : List (Call V × Reply V)) : Type 0 where
     pub counts : List ℕ
     pub all : length counts ≡ g.others + 1
-    pub total : total ≡ sum counts
-    pub calls : calls ≡ len_calls g.first counts
+    pub is_sum : total ≡ sum counts
+    pub made : calls ≡ len_calls g.first counts
 
   abbrev pub HasSummed : TransactionShown V → ℕ → Gates → ℕ → TransactionShown V → Type 0
   HasSummed before store g total now = HasMadeMore (AreSummed g total) before store now

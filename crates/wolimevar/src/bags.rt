@@ -28,7 +28,6 @@ impl Bag {
     }
 
     /// How many copies of the element the multiset has.
-    #[tactic(auto, using(crate::proofs::GateLemmas::bag_counts))]
     pub fn count<V: Value, S: Scope<V>>(
         &self,
         tx: &mut Transaction<'_, V, S>,
@@ -41,7 +40,6 @@ impl Bag {
     }
 
     /// Adds one copy of the element. [`Full`] where it has 4,294,967,295 copies already.
-    #[tactic(auto, using(crate::proofs::GateLemmas::bag_adds))]
     pub fn add<V: Value, S: Scope<V>>(
         &self,
         tx: &mut Transaction<'_, V, S>,
@@ -54,7 +52,6 @@ impl Bag {
     }
 
     /// Takes one copy of the element out, and returns whether there was one.
-    #[tactic(auto, using(crate::proofs::GateLemmas::bag_takes))]
     pub fn take<V: Value, S: Scope<V>>(
         &self,
         tx: &mut Transaction<'_, V, S>,

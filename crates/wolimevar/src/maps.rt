@@ -34,7 +34,6 @@ impl<V: Value> Map<V> {
     }
 
     /// A copy of the value at a key.
-    #[tactic(auto, using(crate::proofs::GateLemmas::map_gets))]
     pub fn get<S: Scope<V>>(
         &self,
         tx: &mut Transaction<'_, V, S>,
@@ -47,7 +46,6 @@ impl<V: Value> Map<V> {
     }
 
     /// Puts a value at a key, and returns the value that was there before.
-    #[tactic(auto, using(crate::proofs::GateLemmas::map_puts))]
     pub fn put<S: Scope<V>>(
         &self,
         tx: &mut Transaction<'_, V, S>,
@@ -61,7 +59,6 @@ impl<V: Value> Map<V> {
     }
 
     /// Removes a key, and returns the value that was there.
-    #[tactic(auto, using(crate::proofs::GateLemmas::map_removes))]
     pub fn remove<S: Scope<V>>(
         &self,
         tx: &mut Transaction<'_, V, S>,

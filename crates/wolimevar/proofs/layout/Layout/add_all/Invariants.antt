@@ -1,6 +1,6 @@
 use Rattle.std.proofs.Common.{◌≡◌, ◌+◌, ◌++◌, ◌≤◌, length, map}
 use Rattle.std.specs.Vec.{vec_capacity}
-use Rattle.wolimevar.proofs.layout_over.Layout.add_all.Given as goal
+use Rattle.wolimevar.proofs.layout.Layout.add_all.Given as goal
 
 -- so far these are added, and there is room for the others
 abbrev pub invariant-all : goal.invariant-all
