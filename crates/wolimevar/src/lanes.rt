@@ -85,7 +85,6 @@ impl Lanes {
     }
 
     /// How many items all lanes have.
-    #[tactic(auto, using(crate::proofs::LaneLemmas::lanes_len))]
     pub fn len<V: Value, S: Scope<V>>(&self, tx: &mut Transaction<'_, V, S>) -> Result<u64, Refusal>
         ensures { IfOk result (λ count. HasDoneWithLanes tx.old self.now (λ lanes t. IsCounted self.now.gates lanes count t) tx.new) }
     {

@@ -71,7 +71,6 @@ impl<V: Value> Map<V> {
     }
 
     /// How many keys the map has. It reads every stripe.
-    #[tactic(auto, using(crate::proofs::SumLemmas::map_len))]
     pub fn len<S: Scope<V>>(&self, tx: &mut Transaction<'_, V, S>) -> Result<u64, Refusal>
         ensures { IfOk result (λ count. MapAnswers tx.old self.now op.Len (replies.Number count) tx.new) }
     {
