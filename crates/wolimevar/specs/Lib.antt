@@ -1,5 +1,8 @@
+pub mod Gates
 pub mod Asked
 pub mod Made
+pub mod Answered
+pub mod Lanes
 pub mod Frames
 pub mod Ends
 pub mod Tallies
