@@ -22,7 +22,7 @@ pub fn measure<R: Runtime + AllocGlobal + Threads + Wait + Sync>(rt: &R) -> io::
             }
         }
     }
-    for kind in [Kind::Map(1, 1), Kind::Map(8, 1), Kind::Queue, Kind::Lanes(4)] {
+    for kind in [Kind::Map(1, 1), Kind::Map(8, 1), Kind::Lanes(1), Kind::Lanes(4)] {
         for threads in [1, 2, 4] {
             report_gated(rt, kind, threads, TRANSACTIONS)?;
         }
@@ -39,13 +39,12 @@ pub fn report_gated<R: Runtime + AllocGlobal + Threads + Sync>(
 ) -> io::Result<()> {
     let (committed, refused, seconds) = gated::time(rt, kind, threads, transactions)?;
     let speed = f64::from(u32::try_from(committed).unwrap_or(u32::MAX)) / seconds / 1e3;
-    let (name, gates, writes) = match kind {
-        Kind::Map(gates, writes) => ("a map", gates, writes),
-        Kind::Queue => ("a queue", 1, 10),
-        Kind::Lanes(lanes) => ("a queue in lanes", lanes, 10),
+    let (name, writes) = match kind {
+        Kind::Map(gates, writes) => (format!(in rt.alloc(); "a map over {gates} gates")?, writes),
+        Kind::Lanes(lanes) => (format!(in rt.alloc(); "a queue in {lanes} lanes")?, 10),
     };
     println!(rt;
-        "{name} of a store, {gates} gates, {writes} writes of ten calls, {threads} threads: {speed:.0} thousand transactions a second; refused: {refused}"
+        "{name} of a store, {writes} writes of ten calls, {threads} threads: {speed:.0} thousand transactions a second; refused: {refused}"
     )
 }
 

@@ -8,9 +8,7 @@ use std::io;
 use std::rt::Runtime;
 use std::thread::Threads;
 use std::time::Instant;
-use wolimevar::{
-    Body, Client, Lanes, Layout, Map, Queue, Scope, Session, Store, Transaction,
-};
+use wolimevar::{Body, Client, Lanes, Layout, Map, Scope, Session, Store, Transaction};
 
 /// How many keys the map has.
 const KEYS: u64 = 65_536;
@@ -27,18 +25,15 @@ const TRIES: u64 = 1_000_000;
 /// What the transactions are on.
 #[derive(Clone, Copy)]
 pub enum Kind {
-    /// A map over so many gates: four gets, or of forty calls four puts.
+    /// A map over so many gates: four gets, of which so many of ten are puts.
     Map(u32, u32),
-    /// A queue: an item is taken, and put back.
-    Queue,
-    /// The same of a queue in so many lanes.
+    /// A queue in so many lanes: an item is taken, and put back.
     Lanes(u32),
 }
 
 #[derive(Clone, Copy)]
 enum Handle {
     Map(Map<u64>, u32),
-    Queue(Queue),
     Lanes(Lanes),
 }
 
@@ -46,7 +41,6 @@ enum Handle {
 #[derive(Drop)]
 enum Step {
     Keys(Map<u64>, [(u64, bool); 4]),
-    Queue(Queue),
     Lanes(Lanes),
 }
 
@@ -66,10 +60,6 @@ impl Body<u64> for Step {
                     }
                 }
                 Ok(())
-            }
-            Step::Queue(queue) => {
-                let item = queue.dequeue(tx)?.unwrap_or(0);
-                Ok(queue.enqueue(tx, item)??)
             }
             Step::Lanes(lanes) => {
                 let item = lanes.dequeue(tx)?.unwrap_or(0);
@@ -103,7 +93,6 @@ fn step_of(handle: Handle, random: &mut Xoshiro256PlusPlus) -> Step {
             ];
             Step::Keys(map, calls)
         }
-        Handle::Queue(queue) => Step::Queue(queue),
         Handle::Lanes(lanes) => Step::Lanes(lanes),
     }
 }
@@ -146,7 +135,6 @@ fn open(alloc: Global, kind: Kind) -> Result<(Store<u64>, Handle), Refusal> {
             let stripes = STRIPES / gates.max(1);
             Handle::Map(layout.map_over(gates, stripes, entries(alloc)?)?, writes)
         }
-        Kind::Queue => Handle::Queue(layout.queue(8, items(alloc)?)?),
         Kind::Lanes(lanes) => Handle::Lanes(layout.lanes(lanes, 8, items(alloc)?)?),
     };
     Ok((layout.open()?, handle))

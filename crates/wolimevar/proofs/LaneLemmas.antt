@@ -31,6 +31,10 @@ lane_here lanes i xs = ap (λ b. if b then xs else lanes i) (let e : (i == i) �
 lane_there : (lanes : ℕ → List ℕ) (i j : ℕ) (xs : List ℕ) → (j ≡ i → ⊥) → with_lane lanes i xs j ≡ lanes j
 lane_there lanes i j xs apart = ap (λ b. if b then xs else lanes j) (let e : (j == i) ≡ false = grind (arith, nat_tests) in e)
 
+pub total_below : (lanes : ℕ → List ℕ) (n : ℕ) → total_of lanes n ≡ below (λ i. length (lanes i)) n
+total_below lanes zero = refl
+total_below lanes (suc n) = ap (λ t. t + length (lanes n)) (total_below lanes n)
+
 module _ {V : Type 0} where
   -- ---- what is beside
   pub same_self : (g : Gates) (s : Contents V) → AreSameBeside g s s
@@ -254,10 +258,6 @@ module _ {V : Type 0} where
   queue_has_len s c head xs at =
       ap (λ o. option_map (λ (r : Reply V × Contents V). r.0) (option_and_then (λ (h : Held V).
       option_map (λ (r : Reply V × Held V). (r.0, record s { held = slice_set s.held c r.1 })) (held_call ops.Len h)) o)) at
-
-  total_below : (lanes : ℕ → List ℕ) (n : ℕ) → total_of lanes n ≡ below (λ i. length (lanes i)) n
-  total_below lanes zero = refl
-  total_below lanes (suc n) = ap (λ t. t + length (lanes n)) (total_below lanes n)
 
   counted : (g : Gates) (total : ℕ) (calls : List (Call V × Reply V)) → AreSummed g total calls
       → DoWithLanes g (λ lanes t. IsCounted g lanes total t) calls

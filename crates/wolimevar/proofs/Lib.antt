@@ -1,6 +1,7 @@
 pub mod GateLemmas
 pub mod SumLemmas
 pub mod LaneLemmas
+pub mod ReadLemmas
 pub mod LayoutLemmas
 pub mod AskedLemmas
 pub mod FrameLemmas

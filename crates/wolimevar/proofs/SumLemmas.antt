@@ -33,7 +33,7 @@ abbrev pub below : (ℕ → ℕ) → ℕ → ℕ
 below f zero = 0
 below f (suc n) = below f n + f n
 
-below_same : (f h : ℕ → ℕ) (n : ℕ) → ((i : ℕ) → i < n → f i ≡ h i) → below f n ≡ below h n
+pub below_same : (f h : ℕ → ℕ) (n : ℕ) → ((i : ℕ) → i < n → f i ≡ h i) → below f n ≡ below h n
 below_same f h zero same = refl
 below_same f h (suc n) same =
     let rest = below_same f h n (λ i lt. same i (omega (arith, lt))) in
@@ -69,6 +69,23 @@ zeros : (n : ℕ) → below (λ l. 0) n ≡ 0
 zeros zero = refl
 zeros (suc n) = let rest = zeros n in omega (arith, rest)
 
+-- the first one, and the others
+pub below_first : (f : ℕ → ℕ) (n : ℕ) → below f (suc n) ≡ f 0 + below (λ i. f (i + 1)) n
+below_first f zero = omega arith
+below_first f (suc n) =
+    let rest = below_first f n in
+    let same : f (suc n) ≡ f (n + 1) = ap f (omega arith) in
+    omega (arith, rest, same)
+
+-- the entries of a map make it
+pub entries_make : {A : Type 0} (m : FinMap nat_cmp A) → from_entries (entries m) ≡ m
+entries_make m =
+    same_map nat_cmp_total nat_cmp-IsAntisymmetric _ _ (λ q. get-from_entries nat_cmp_total (entries m) q ∙ sym (get-entries m q))
+
+-- one place more
+pub then_below : (f : ℕ → ℕ) (i : ℕ) → below f (i + 1) ≡ below f i + f i
+then_below f i = let e : i + 1 ≡ suc i = omega arith in ap (below f) e
+
 -- ---- each entry is in one place
 module _ {A : Type 0} (place : ℕ → ℕ) (n : ℕ) (within : (k : ℕ) → place k < n) where
   all_found : (es : List (ℕ × A)) → below (λ l. found {A = A} (λ k. place k == l) es) n ≡ length es
@@ -79,8 +96,7 @@ module _ {A : Type 0} (place : ℕ → ℕ) (n : ℕ) (within : (k : ℕ) → pl
   pub lens_add_up : (m : FinMap nat_cmp A) → below (λ l. len (retain_keys m (λ k. place k == l))) n ≡ len m
   lens_add_up m =
       let fresh = fresh_rising (entries m) (entries_sorted m) in
-      let same : from_entries (entries m) ≡ m =
-      same_map nat_cmp_total nat_cmp-IsAntisymmetric _ _ (λ q. get-from_entries nat_cmp_total (entries m) q ∙ sym (get-entries m q)) in
+      let same = entries_make m in
       let each : (l : ℕ) → len (retain_keys m (λ k. place k == l)) ≡ found {A = A} (λ k. place k == l) (entries m) =
       λ l. ap (λ (x : FinMap nat_cmp A). len (retain_keys x (λ k. place k == l))) (sym same) ∙ kept_len (λ k. place k == l) (entries m) fresh in
       below_same (λ l. len (retain_keys m (λ k. place k == l))) (λ l. found {A = A} (λ k. place k == l) (entries m)) n (λ l lt. each l)
@@ -95,14 +111,6 @@ module _ {V : Type 0} where
   -- so the state is as it was
   pub lens_leave : (first : ℕ) (counts : List ℕ) (s : Contents V) → IsLegal (len_calls first counts) s → after_calls (len_calls first counts) s ≡ s
   lens_leave first counts s legal = after_reads (len_calls first counts) s (reads first counts) legal
-
-  -- the first of them, and the others
-  below_first : (f : ℕ → ℕ) (n : ℕ) → below f (suc n) ≡ f 0 + below (λ i. f (i + 1)) n
-  below_first f zero = omega arith
-  below_first f (suc n) =
-      let rest = below_first f n in
-      let same : f (suc n) ≡ f (n + 1) = ap f (omega arith) in
-      omega (arith, rest, same)
 
   -- so many keys or items the collection with this number has
   abbrev pub HasLen : Contents V → ℕ → ℕ → Type 0

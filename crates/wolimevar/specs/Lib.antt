@@ -3,6 +3,7 @@ pub mod Asked
 pub mod Made
 pub mod Answered
 pub mod Lanes
+pub mod Read
 pub mod Frames
 pub mod Ends
 pub mod Tallies

@@ -1,10 +1,14 @@
 //! What a collection that may lie over several gates holds at the end.
-ghost use Rattle.std.specs.Prelude.{◌≡◌};
+ghost use Rattle.std.specs.Prelude.{◌≡◌, ◌+◌, ◌-◌, ◌^◌, ◌≤◌, Some, min, slice_get};
 ghost use Rattle.std.specs.Option.{option_copied};
 ghost use Rattle.std.specs.FinMap as map;
+ghost use Rattle.std_collections.specs.Map.Iter.{TakesFirst, deref_pair};
 ghost use Rattle.seq_model.specs.Counts.{copies};
 ghost use Rattle.seq_model.specs.declared.held.Held.TheVariants as held;
 ghost use Rattle.wolimevar.specs.Gates.{LieOver};
+ghost use Rattle.wolimevar.specs.Lanes.{AreLanes, total_of};
+ghost use Rattle.std.specs.Iterator.{YieldsFirstBy, item_count};
+ghost use Rattle.wolimevar.specs.Read.{HasAll, bag_entries, bag_left, left_in, map_entries, map_left};
 
 use crate::gates::Gates;
 use seq_model::{Held, QueueItems, Value};
@@ -31,10 +35,13 @@ impl<'a, V: Value> MapEntries<'a, V> {
     }
 
     /// How many keys there are.
-    pub fn len(&self) -> usize {
+    #[tactic(auto, using(crate::proofs::ReadLemmas::keys_read, crate::proofs::SumLemmas::then_below))]
+    pub fn len(&self) -> usize
+        ensures { (whole : _) → LieOver held.Map self.now.gates whole self.now.held.now → result ≡ min (map.len whole) (2 ^ 64 - 1) }
+    {
         let mut total = 0usize;
-        for held in self.gates.all_of(self.held) {
-            if let Held::Map(entries) = held {
+        'gates: for i in 0..u64::from(self.gates.others) + 1 {
+            if let Some(Held::Map(entries)) = self.gates.held_at(self.held, i) {
                 total = total.saturating_add(entries.len());
             }
         }
@@ -42,11 +49,37 @@ impl<'a, V: Value> MapEntries<'a, V> {
     }
 
     /// The entries, rising by key where the map has one gate, and else those of one gate after those of another.
-    pub fn iter(&self) -> MapIter<'a, V> {
+    #[tactic(auto, using(crate::proofs::ReadLemmas::map_read))]
+    pub fn iter(&self) -> MapIter<'a, V>
+        ensures { (whole : _) → LieOver held.Map self.now.gates whole self.now.held.now → HasAll (map_left result) whole }
+    {
         MapIter {
             part: None,
-            rest: self.gates.all_of(self.held),
+            held: self.held,
+            gates: self.gates,
+            place: 0,
         }
+    }
+}
+
+/// The next entry of a part that was begun.
+fn next_in<'a, X>(part: &mut Option<Iter<'a, u64, X>>) -> Option<(&'a u64, &'a X)>
+    ensures { TakesFirst deref_pair (left_in part.old) result (left_in part.new) }
+{
+    match part {
+        Some(part) => part.next(),
+        None => None,
+    }
+}
+
+/// The entries of the map at a place.
+fn map_at<'a, V>(held: &'a [Held<V>], gates: Gates, place: u64) -> Option<Iter<'a, u64, V>>
+    requires { place ≤ gates.others }
+    ensures { left_in result ≡ map_entries (slice_get held.now (gates.first + place)) }
+{
+    match gates.held_at(held, place) {
+        Some(Held::Map(entries)) => Some(entries.iter()),
+        _ => None,
     }
 }
 
@@ -54,30 +87,37 @@ impl<'a, V: Value> MapEntries<'a, V> {
 #[derive(Drop)]
 pub struct MapIter<'a, V> {
     part: Option<Iter<'a, u64, V>>,
-    rest: &'a [Held<V>],
+    held: &'a [Held<V>],
+    gates: Gates,
+    /// The first place that wasn't begun yet.
+    place: u64,
+}
+
+impl<'a, V: Value> MapIter<'a, V> {
+    #[tactic(auto, using(crate::proofs::ReadLemmas::then_place, crate::proofs::ReadLemmas::no_place))]
+    fn step(&mut self) -> Option<(&'a u64, &'a V)>
+        ensures { TakesFirst deref_pair (map_left self.old) result (map_left self.new) }
+    {
+        'gates: for place in self.place..u64::from(self.gates.others) + 1 {
+            if let Some(entry) = next_in(&mut self.part) {
+                return Some(entry);
+            }
+            self.place = place + 1;
+            self.part = map_at(self.held, self.gates, place);
+        }
+        next_in(&mut self.part)
+    }
 }
 
 impl<'a, V: Value> Iterator for MapIter<'a, V> {
     type Item = (&'a u64, &'a V);
 
+    ghost next_gives = { YieldsFirstBy deref_pair map_left };
+
+    ghost remaining = { item_count map_left };
+
     fn next(&mut self) -> Option<(&'a u64, &'a V)> {
-        for _ in 0..self.rest.len() {
-            if let Some(part) = &mut self.part {
-                if let Some(entry) = part.next() {
-                    return Some(entry);
-                }
-            }
-            let (held, rest) = self.rest.split_first()?;
-            self.rest = rest;
-            self.part = match held {
-                Held::Map(entries) => Some(entries.iter()),
-                _ => None,
-            };
-        }
-        match &mut self.part {
-            Some(part) => part.next(),
-            None => None,
-        }
+        self.step()
     }
 }
 
@@ -103,11 +143,27 @@ impl<'a, V: Value> BagCounts<'a, V> {
 
     /// The elements with the numbers of their copies, rising where the multiset has one gate, and else those of one gate after those of
     /// another.
-    pub fn iter(&self) -> BagIter<'a, V> {
+    #[tactic(auto, using(crate::proofs::ReadLemmas::bag_read))]
+    pub fn iter(&self) -> BagIter<'a, V>
+        ensures { (whole : _) → LieOver held.Bag self.now.gates whole self.now.held.now → HasAll (bag_left result) whole }
+    {
         BagIter {
             part: None,
-            rest: self.gates.all_of(self.held),
+            held: self.held,
+            gates: self.gates,
+            place: 0,
         }
+    }
+}
+
+/// The elements of the multiset at a place, with the numbers of their copies.
+fn bag_at<'a, V>(held: &'a [Held<V>], gates: Gates, place: u64) -> Option<Iter<'a, u64, u64>>
+    requires { place ≤ gates.others }
+    ensures { left_in result ≡ bag_entries (slice_get held.now (gates.first + place)) }
+{
+    match gates.held_at(held, place) {
+        Some(Held::Bag(counts)) => Some(counts.iter()),
+        _ => None,
     }
 }
 
@@ -115,30 +171,37 @@ impl<'a, V: Value> BagCounts<'a, V> {
 #[derive(Drop)]
 pub struct BagIter<'a, V> {
     part: Option<Iter<'a, u64, u64>>,
-    rest: &'a [Held<V>],
+    held: &'a [Held<V>],
+    gates: Gates,
+    /// The first place that wasn't begun yet.
+    place: u64,
+}
+
+impl<'a, V: Value> BagIter<'a, V> {
+    #[tactic(auto, using(crate::proofs::ReadLemmas::then_place, crate::proofs::ReadLemmas::no_place))]
+    fn step(&mut self) -> Option<(&'a u64, &'a u64)>
+        ensures { TakesFirst deref_pair (bag_left self.old) result (bag_left self.new) }
+    {
+        'gates: for place in self.place..u64::from(self.gates.others) + 1 {
+            if let Some(entry) = next_in(&mut self.part) {
+                return Some(entry);
+            }
+            self.place = place + 1;
+            self.part = bag_at(self.held, self.gates, place);
+        }
+        next_in(&mut self.part)
+    }
 }
 
 impl<'a, V: Value> Iterator for BagIter<'a, V> {
     type Item = (&'a u64, &'a u64);
 
+    ghost next_gives = { YieldsFirstBy deref_pair bag_left };
+
+    ghost remaining = { item_count bag_left };
+
     fn next(&mut self) -> Option<(&'a u64, &'a u64)> {
-        for _ in 0..self.rest.len() {
-            if let Some(part) = &mut self.part {
-                if let Some(entry) = part.next() {
-                    return Some(entry);
-                }
-            }
-            let (held, rest) = self.rest.split_first()?;
-            self.rest = rest;
-            self.part = match held {
-                Held::Bag(counts) => Some(counts.iter()),
-                _ => None,
-            };
-        }
-        match &mut self.part {
-            Some(part) => part.next(),
-            None => None,
-        }
+        self.step()
     }
 }
 
@@ -152,7 +215,9 @@ pub struct LaneItems<'a, V> {
 
 impl<'a, V: Value> LaneItems<'a, V> {
     /// The items of one lane, counted from 0, the first one first.
-    pub fn lane(&self, lane: u32) -> Option<&'a QueueItems> {
+    pub fn lane(&self, lane: u32) -> Option<&'a QueueItems>
+        ensures { (lanes : _) → AreLanes self.now.gates lanes self.now.held.now → lane ≤ self.now.gates.others → option_copied result ≡ Some (lanes lane) }
+    {
         if lane > self.gates.others {
             return None;
         }
@@ -163,10 +228,13 @@ impl<'a, V: Value> LaneItems<'a, V> {
     }
 
     /// How many items all lanes have.
-    pub fn len(&self) -> usize {
+    #[tactic(auto, using(crate::proofs::ReadLemmas::items_read, crate::proofs::SumLemmas::then_below))]
+    pub fn len(&self) -> usize
+        ensures { (lanes : _) → AreLanes self.now.gates lanes self.now.held.now → result ≡ min (total_of lanes (self.now.gates.others + 1)) (2 ^ 64 - 1) }
+    {
         let mut total = 0usize;
-        for held in self.gates.all_of(self.held) {
-            if let Held::Queue { head: _, items } = held {
+        'gates: for i in 0..u64::from(self.gates.others) + 1 {
+            if let Some(Held::Queue { head: _, items }) = self.gates.held_at(self.held, i) {
                 total = total.saturating_add(items.len());
             }
         }

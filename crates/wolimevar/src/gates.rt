@@ -78,12 +78,4 @@ impl Gates {
     {
         held.get((u64::from(self.first) + place) as usize)
     }
-
-    /// What these collections hold, or less where there are not so many.
-    pub(crate) fn all_of<V>(self, held: &[Held<V>]) -> &[Held<V>] {
-        let first = (self.first as usize).min(held.len());
-        let (_, rest) = held.split_at(first);
-        let count = (self.others as usize + 1).min(rest.len());
-        rest.split_at(count).0
-    }
 }
