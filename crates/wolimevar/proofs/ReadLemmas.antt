@@ -43,7 +43,7 @@ module _ {X : Type 0} where
 
 -- ---- place by place
 module _ {V X : Type 0} (entries_of : Option (Held V) → List (ℕ × X)) (hs : List (Held V)) (first : ℕ) where
-  pub then_place : (place last : ℕ) → place < last
+  then_place : (place last : ℕ) → place < last
       → entries_from entries_of hs (first + place) (last - place)
       ≡ entries_of (slice_get hs (first + place)) ++ entries_from entries_of hs (first + (place + 1)) (last - (place + 1))
   then_place place last lt =
@@ -52,10 +52,26 @@ module _ {V X : Type 0} (entries_of : Option (Held V) → List (ℕ × X)) (hs :
       ap (entries_from entries_of hs (first + place)) some
       ∙ ap (λ n. entries_of (slice_get hs (first + place)) ++ entries_from entries_of hs n (last - (place + 1))) there
 
-  pub no_place : (place last : ℕ) → last ≤ place → entries_from entries_of hs (first + place) (last - place) ≡ []
+  no_place : (place last : ℕ) → last ≤ place → entries_from entries_of hs (first + place) (last - place) ≡ []
   no_place place last le =
       let none : last - place ≡ 0 = omega (arith, le) in
       ap (entries_from entries_of hs (first + place)) none
+
+  none_more : (xs : List (ℕ × X)) → xs ++ [] ≡ xs
+  none_more [] = refl
+  none_more (x ∷ xs) = ap (λ ys. x ∷ ys) (none_more xs)
+
+  -- the part that was begun had none left, and the next one is begun
+  pub goes_on : (place last : ℕ) (xs ys : List (ℕ × X)) → place < last → xs ≡ [] → ys ≡ entries_of (slice_get hs (first + place))
+      → ys ++ entries_from entries_of hs (first + (place + 1)) (last - (place + 1)) ≡ xs ++ entries_from entries_of hs (first + place) (last - place)
+  goes_on place last xs ys lt none begun =
+      ap (λ zs. zs ++ entries_from entries_of hs (first + (place + 1)) (last - (place + 1))) begun
+      ∙ sym (then_place place last lt)
+      ∙ ap (λ zs. zs ++ entries_from entries_of hs (first + place) (last - place)) (sym none)
+
+  -- no part is left to be begun
+  pub ends : (place last : ℕ) (xs : List (ℕ × X)) → last ≤ place → xs ++ entries_from entries_of hs (first + place) (last - place) ≡ xs
+  ends place last xs le = ap (λ ys. xs ++ ys) (no_place place last le) ∙ none_more xs
 
 -- ---- all entries
 module _ {V X : Type 0} (kind : FinMap nat_cmp X → Held V) (entries_of : Option (Held V) → List (ℕ × X))
@@ -94,7 +110,8 @@ module _ {V X : Type 0} (kind : FinMap nat_cmp X → Held V) (entries_of : Optio
       let same = below_same (λ j. len (part (i + 1 + j))) (λ j. len (part (i + (j + 1)))) n
       (λ j lt. let e : i + 1 + j ≡ i + (j + 1) = omega arith in ap (λ k. len (part k)) e) in
       let here : len (part (i + 0)) ≡ len (part i) = let e : i + 0 ≡ i = omega arith in ap (λ k. len (part k)) e in
-      let parts = below_first (λ j. len (part (i + j))) n in
+      let parts : below (λ j. len (part (i + j))) (suc n) ≡ len (part (i + 0)) + below (λ j. len (part (i + (j + 1)))) n =
+      below_first (λ j. len (part (i + j))) n in
       omega (arith, next, both, one, others, same, here, parts)
 
   -- what is at a key

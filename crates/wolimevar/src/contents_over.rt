@@ -84,7 +84,6 @@ fn map_at<'a, V>(held: &'a [Held<V>], gates: Gates, place: u64) -> Option<Iter<'
 }
 
 /// The entries of a map, one after another.
-#[derive(Drop)]
 pub struct MapIter<'a, V> {
     part: Option<Iter<'a, u64, V>>,
     held: &'a [Held<V>],
@@ -93,8 +92,14 @@ pub struct MapIter<'a, V> {
     place: u64,
 }
 
+impl<'a, V: Drop> Drop for MapIter<'a, V> {
+    fn drop(self) {
+        let MapIter { part: _, held: _, gates: _, place: _ } = self;
+    }
+}
+
 impl<'a, V: Value> MapIter<'a, V> {
-    #[tactic(auto, using(crate::proofs::ReadLemmas::then_place, crate::proofs::ReadLemmas::no_place))]
+    #[tactic(auto, using(crate::proofs::ReadLemmas::goes_on, crate::proofs::ReadLemmas::ends))]
     fn step(&mut self) -> Option<(&'a u64, &'a V)>
         ensures { TakesFirst deref_pair (map_left self.old) result (map_left self.new) }
     {
@@ -168,7 +173,6 @@ fn bag_at<'a, V>(held: &'a [Held<V>], gates: Gates, place: u64) -> Option<Iter<'
 }
 
 /// The elements of a multiset, one after another, with the numbers of their copies.
-#[derive(Drop)]
 pub struct BagIter<'a, V> {
     part: Option<Iter<'a, u64, u64>>,
     held: &'a [Held<V>],
@@ -177,8 +181,14 @@ pub struct BagIter<'a, V> {
     place: u64,
 }
 
+impl<'a, V> Drop for BagIter<'a, V> {
+    fn drop(self) {
+        let BagIter { part: _, held: _, gates: _, place: _ } = self;
+    }
+}
+
 impl<'a, V: Value> BagIter<'a, V> {
-    #[tactic(auto, using(crate::proofs::ReadLemmas::then_place, crate::proofs::ReadLemmas::no_place))]
+    #[tactic(auto, using(crate::proofs::ReadLemmas::goes_on, crate::proofs::ReadLemmas::ends))]
     fn step(&mut self) -> Option<(&'a u64, &'a u64)>
         ensures { TakesFirst deref_pair (bag_left self.old) result (bag_left self.new) }
     {
