@@ -30,7 +30,8 @@ fn lay_out(alloc: Global, layout: &mut Layout<u64>, asked: &str) -> Result<(), R
     }
 }
 
-/// Opens such a layout: so many `bags`, a map of so many `stripes`, a `queue` of so many, a map over so many `gates`, so many `lanes`, or so many `copies` of an element.
+/// Opens such a layout: so many `bags`, a map of so many `stripes`, a `queue` of so many, a map over so many `gates`, so many `lanes`, or
+/// so many `copies` of an element.
 pub fn opens(alloc: Global, asked: &str) -> Result<(), Refusal> {
     let mut layout = Layout::new(alloc);
     let laid = lay_out(alloc, &mut layout, asked);

@@ -1,6 +1,6 @@
 //! Transactions at seats of a shared table, each seat in a thread of its own, beside the same calls under one lock.
-use crate::outcomes::Outcomes;
 use crate::gated::Kind;
+use crate::outcomes::Outcomes;
 use crate::work::{On, Work};
 use crate::{gated, locked, seats};
 use std::io;
@@ -22,7 +22,12 @@ pub fn measure<R: Runtime + AllocGlobal + Threads + Wait + Sync>(rt: &R) -> io::
             }
         }
     }
-    for kind in [Kind::Map(1, 1), Kind::Map(8, 1), Kind::Lanes(1), Kind::Lanes(4)] {
+    for kind in [
+        Kind::Map(1, 1),
+        Kind::Map(8, 1),
+        Kind::Lanes(1),
+        Kind::Lanes(4),
+    ] {
         for threads in [1, 2, 4] {
             report_gated(rt, kind, threads, TRANSACTIONS)?;
         }
@@ -44,7 +49,7 @@ pub fn report_gated<R: Runtime + AllocGlobal + Threads + Sync>(
         Kind::Lanes(lanes) => (format!(in rt.alloc(); "a queue in {lanes} lanes")?, 10),
     };
     println!(rt;
-        "{name} of a store, {writes} writes of ten calls, {threads} threads: {speed:.0} thousand transactions a second; refused: {refused}"
+        "{name}, {writes} writes of ten calls, {threads} threads: {speed:.0} thousand transactions a second; refused: {refused}"
     )
 }
 

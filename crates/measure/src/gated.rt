@@ -154,7 +154,11 @@ pub fn time<R: Runtime + AllocGlobal + Threads + Sync>(
     let mut guests = Vec::new(rt.alloc());
     for thread in 0..threads {
         let seed = u64::from(thread).saturating_add(1);
-        guests.push(Guest { handle, transactions, seed })?;
+        guests.push(Guest {
+            handle,
+            transactions,
+            seed,
+        })?;
     }
     let start = Instant::now(rt);
     let served = store.run(rt, guests);

@@ -222,6 +222,22 @@ module _ {V : Type 0} where
         (take_one l.gates s (after_calls so.more s) lanes done.0.1 i first end le found ends done.0.0 done.1 parts.1.0);
   }
 
+  -- an item that was found is the answer of the whole search, and so is none once the last lane was looked at
+  pub taken_within : (before now : TransactionShown V) (l : Lanes) (first m end item : ℕ) → first < m
+      → HasTakenFrom before l first m (Some item) now → HasTakenFrom before l first end (Some item) now
+  taken_within before now l first m end item lt has =
+      record { own = λ any. has.own lt; more = has.more; made = has.made; are = has.are }
+
+  pub none_within : (before now : TransactionShown V) (l : Lanes) (first m end : ℕ) → end ≤ m → HasTakenFrom before l first m None now
+      → HasTakenFrom before l first end None now
+  none_within before now l first m end le has = record {
+    own = λ lt. has.own (omega (arith, lt, le));
+    more = has.more;
+    made = has.made;
+    are = λ s lanes at legal.
+        let done = has.are s lanes at legal in ((λ i from to. done.0.0 i from (omega (arith, to, le)), done.0.1), done.1);
+  }
+
   -- ---- the whole round: from the own lane on, and then up to it
   pub taken_first : (before now : TransactionShown V) (l : Lanes) (own end item : ℕ) → own < end → HasTakenFrom before l own end (Some item) now
       → HasDoneWithLanes before l (λ lanes t. IsTaken l.gates lanes (Some item) t) now

@@ -1,13 +1,13 @@
 -- Collections over several gates, as they are laid out: each entry in the part that has its key.
 use Rattle.std.proofs.Common.{◌≡◌, ℕ, zero, suc, ◌+◌, ◌<◌, ◌≤◌, ◌==◌, Bool, true, false, cond, List, [], ◌∷◌, ◌++◌, length, map, Some, None, Option}
 use Rattle.std.proofs.Common.{refl, sym, ap, subst, ◌∙◌, arith, eqb-true, replicate}
-use Rattle.std.specs.Prelude.{All, slice_get, slice_set}
+use Rattle.std.specs.Prelude.{All, slice_get, slice_set, if◌then◌else◌}
 use Rattle.std.specs.Cmp.{nat_cmp_total}
 use Rattle.std.specs.Ordering.{nat_cmp}
 use Rattle.std.specs.FinMap.{FinMap, empty, get, get-empty, insert, nat_cmp-IsAntisymmetric, retain_keys, same_map}
 use Rattle.std.proofs.lemmas.Bool.Decides.{nat_tests}
 use Rattle.std.proofs.lemmas.Option.{get_or_from_slice_get}
-use Rattle.std.proofs.lemmas.List.{length-replicate, length-set}
+use Rattle.std.proofs.lemmas.List.{length-replicate, length-set, replicate_more}
 use Rattle.seq_model.specs.declared.held.Held.{Held}
 use Rattle.seq_model.specs.declared.held.Held.TheVariants as held
 use Rattle.seq_model.specs.Counts.{HasNoZero, Multiset}
@@ -32,6 +32,9 @@ in_replicate : {A : Type 0} (n i : ℕ) (x : A) → i < n → slice_get (replica
 in_replicate zero i x lt = absurd (omega (arith, lt))
 in_replicate (suc n) zero x lt = refl
 in_replicate (suc n) (suc i) x lt = in_replicate n i x (omega (arith, lt))
+
+pub one_more : {A : Type 0} (n : ℕ) (x : A) → replicate n x ++ x ∷ [] ≡ replicate (n + 1) x
+one_more n x = replicate_more n x
 
 -- ---- one gate
 all_kept : {X : Type 0} (g : Gates) (u : FinMap nat_cmp X) → g.others ≡ 0 → retain_keys u (λ k. place_of g k == 0) ≡ u
@@ -74,6 +77,22 @@ module _ {V A : Type 0} (held_of : A → Held V) (g : Gates) (olds : List A) (al
       mapped_length : (xs : List A) → length (map held_of xs) ≡ length xs
       mapped_length [] = refl
       mapped_length (x ∷ xs) = ap suc (mapped_length xs)
+
+-- ---- the items are in the first lane
+pub first_lanes : {V : Type 0} (g : Gates) (items : List ℕ) (hs : List (Held V))
+    → hs ≡ held.Queue 0 items ∷ replicate g.others (held.Queue 0 []) → AreFirstOf g items hs
+first_lanes g items hs are = (
+  (let n = ap length are in let m = length-replicate g.others (held.Queue 0 []) in omega (arith, n, m)),
+  λ i le. ap (λ qs. slice_get qs i) are ∙ at i le,
+)
+  where
+    at : (i : ℕ) → i ≤ g.others
+        → slice_get (held.Queue 0 items ∷ replicate g.others (held.Queue 0 [])) i ≡ Some (held.Queue 0 (first_lane items i))
+    at zero le = refl
+    at (suc i) le =
+        let e : (suc i == 0) ≡ false = grind (arith, nat_tests) in
+        in_replicate g.others i (held.Queue 0 []) (omega (arith, le))
+        ∙ ap (λ b. Some (held.Queue 0 (if b then items else []))) (sym e)
 
 pub one_map : {V : Type 0} (g : Gates) (u : FinMap nat_cmp V) (hs : List (Held V)) → g.others ≡ 0 → slice_get hs g.first ≡ Some (held.Map u)
     → LieOver held.Map g u hs

@@ -94,7 +94,12 @@ pub struct MapIter<'a, V> {
 
 impl<'a, V: Drop> Drop for MapIter<'a, V> {
     fn drop(self) {
-        let MapIter { part: _, held: _, gates: _, place: _ } = self;
+        let MapIter {
+            part: _,
+            held: _,
+            gates: _,
+            place: _,
+        } = self;
     }
 }
 
@@ -183,7 +188,12 @@ pub struct BagIter<'a, V> {
 
 impl<'a, V> Drop for BagIter<'a, V> {
     fn drop(self) {
-        let BagIter { part: _, held: _, gates: _, place: _ } = self;
+        let BagIter {
+            part: _,
+            held: _,
+            gates: _,
+            place: _,
+        } = self;
     }
 }
 

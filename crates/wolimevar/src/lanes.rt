@@ -34,7 +34,6 @@ impl Lanes {
     }
 
     /// Adds an item at the end of the client's lane. [`Full`] once the lane's positions are used up.
-    #[tactic(auto, using(crate::proofs::LaneLemmas::has_added))]
     pub fn enqueue<V: Value, S: Scope<V>>(
         &self,
         tx: &mut Transaction<'_, V, S>,
@@ -77,7 +76,8 @@ impl Lanes {
         'lanes: for i in first..end {
             let number = self.gates.number(i)?;
             let reply = tx.call(self.store, number, Op::Dequeue)?;
-            if let Some(item) = found_in(reply)? {
+            let found = found_in(reply)?;
+            if let Some(item) = found {
                 return Ok(Some(item));
             }
         }

@@ -37,7 +37,13 @@ pub struct Layout<V> {
 
 impl<V: Drop> Drop for Layout<V> {
     fn drop(self) {
-        let Layout { alloc: _, store: _, seed: _, words: _, collections: _ } = self;
+        let Layout {
+            alloc: _,
+            store: _,
+            seed: _,
+            words: _,
+            collections: _,
+        } = self;
     }
 }
 

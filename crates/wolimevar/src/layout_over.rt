@@ -131,6 +131,7 @@ fn parts_of<T: Drop>(
 }
 
 /// No entries for each of the collections.
+#[tactic(auto, using(crate::proofs::LayoutLemmas::one_more, crate::proofs::LayoutLemmas::no_parts))]
 fn no_parts<T: Drop>(alloc: Global, gates: Gates) -> Result<Vec<Entries<T>>, Memory>
     ensures { IfOk result (λ parts. AreParts gates empty parts.items) }
 {
@@ -165,6 +166,7 @@ fn bags_of<V: Value>(alloc: Global, parts: Vec<Entries<u64>>) -> Result<Vec<Held
 }
 
 /// Queues of which the first one has these items.
+#[tactic(auto, using(crate::proofs::LayoutLemmas::one_more, crate::proofs::LayoutLemmas::first_lanes))]
 fn lanes_of<V: Value>(
     alloc: Global,
     gates: Gates,

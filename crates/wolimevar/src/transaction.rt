@@ -116,9 +116,13 @@ impl<'t, V: Value, S: Scope<V>> Transaction<'t, V, S> {
     {
         let mut total = 0u64;
         'gates: for i in 0..u64::from(gates.others) + 1 {
-            let reply = self.call(store, gates.number(i)?, Op::Len)?;
+            let number = gates.number(i)?;
+            let reply = self.call(store, number, Op::Len)?;
             let count = number_in(reply)?;
-            total = total.checked_add(count).ok_or(Refusal::TooLong)?;
+            let Some(more) = total.checked_add(count) else {
+                return Err(Refusal::TooLong);
+            };
+            total = more;
         }
         Ok(total)
     }

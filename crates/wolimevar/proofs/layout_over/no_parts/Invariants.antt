@@ -4,4 +4,4 @@ use Rattle.wolimevar.proofs.layout_over.no_parts.Given as goal
 
 -- so many maps, each empty
 abbrev pub invariant-parts : goal.invariant-parts
-invariant-parts g l = l.parts.items ≡ replicate l.i empty
+invariant-parts g l = l.parts.items ≡ replicate l.counter empty
