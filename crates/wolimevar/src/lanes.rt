@@ -41,7 +41,7 @@ impl Lanes {
     ) -> Result<Result<(), Full>, Refusal>
         ensures { IfOk result (λ added. HasDoneWithLanes tx.old self.now (λ lanes t. IsAdded self.now.gates lanes item added t) tx.new) }
     {
-        let number = self.gates.number(self.own(tx.lane))?;
+        let number = self.gates.number(self.own(tx.lane()))?;
         let reply = tx.call(self.store, number, Op::Enqueue(item))?;
         room_in(reply)
     }
@@ -55,7 +55,7 @@ impl Lanes {
     ) -> Result<Option<u64>, Refusal>
         ensures { IfOk result (λ found. HasDoneWithLanes tx.old self.now (λ lanes t. IsTaken self.now.gates lanes found t) tx.new) }
     {
-        let own = self.own(tx.lane);
+        let own = self.own(tx.lane());
         let last = u64::from(self.gates.others) + 1;
         match self.dequeue_from(tx, own, last)? {
             Some(item) => Ok(Some(item)),

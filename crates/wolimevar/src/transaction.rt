@@ -110,6 +110,11 @@ impl<'t, V: Value, S: Scope<V>> Transaction<'t, V, S> {
         self.call(store, number, op)
     }
 
+    /// The lane of its client.
+    pub(crate) fn lane(&self) -> u64 {
+        self.lane
+    }
+
     /// How many keys, or items, these collections have together. `TooLong` where they are more than a `u64` can say.
     pub(crate) fn total_len(&mut self, store: u32, gates: Gates) -> Result<u64, Refusal>
         ensures { IfOk result (λ total. HasSummed self.old store gates total self.new) }
