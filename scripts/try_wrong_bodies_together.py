@@ -16,8 +16,8 @@ that change different functions are tried by one check. Of each edit it says
 and it fails unless all were refused. An edit outside all functions is tried by itself, on the functions that name the constant which
 it changes, and one that these let through on the whole crate.
 
-The libraries that a crate stands on have to be built, as `rt check` in its folder does; where another checkout on this machine has
-built the same, they are taken from there. With --wait the script waits for them, and goes on with whichever crate is ready first.
+The libraries that a crate stands on have to be built, as `rt check` in its folder does. With --wait the script waits for them, and goes
+on with whichever crate is ready first.
 What the checks print is kept in FOLDER where one is named. RT names the command, `rt` by default.
 """
 
@@ -57,7 +57,7 @@ rt = load_rt()
 
 @dataclass(frozen=True)
 class Function:
-    """A function of a crate: its file, the type or trait whose method it is, and its first and last line."""
+    """A function of a crate: its file, the impl or trait whose method it is, and its first and last line."""
 
     file: str
     owner: str
@@ -107,12 +107,44 @@ def read(file):
         return it.read()
 
 
+def behind_brackets(text):
+    """What the brackets hold with which this text begins, and what stands behind them."""
+    depth = 0
+    for at, it in enumerate(text):
+        depth += (it == "<") - (it == ">" and text[at - 1] != "-")
+        if not depth:
+            return text[1:at], text[at + 1 :]
+    return "", text
+
+
+def heads(text):
+    """The word with which each of these types or parameters begins, less its module and in capitals, as the prover has it in names."""
+    found = []
+    while text := text.lstrip(", "):
+        word = re.match(r"'?(?:\w+::)*(\w*)", text)
+        found.append(word[1][:1].upper() + word[1][1:])
+        while text and text[0] != ",":
+            text = behind_brackets(text)[1] if text[0] == "<" else text[1:]
+    return found
+
+
+def of_impl(text):
+    """By what the prover calls the methods of an impl block: the type, and its trait unless that is Drop."""
+    params, text = behind_brackets(text) if text[0] == "<" else ("", text)
+    trait, _, owner = text.strip().rpartition(" for ")
+    tuple_of = re.match(r"\((.*?)\)", owner)
+    name = (f"Tuple{len(heads(tuple_of[1]))}" if tuple_of[1] else "Unit") if tuple_of else heads(owner)[0]
+    if trait in ("", "Drop"):
+        return name
+    of_trait = behind_brackets(trait[trait.index("<") :])[0] if "<" in trait else ""
+    return name + "".join(it for it in [*heads(trait), *heads(of_trait)] if it not in heads(params))
+
+
 def owner_above(lines, at):
-    """The type of the impl block that this line stands in, with the trait that it is of, or the trait."""
+    """The impl block that this line stands in, or the trait, by its name in the prover's lines."""
     for line in reversed(lines[:at]):
-        block = re.match(r"impl(?:<.*?>)? (?:(\w+)(?:<.*?>)? for )?(\w+)", line)
-        if block:
-            return f"{block[2]}+{block[1]}" if block[1] else block[2]
+        if re.match(r"impl\b", line):
+            return of_impl(line.removeprefix("impl").split(" {")[0].split(" where")[0])
         trait = re.match(r"(?:pub )?trait (\w+)", line)
         if trait:
             return trait[1]
@@ -202,12 +234,7 @@ class Checks:
     def __init__(self, crate, room, logs):
         self.crate, self.logs, self.count = crate, logs, 0
         self.proved = f"{room}/proved"
-        try:
-            rt.linked(rt.work_for(crate) or "", self.proved)
-        except (OSError, shutil.Error):
-            # (there is none, or another command writes it)
-            shutil.rmtree(self.proved, ignore_errors=True)
-            os.mkdir(self.proved)
+        os.mkdir(self.proved)
 
     def run(self, edits, functions):
         """The status and the lines of a check of these functions, or of the whole crate where there are none."""
@@ -364,9 +391,26 @@ def try_crate(crate, names, most, logs):
     return count
 
 
+def sum_each_once():
+    """Has each crate summed up once a look, and not once for each path that leads to it."""
+    sums, of_crate = {}, rt.rtlib.Crate.stamp
+
+    def stamp(crate):
+        if crate.name not in sums:
+            sums[crate.name] = of_crate(crate)
+        return sums[crate.name]
+
+    rt.rtlib.Crate.stamp = stamp
+    return sums
+
+
+SUMS = sum_each_once()
+
+
 def lacking(crate):
-    """The first library below the crate that isn't built, once those are taken that another checkout has."""
-    return next((it.name for it in crate.below() if not it.is_built() and not rt.take_rlib(it)), None)
+    """The first library below the crate that isn't built."""
+    SUMS.clear()
+    return next((it.name for it in crate.below() if not it.is_built()), None)
 
 
 def in_turn(asked, crates, waits):
@@ -395,8 +439,7 @@ def main():
         os.makedirs(logs, exist_ok=True)
     root = os.path.dirname(os.path.dirname(os.path.realpath(__file__)))
     os.chdir(root)
-    rt.Crate.allowed = rt.handles_of(root)
-    crates = {it.name: it for it in rt.crates_of(root)}
+    crates = {it.name: it for it in rt.rtlib.crates_below(root)}
     asked = [(name, [it for it in which.split(",") if it]) for name, _, which in (it.partition(":") for it in given.names)]
     unknown = [name for name, _ in asked if name not in crates]
     if unknown:

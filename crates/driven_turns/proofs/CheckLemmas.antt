@@ -33,8 +33,8 @@ use Rattle.tx_turns.specs.Touches.{StepsWords}
 use Rattle.tx_turns.specs.declared.due.Due.TheVariants as due
 use Rattle.tx_turns.proofs.TurnLemmas.{word_is_next}
 use Rattle.tx_turns.specs.Ties.{Ties}
-use Rattle.gate_turns.specs.Laws.{WordsKeep}
-use Rattle.gate_turns.specs.Own.{HasOwn}
+use Rattle.driven_turns.specs.Laws.{WordsKeep}
+use Rattle.driven_turns.specs.Own.{HasOwn}
 use Rattle.driven_turns.proofs.LockLemmas.{locking_led, next_locking}
 use Rattle.driven_turns.specs.Straight.{HasLed, Passes, at_place, is_locking}
 

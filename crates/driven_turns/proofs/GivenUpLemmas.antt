@@ -41,7 +41,7 @@ use Rattle.driven_turns.proofs.DrivenLemmas.{driven_on}
 use Rattle.driven_turns.proofs.KeptLemmas.{Keeps, Same, starves_keep}
 use Rattle.driven_turns.proofs.NextLemmas.{IsHalfway, load_wants, turn_wants, wants_halfway}
 use Rattle.driven_turns.proofs.SinceLemmas.{told_back}
-use Rattle.gate_turns.specs.Refused.{IsGivenUp}
+use Rattle.driven_turns.specs.Refused.{IsGivenUp}
 use Rattle.driven_turns.specs.Requested.{requests_of}
 use Rattle.driven_turns.specs.Driven.{Driven, IsTrue, MayWant, Stops, WantsMemory, seat_in, standing}
 

@@ -1,3 +1,11 @@
+pub mod BasesLemmas
+pub mod ThereLemmas
+pub mod WordLemmas
+pub mod GateLemmas
+pub mod CopyLemmas
+pub mod EventLemmas
+pub mod AskLemmas
+pub mod HomeLemmas
 pub mod RequestedLemmas
 pub mod WritingLemmas
 pub mod KeptLemmas

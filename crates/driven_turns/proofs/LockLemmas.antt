@@ -44,8 +44,8 @@ use Rattle.tx_turns.specs.Touches.{StepsWords}
 use Rattle.tx_turns.specs.declared.due.Due.TheVariants as due
 use Rattle.tx_turns.proofs.TurnLemmas.{word_is_next}
 use Rattle.tx_turns.specs.Ties.{Ties, laid_in}
-use Rattle.gate_turns.specs.Laws.{WordsKeep}
-use Rattle.gate_turns.specs.Own.{HasOwn}
+use Rattle.driven_turns.specs.Laws.{WordsKeep}
+use Rattle.driven_turns.specs.Own.{HasOwn}
 use Rattle.driven_turns.proofs.StraightLemmas.{led_last, led_on}
 use Rattle.driven_turns.specs.Straight.{HasLed, at_place, is_locking}
 

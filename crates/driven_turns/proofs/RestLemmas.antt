@@ -38,9 +38,9 @@ use Rattle.tx_turns.proofs.OwnLemmas.{own_gates}
 use Rattle.tx_turns.proofs.AskedLemmas.{acts_taken}
 use Rattle.tx_turns.specs.Asked.{HasTaken}
 use Rattle.tx_turns.specs.Ties.{Ties}
-use Rattle.gate_turns.proofs.BasesLemmas.{are_none, gates_is, prepared_none}
-use Rattle.gate_turns.specs.Bases.{AreBases, gates_at, slots_of}
-use Rattle.gate_turns.specs.Own.{HasOwn}
+use Rattle.driven_turns.proofs.BasesLemmas.{are_none, gates_is, prepared_none}
+use Rattle.driven_turns.specs.Bases.{AreBases, gates_at, slots_of}
+use Rattle.driven_turns.specs.Own.{HasOwn}
 use Rattle.driven_turns.specs.Driven.{Driven, seat_in, standing}
 
 module _ {V : Type 0} where

@@ -41,9 +41,9 @@ use Rattle.tx_table.specs.Seated as seated
 use Rattle.tx_turns.specs.Touches.{StepsWords}
 use Rattle.tx_turns.proofs.TurnLemmas.{word_turned}
 use Rattle.tx_turns.specs.Ties.{Ties, Turned, laid_in}
-use Rattle.gate_turns.proofs.WordLemmas.{load_hears, load_tied}
-use Rattle.gate_turns.specs.Laws.{WordsKeep}
-use Rattle.gate_turns.specs.Own.{HasOwn}
+use Rattle.driven_turns.proofs.WordLemmas.{load_hears, load_tied}
+use Rattle.driven_turns.specs.Laws.{WordsKeep}
+use Rattle.driven_turns.specs.Own.{HasOwn}
 use Rattle.driven_turns.proofs.DrivenLemmas.{driven_on}
 use Rattle.driven_turns.proofs.NextLemmas.{makes_none}
 use Rattle.driven_turns.proofs.QuietLemmas.{load_leaves, load_running, load_waits, word_waits}

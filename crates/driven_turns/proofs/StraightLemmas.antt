@@ -58,9 +58,9 @@ use Rattle.tx_turns.specs.Touches.{StepsWords}
 use Rattle.tx_turns.specs.declared.due.Due.TheVariants as due
 use Rattle.tx_turns.proofs.TurnLemmas.{word_is_next, word_turned}
 use Rattle.tx_turns.specs.Ties.{Ties, laid_in}
-use Rattle.gate_turns.proofs.WordLemmas.{load_hears, load_tied}
-use Rattle.gate_turns.specs.Laws.{WordsKeep}
-use Rattle.gate_turns.specs.Own.{HasOwn}
+use Rattle.driven_turns.proofs.WordLemmas.{load_hears, load_tied}
+use Rattle.driven_turns.specs.Laws.{WordsKeep}
+use Rattle.driven_turns.specs.Own.{HasOwn}
 use Rattle.driven_turns.proofs.StepsLemmas.{HasCome, leads_on, load_onward, starts, word_onward}
 use Rattle.seq_model.specs.declared.record.Record.{Record}
 use Rattle.actor_laws.specs.Courses.{IsUnderWay, IsUnderWayFrom, latest}

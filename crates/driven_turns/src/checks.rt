@@ -6,14 +6,14 @@ ghost use Rattle.replay_log.specs.WorldProgress.{AreSmall};
 ghost use Rattle.step_core.specs.declared.actor.Place.TheVariants.{Check};
 ghost use Rattle.tx_table.specs.Seated.{blocks_in, opening_of};
 ghost use Rattle.tx_turns.specs.Ties.{Ties};
-ghost use Rattle.gate_turns.specs.Own.{HasOwn};
+ghost use Rattle.driven_turns.specs.Own.{HasOwn};
 ghost use Rattle.driven_turns.specs.Driven.{LeadsOn, told_in};
 ghost use Rattle.driven_turns.specs.Straight.{HasLed, LeadsAll, Passes, at_place, is_locking};
 
+use crate::laws::turns_keep_own;
 use crate::turns::says;
 use actor_parts::Boxed;
 use actor_parts::word_laws::steps_as_worlds;
-use gate_turns::laws::turns_keep_own;
 use replay_log::Base;
 use seq_model::Value;
 use step_core::{Actor, Place};

@@ -7,7 +7,7 @@ ghost use Rattle.actor_laws.specs.Courses.{IsUnderWay};
 ghost use Rattle.tx_actor.specs.Running.{stage_of};
 ghost use Rattle.actor_laws.specs.Phases.{Ends};
 ghost use Rattle.tx_turns.specs.Ties.{Ties};
-ghost use Rattle.gate_turns.specs.Own.{HasOwn};
+ghost use Rattle.driven_turns.specs.Own.{HasOwn};
 ghost use Rattle.driven_turns.specs.Driven.{Driven, IsOnGate, seat_in, standing, told_in};
 ghost use Rattle.driven_turns.specs.Straight.{IsLedTo, LeadsAll, LeadsAllFrom, LeadsBy, LeadsFrom, WantsBy};
 

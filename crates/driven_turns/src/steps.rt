@@ -6,13 +6,13 @@ ghost use Rattle.replay_log.specs.WorldProgress.{AreSmall};
 ghost use Rattle.tx_actor.specs.Running.{stage_of};
 ghost use Rattle.tx_table.specs.Seated.{blocks_in, opening_of};
 ghost use Rattle.tx_turns.specs.Ties.{Ties};
-ghost use Rattle.gate_turns.specs.Own.{HasOwn};
+ghost use Rattle.driven_turns.specs.Own.{HasOwn};
 ghost use Rattle.driven_turns.specs.Driven.{LeadsOn, is_still, told_in};
 
+use crate::laws::turns_keep_own;
 use crate::turns::says;
 use actor_parts::word_laws::steps_as_worlds;
 use actor_parts::{Boxed, Next};
-use gate_turns::laws::turns_keep_own;
 use replay_log::Base;
 use seq_model::Value;
 use step_core::{WordAnswer, WordRefusal};

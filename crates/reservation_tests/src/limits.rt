@@ -47,7 +47,7 @@ fn built(alloc: Global, name: &str, first: u64, second: u64) -> Result<Action, M
     }
 }
 
-/// Builds an action, and makes it where it is not allowed.
+/// Builds an action, and makes it.
 pub fn answer_built(
     text: &mut String,
     tables: &mut Tables,
@@ -58,9 +58,6 @@ pub fn answer_built(
         return Err(Refusal::NoSuch);
     };
     let action = built(*text.allocator(), name, *first, *second)?;
-    if action.is_allowed() {
-        return say(text, "allowed");
-    }
     let reply = act(tables, &action)?;
     print_reply(text, tables, reply)
 }

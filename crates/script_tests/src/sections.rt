@@ -167,7 +167,7 @@ fn run_over<H: Threads + Wait + Clock + Sync>(
     let alloc = *text.allocator();
     let mut err = output(alloc, false)?;
     let status = run_tool(rt, alloc, words, input, out, &mut err);
-    if status == MEMORY {
+    if status == MEMORY && out.bytes.is_empty() {
         return Err(AllocError);
     }
     print_output(text, text_of(out.bytes.as_slice()), races)?;

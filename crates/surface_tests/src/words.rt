@@ -58,6 +58,7 @@ fn ask_all(words: &mut Words) -> Result<(), WordRefusal> {
     ask(words, WordRequest::Lock)?;
     ask(words, WordRequest::Cancel)?;
     ask(words, WordRequest::Abort)?;
+    let _ = words.is_declared(ACTOR);
     let _ = words.snapshot(ACTOR);
     let _ = words.history();
     Ok(())

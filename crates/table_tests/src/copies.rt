@@ -46,7 +46,7 @@ fn refuse_at_seats<R: Threads + Wait + Sync>(
         if !on_table(rt, text, Work::Refused(place))? {
             is_some(place)?;
             return Ok(
-                "at a seat: each refused copy is a want of memory, and the seat commits after it\n",
+                "at a seat: each refused copy is an allocation that fails, and the seat commits after it\n",
             );
         }
     }
@@ -73,7 +73,7 @@ fn refuse_in_worlds(alloc: Global) -> Result<&'static str, Refusal> {
     for place in 0..COPIES {
         if !worlds::is_refused(alloc, place)? {
             is_some(place)?;
-            return Ok("in a world: each refused copy is a want of memory, from then on\n");
+            return Ok("in a world: each refused copy is an allocation that fails, from then on\n");
         }
     }
     Err(Refusal::TooLong)

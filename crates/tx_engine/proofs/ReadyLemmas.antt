@@ -38,8 +38,8 @@ use Rattle.tx_engine.specs.Ready.{CanDrive, HasBegunSince, HasCalled, HasFinishe
 use Rattle.tx_engine.specs.Requests.{CallLeaves, CallsTo, CommitsTo, HasAskedFor, HasCommitted, IsBegun, IsNotBegun, IsOpen, OnlyKnows}
 use Rattle.tx_engine.specs.declared.seats.TxSeat.{TxSeat}
 use Rattle.tx_turns.specs.Ties.{Ties, laid_in}
-use Rattle.gate_turns.specs.Bases.{AreBases, gates_at}
-use Rattle.gate_turns.specs.Own.{HasOwn}
+use Rattle.driven_turns.specs.Bases.{AreBases, gates_at}
+use Rattle.driven_turns.specs.Own.{HasOwn}
 use Rattle.driven_turns.proofs.RestLemmas.{IsFree, free_own}
 
 module _ {V : Type 0} where

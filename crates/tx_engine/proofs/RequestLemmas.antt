@@ -41,8 +41,8 @@ use Rattle.tx_table.specs.declared.view.Turn.{Turn}
 use Rattle.actor_laws.proofs.PhaseLemmas.{asks_move}
 use Rattle.actor_laws.specs.Courses.{EndsFrom, IsUnderWay, IsUnderWayFrom}
 use Rattle.actor_laws.specs.Phases.{AskMoves, Phase, Rests, Begins, Stands, Calls, Ends, phase, phase_at}
-use Rattle.gate_turns.specs.Bases.{gates_at}
-use Rattle.gate_turns.specs.Own.{HasOwn}
+use Rattle.driven_turns.specs.Bases.{gates_at}
+use Rattle.driven_turns.specs.Own.{HasOwn}
 use Rattle.driven_turns.proofs.DeclaredLemmas.{reader_asks}
 use Rattle.driven_turns.proofs.RequestedLemmas.{more_begins, taken_requests}
 use Rattle.driven_turns.proofs.EndedLemmas.{IsGoing}

@@ -25,7 +25,7 @@ use Rattle.actor_laws.specs.Phases.{Rests, phase_at}
 use Rattle.tx_turns.proofs.OwnLemmas.{own_gates}
 use Rattle.tx_turns.specs.Ties.{Ties}
 use Rattle.tx_engine.proofs.CallLemmas.{stands_at}
-use Rattle.gate_turns.specs.Own.{HasOwn}
+use Rattle.driven_turns.specs.Own.{HasOwn}
 use Rattle.tx_engine.proofs.ReadyLemmas.{stays_between, stays_own, stays_standing, stays_tied}
 use Rattle.driven_turns.specs.Driven.{seat_in, standing}
 use Rattle.tx_engine.specs.Ready.{IsReady}

@@ -13,8 +13,7 @@ ghost use Rattle.tx_engine.specs.Requests.{IsLastAborted, told_of};
 
 use crate::requests::abort;
 use actor_parts::Boxed;
-use driven_turns::drive_call;
-use gate_turns::ask;
+use driven_turns::{ask, drive_call};
 use replay_log::Base;
 use seq_model::{Answer, Call, Refusal, Reply, Request, Value};
 use std::alloc::Global;

@@ -1,13 +1,17 @@
 //! The table opens, splits, joins and closes with seats that run transactions.
+ghost use Rattle.std.specs.Prelude.{◌≡◌, ◌≢◌, ◌<◌, ◌≤◌, IfErr, IfOk, IsOk, length};
+ghost use Rattle.seq_model.specs.Refusals.{IsNoSuchOrTooLong};
+ghost use Rattle.world_table.specs.Openings.{IsWithin};
+ghost use Rattle.tx_table.specs.Seated.{view};
+ghost use Rattle.tx_engine.specs.Holder.{Closes, Joins, Opens, Splits};
+ghost use Rattle.tx_engine.specs.Ready.{IsReady};
+
 use crate::seats::TxSeat;
 use seq_model::{Memory, Refusal, Shape, State, Value};
 use std::alloc::Global;
-use tx_table::{Closed, HoldsSeat, TxTable};
+use tx_table::{Closed, HoldsSeat, SHARES, TxTable};
 
 impl<V: Value> HoldsSeat<V> for TxSeat<V> {
-    ghost use Rattle.tx_engine.specs.Holder.{Closes, Joins, Opens, Splits};
-    ghost use Rattle.tx_engine.specs.Ready.{IsReady};
-
     ghost ready = { λ t s. IsReady t s };
 
     ghost held = { λ s. s.seat };
@@ -24,7 +28,13 @@ impl<V: Value> HoldsSeat<V> for TxSeat<V> {
         alloc: Global,
         shape: &Shape,
         state: State<V>,
-    ) -> Result<(TxTable<V>, TxSeat<V>), Refusal> {
+    ) -> Result<(TxTable<V>, TxSeat<V>), Refusal>
+        ensures ready { IfOk result (λ opened. IsReady opened.0 opened.1) }
+        ensures opens { IfOk result (λ opened. Opens shape.now state opened.0 opened.1) }
+        ensures refused { IfErr result (λ refusal. IsNoSuchOrTooLong refusal (length shape.now.stripes ≢ length state.held)
+            (IsWithin shape.now.stripes shape.now.clock state)) }
+        ensures fits { IsOk result → (length shape.now.stripes ≡ length state.held) × IsWithin shape.now.stripes shape.now.clock state }
+    {
         TxSeat::open(alloc, shape, state)
     }
 
@@ -36,7 +46,12 @@ impl<V: Value> HoldsSeat<V> for TxSeat<V> {
         self.join(table, other);
     }
 
-    fn close_held(self, table: TxTable<V>) -> Result<Closed<V>, Memory> {
+    fn close_held(self, table: TxTable<V>) -> Result<Closed<V>, Memory>
+        requires ready { IsReady table self }
+        requires all { (view self.seat).shares ≡ SHARES }
+        ensures served { IsOk result }
+        ensures closes { IfOk result (λ closed. Closes table self closed) }
+    {
         self.close(table)
     }
 }

@@ -30,8 +30,19 @@ impl<V: Value> TxTable<V> {
         ensures shows { ShowsWorld (opening_of self) (actor seat) (view seat) (row_of result) (map some (homes_of result)) }
     {
         closed::<V>();
-        let (whole, words, locations, alloc) = self.into_parts();
-        let (place, _, _) = seat.into_parts();
+        let TxTable {
+            whole,
+            words,
+            locations,
+            blocks: _,
+            alloc,
+        } = self;
+        let Seat {
+            place,
+            asked: _,
+            shares: _,
+            last: _,
+        } = seat;
         let row = whole.close_with(place);
         Closed {
             row,

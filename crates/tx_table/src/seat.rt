@@ -13,6 +13,7 @@ pub enum Asked<V> {
 }
 
 /// What one thread steps with at a table: an actor of its own, and shares of the table.
+#[derive(Drop)]
 pub struct Seat<V> {
     pub(crate) place: Place<V>,
     pub(crate) asked: Asked<V>,
@@ -20,30 +21,4 @@ pub struct Seat<V> {
     pub(crate) last: u64,
     ghost counted: { shares ≡ place.me.0.shares },
     ghost known: { last ≤ place.me.0.clock },
-}
-
-impl<V: Drop> Drop for Seat<V> {
-    fn drop(self) {
-        let Seat {
-            place: _,
-            asked: _,
-            shares: _,
-            last: _,
-        } = self;
-    }
-}
-
-impl<V> Seat<V> {
-    /// Its place, its shares and its last number.
-    pub(crate) fn into_parts(self) -> (Place<V>, u64, u64)
-        ensures { result ≡ (self.place, (self.shares, self.last)) }
-    {
-        let Seat {
-            place,
-            asked: _,
-            shares,
-            last,
-        } = self;
-        (place, shares, last)
-    }
 }

@@ -46,7 +46,12 @@ fn merge<V: Value>(board: &Board<V>, seat: &mut Seat<V>, other: Seat<V>)
     ensures both { seat.new.place.me ≡ (both_of (view seat.old) (actor other) (view other), out seat.old) }
     ensures last { seat.new.last ≡ max seat.old.last other.last }
 {
-    let (place, shares, last) = other.into_parts();
+    let Seat {
+        place,
+        asked: _,
+        shares,
+        last,
+    } = other;
     board.join_seat::<Brand>(&mut seat.place, place);
     board.load::<Brand>(&mut seat.place, 0);
     seat.shares += shares;

@@ -9,6 +9,7 @@ use actor_parts::Blocks;
 use std::alloc::Global;
 
 /// A table of words and collections that threads share.
+#[derive(Drop)]
 pub struct TxTable<V> {
     pub(crate) whole: Whole<V>,
     pub(crate) words: u32,
@@ -21,32 +22,4 @@ pub struct TxTable<V> {
     ghost wide: { whole.shared.table_id.words ≡ width locations (length (blocks_at whole.shared.key)) },
     ghost slots: { whole.shared.table_id.slots ≡ length (blocks_at whole.shared.key) },
     ghost few: { (locations ≤ TABLE_LIMIT) × (length (blocks_at whole.shared.key) ≤ COLLECTION_LIMIT) },
-}
-
-impl<V: Drop> Drop for TxTable<V> {
-    fn drop(self) {
-        let TxTable {
-            whole: _,
-            words: _,
-            locations: _,
-            blocks: _,
-            alloc: _,
-        } = self;
-    }
-}
-
-impl<V> TxTable<V> {
-    /// The words and slots that threads share, how many words and locations there are, and the allocator.
-    pub(crate) fn into_parts(self) -> (Whole<V>, u32, usize, Global)
-        ensures { result ≡ (self.whole, (self.words, (self.locations, self.alloc))) }
-    {
-        let TxTable {
-            whole,
-            words,
-            locations,
-            blocks: _,
-            alloc,
-        } = self;
-        (whole, words, locations, alloc)
-    }
 }

@@ -32,7 +32,11 @@ pub struct Client<'t, V, S: Scope<V>> {
 
 impl<'t, V: Drop, S: Scope<V> + Drop> Drop for Client<'t, V, S> {
     fn drop(self) {
-        let Client { table: _, runner: _, scope: _ } = self;
+        let Client {
+            table: _,
+            runner: _,
+            scope: _,
+        } = self;
     }
 }
 

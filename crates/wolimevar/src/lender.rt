@@ -41,7 +41,14 @@ pub struct Lender<V> {
 
 impl<V: Drop> Drop for Lender<V> {
     fn drop(self) {
-        let Lender { alloc: _, number: _, table: _, seat: _, tally: _, homes: _ } = self;
+        let Lender {
+            alloc: _,
+            number: _,
+            table: _,
+            seat: _,
+            tally: _,
+            homes: _,
+        } = self;
     }
 }
 

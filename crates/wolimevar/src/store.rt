@@ -40,7 +40,13 @@ pub struct Store<V> {
 
 impl<V: Drop> Drop for Store<V> {
     fn drop(self) {
-        let Store { alloc: _, number: _, table: _, seat: _, tally: _ } = self;
+        let Store {
+            alloc: _,
+            number: _,
+            table: _,
+            seat: _,
+            tally: _,
+        } = self;
     }
 }
 

@@ -5,7 +5,7 @@ use Rattle.tx_actor.specs.declared.actor.Told.{Told}
 use Rattle.tx_actor.specs.declared.actor.TxActor.{TxActor}
 use Rattle.tx_table.specs.Seated.{opening_of}
 use Rattle.tx_turns.specs.Ties.{Ties}
-use Rattle.gate_turns.specs.Own.{HasOwn}
+use Rattle.driven_turns.specs.Own.{HasOwn}
 use Rattle.driven_turns.specs.Driven.{LeadsOn}
 use Rattle.driven_turns.proofs.StepsLemmas.{starts}
 use Rattle.driven_turns.proofs.StraightLemmas.{at_own_place, come_then, leads_from}

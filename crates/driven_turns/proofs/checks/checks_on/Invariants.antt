@@ -2,7 +2,7 @@ use Rattle.std.proofs.Common.{◌-◌, ◌≡◌, ◌<◌}
 use Rattle.step_core.specs.declared.actor.Place.TheVariants.{Check}
 use Rattle.tx_table.specs.Seated.{opening_of}
 use Rattle.tx_turns.specs.Ties.{Ties}
-use Rattle.gate_turns.specs.Own.{HasOwn}
+use Rattle.driven_turns.specs.Own.{HasOwn}
 use Rattle.driven_turns.proofs.StepsLemmas.{HasCome}
 use Rattle.driven_turns.specs.Straight.{at_place}
 use Rattle.driven_turns.proofs.checks.checks_on.Given as goal

@@ -4,7 +4,7 @@ use Rattle.seq_model.specs.declared.record.Record.{Record}
 use Rattle.tx_actor.specs.declared.actor.Told.{Told}
 use Rattle.tx_actor.specs.declared.actor.Told.TheVariants as told
 use Rattle.tx_table.specs.Seated.{opening_of}
-use Rattle.gate_turns.specs.Own.{HasOwn}
+use Rattle.driven_turns.specs.Own.{HasOwn}
 use Rattle.driven_turns.proofs.DrivenLemmas.{driven_on}
 use Rattle.driven_turns.proofs.StepsLemmas.{nearer}
 use Rattle.driven_turns.proofs.GivenUpLemmas.{stops_at}

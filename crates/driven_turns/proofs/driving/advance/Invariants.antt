@@ -3,7 +3,7 @@ use Rattle.tx_actor.specs.declared.actor.Told.TheVariants as told
 use Rattle.tx_table.specs.Seated.{actor, acts, opening_of}
 use Rattle.driven_turns.specs.Straight.{LeadsBy}
 use Rattle.tx_turns.specs.Ties.{Ties}
-use Rattle.gate_turns.specs.Own.{HasOwn}
+use Rattle.driven_turns.specs.Own.{HasOwn}
 use Rattle.driven_turns.proofs.driving.advance.Given as goal
 
 abbrev pub invariant-turns : goal.invariant-turns

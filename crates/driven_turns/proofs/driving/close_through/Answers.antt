@@ -2,7 +2,7 @@ use Rattle.std.proofs.Common.{List, None, Option, subst}
 use Rattle.replay_log.specs.declared.base.Base.{Base}
 use Rattle.seq_model.specs.declared.record.Record.{Record}
 use Rattle.tx_table.specs.Seated.{opening_of}
-use Rattle.gate_turns.specs.Own.{HasOwn}
+use Rattle.driven_turns.specs.Own.{HasOwn}
 use Rattle.driven_turns.proofs.DrivenLemmas.{driven_first, driven_on}
 use Rattle.driven_turns.proofs.StraightLemmas.{latest_none}
 use Rattle.driven_turns.specs.Driven.{Driven}

@@ -1,7 +1,7 @@
 use Rattle.std.proofs.Common.{List, None, subst}
 use Rattle.replay_log.specs.declared.base.Base.{Base}
 use Rattle.tx_table.specs.Seated.{opening_of}
-use Rattle.gate_turns.specs.Own.{HasOwn}
+use Rattle.driven_turns.specs.Own.{HasOwn}
 use Rattle.driven_turns.proofs.DrivenLemmas.{driven_first}
 use Rattle.driven_turns.proofs.driving.drive_call.Goals as goal
 

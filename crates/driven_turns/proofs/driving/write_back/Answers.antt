@@ -1,6 +1,6 @@
 use Rattle.std.proofs.Common.{List, subst}
 use Rattle.replay_log.specs.declared.base.Base.{Base}
-use Rattle.gate_turns.specs.Own.{HasOwn}
+use Rattle.driven_turns.specs.Own.{HasOwn}
 use Rattle.driven_turns.proofs.driving.write_back.Goals as goal
 
 pub finish_after-requires-clause-own : goal.finish_after-requires-clause-own

@@ -3,7 +3,7 @@ use Rattle.tx_actor.specs.declared.actor.Told.{Told}
 use Rattle.tx_actor.specs.declared.actor.TxActor.{TxActor}
 use Rattle.tx_table.specs.Seated.{opening_of}
 use Rattle.step_core.specs.declared.actor.Place.TheVariants.{Look}
-use Rattle.gate_turns.specs.Own.{HasOwn}
+use Rattle.driven_turns.specs.Own.{HasOwn}
 use Rattle.driven_turns.specs.Driven.{LeadsOn}
 use Rattle.driven_turns.proofs.StraightLemmas.{at_own_place, leads_then}
 use Rattle.driven_turns.proofs.loads.load_on.Goals as goal

@@ -3,7 +3,7 @@ use Rattle.step_core.specs.declared.actor.Place.TheVariants.{Take}
 use Rattle.tx_actor.specs.declared.actor.TxActor.{TxActor}
 use Rattle.tx_table.specs.Seated.{opening_of}
 use Rattle.tx_turns.specs.Ties.{Ties}
-use Rattle.gate_turns.specs.Own.{HasOwn}
+use Rattle.driven_turns.specs.Own.{HasOwn}
 use Rattle.driven_turns.proofs.StraightLemmas.{err_then, led_then, ok_then}
 use Rattle.driven_turns.specs.Straight.{at_place, is_locking}
 use Rattle.driven_turns.proofs.locks.lock_on.Goals as goal

@@ -4,7 +4,7 @@ use Rattle.step_core.specs.declared.actor.Place.TheVariants.{Release}
 use Rattle.tx_actor.specs.declared.actor.Stage.TheVariants as stage
 use Rattle.tx_table.specs.Seated.{opening_of}
 use Rattle.tx_turns.specs.Ties.{Ties}
-use Rattle.gate_turns.specs.Own.{HasOwn}
+use Rattle.driven_turns.specs.Own.{HasOwn}
 use Rattle.driven_turns.proofs.StepsLemmas.{HasCome}
 use Rattle.driven_turns.proofs.releases.releases_on.Given as goal
 

@@ -9,7 +9,7 @@ use Rattle.tx_actor.specs.declared.actor.Told.TheVariants as told
 use Rattle.tx_table.specs.Seated.{opening_of}
 use Rattle.tx_turns.proofs.TurnLemmas.{word_is_due, word_is_next, word_turned}
 use Rattle.tx_turns.specs.Ties.{laid_in}
-use Rattle.gate_turns.proofs.WordLemmas.{load_hears, load_tied}
+use Rattle.driven_turns.proofs.WordLemmas.{load_hears, load_tied}
 use Rattle.driven_turns.proofs.NextLemmas.{not_loading}
 use Rattle.driven_turns.proofs.StepsLemmas.{comes_on, leads_on, nearer, onward, starts}
 use Rattle.driven_turns.specs.Driven.{LeadsOn}

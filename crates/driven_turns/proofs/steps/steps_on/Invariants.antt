@@ -2,7 +2,7 @@ use Rattle.std.proofs.Common.{◌≡◌}
 use Rattle.tx_table.specs.Seated.{opening_of}
 use Rattle.driven_turns.specs.Driven.{left_in}
 use Rattle.tx_turns.specs.Ties.{Ties}
-use Rattle.gate_turns.specs.Own.{HasOwn}
+use Rattle.driven_turns.specs.Own.{HasOwn}
 use Rattle.driven_turns.proofs.StepsLemmas.{HasCome}
 use Rattle.driven_turns.proofs.steps.steps_on.Given as goal
 

@@ -1,4 +1,0 @@
-pub mod Bases
-pub mod Own
-pub mod Laws
-pub mod Refused
