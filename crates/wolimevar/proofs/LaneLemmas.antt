@@ -1,6 +1,6 @@
 -- Calls on a queue in lanes: each is a call on one lane, and lanes that are looked at in vain are as they were.
 use Rattle.std.proofs.Common.{◌≡◌, ◌⊎◌, ℕ, zero, suc, ◌+◌, ◌<◌, ◌≤◌, ◌==◌, Bool, true, false, cond, List, [], ◌∷◌, ◌++◌, length, Some, None, Ok, Err, inl, inr}
-use Rattle.std.proofs.Common.{refl, sym, ap, subst, ◌∙◌, arith, eqb-true, nat_lt}
+use Rattle.std.proofs.Common.{refl, sym, ap, subst, ◌∙◌, append-nil, append_assoc, arith, eqb-true, nat_lt}
 use Rattle.std.specs.Prelude.{Option, Result, option_and_then, option_map, slice_get, slice_set, if◌then◌else◌}
 use Rattle.std.proofs.lemmas.Bool.Decides.{nat_tests}
 use Rattle.seq_model.specs.declared.call.Call.{Call}
@@ -23,7 +23,7 @@ use Rattle.wolimevar.specs.Lanes.{AreLanes, DoWithLanes, HasDoneWithLanes, HasTa
 use Rattle.wolimevar.specs.Lanes.{IsTakenFrom, total_of, with_lane}
 use Rattle.wolimevar.specs.Made.{HasMade, TransactionShown, room_reply}
 use Rattle.wolimevar.proofs.GateLemmas.{set_here, set_there, unequal}
-use Rattle.wolimevar.proofs.SumLemmas.{HasLen, below, counts_sum, joined_calls, lens_leave, no_more_calls}
+use Rattle.wolimevar.proofs.SumLemmas.{HasLen, below, counts_sum, lens_leave}
 
 lane_here : (lanes : ℕ → List ℕ) (i : ℕ) (xs : List ℕ) → with_lane lanes i xs i ≡ xs
 lane_here lanes i xs = ap (λ b. if b then xs else lanes i) (let e : (i == i) ≡ true = grind (arith, nat_tests) in e)
@@ -102,8 +102,8 @@ module _ {V : Type 0} where
       adds : {E : Type 0} (added : Result (Unit {0}) E) (b : Bool) (head : ℕ) (xs : List ℕ) (q : Reply V × ℕ × List ℕ)
           → lanes i ≡ xs → q ≡ (if b then (replies.Done, head, xs ++ item ∷ []) else (replies.Full, head, xs)) → q.0 ≡ room_reply added
           → DoesAdd added (with_queue q.1 q.2)
-      adds (Ok done) true head xs q same is reply =
-          subst (λ (p : Reply V × ℕ × List ℕ). DoesAdd (Ok done) (with_queue p.1 p.2)) (sym is) (
+      adds {E} (Ok done) true head xs q same is reply =
+          subst (λ (p : Reply V × ℕ × List ℕ). DoesAdd {E = E} (Ok done) (with_queue p.1 p.2)) (sym is) (
             (
               i,
               le,
@@ -112,10 +112,10 @@ module _ {V : Type 0} where
             ),
             beside head (xs ++ item ∷ []),
           )
-      adds (Ok done) false head xs q same is reply = absurd (let e : ◌≡◌ {A = Reply V} replies.Full replies.Done = sym (ap (λ (p : Reply V × ℕ × List ℕ). p.0) is) ∙ reply in cc)
-      adds (Err full) true head xs q same is reply = absurd (let e : ◌≡◌ {A = Reply V} replies.Done replies.Full = sym (ap (λ (p : Reply V × ℕ × List ℕ). p.0) is) ∙ reply in cc)
-      adds (Err full) false head xs q same is reply =
-          subst (λ (p : Reply V × ℕ × List ℕ). DoesAdd (Err full) (with_queue p.1 p.2)) (sym is)
+      adds {E} (Ok done) false head xs q same is reply = absurd (let e : ◌≡◌ {A = Reply V} replies.Full replies.Done = sym (ap (λ (p : Reply V × ℕ × List ℕ). p.0) is) ∙ reply in cc)
+      adds {E} (Err full) true head xs q same is reply = absurd (let e : ◌≡◌ {A = Reply V} replies.Done replies.Full = sym (ap (λ (p : Reply V × ℕ × List ℕ). p.0) is) ∙ reply in cc)
+      adds {E} (Err full) false head xs q same is reply =
+          subst (λ (p : Reply V × ℕ × List ℕ). DoesAdd {E = E} (Err full) (with_queue p.1 p.2)) (sym is)
           (unchanged_lanes head xs same, beside head xs)
 
       pub does_add : {E : Type 0} (added : Result (Unit {0}) E) → reply_of adding s ≡ Some (room_reply added)
@@ -185,7 +185,7 @@ module _ {V : Type 0} where
   none_yet before l first = record {
     own = λ lt. absurd (omega (arith, lt));
     more = [];
-    made = ap (λ (cs : List (Call V × Reply V)). record { store = before.store; calls = cs }) (no_more_calls before.calls);
+    made = ap (λ (cs : List (Call V × Reply V)). record { store = before.store; calls = cs }) (sym (append-nil before.calls));
     are = λ s lanes at legal. ((λ i from to. absurd (omega (arith, from, to)), at), same_self l.gates s);
   }
 
@@ -214,7 +214,7 @@ module _ {V : Type 0} where
     more = so.more ++ (record { target = l.gates.first + i; op = ops.Dequeue }, found_reply found) ∷ [];
     made = has.1
         ∙ (λ j. record { store = (so.made j).store; calls = (so.made j).calls ++ (record { target = there j; op = ops.Dequeue }, is j) ∷ [] })
-        ∙ ap (λ (cs : List (Call V × Reply V)). record { store = before.store; calls = cs }) (joined_calls before.calls so.more _);
+        ∙ ap (λ (cs : List (Call V × Reply V)). record { store = before.store; calls = cs }) (append_assoc before.calls so.more _);
     are = λ s lanes at legal.
         let parts = legal_parts so.more _ s legal in
         let done = so.are s lanes at parts.0 in
@@ -260,7 +260,7 @@ module _ {V : Type 0} where
     more = first.more ++ second.more;
     made = second.made
         ∙ (λ j. record { store = (first.made j).store; calls = (first.made j).calls ++ second.more })
-        ∙ ap (λ (cs : List (Call V × Reply V)). record { store = before.store; calls = cs }) (joined_calls before.calls first.more second.more);
+        ∙ ap (λ (cs : List (Call V × Reply V)). record { store = before.store; calls = cs }) (append_assoc before.calls first.more second.more);
     are = λ s lanes at legal.
         let parts = legal_parts first.more second.more s legal in
         let one = first.are s lanes at parts.0 in

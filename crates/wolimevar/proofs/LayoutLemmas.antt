@@ -1,13 +1,13 @@
 -- Collections over several gates, as they are laid out: each entry in the part that has its key.
 use Rattle.std.proofs.Common.{◌≡◌, ℕ, zero, suc, ◌+◌, ◌<◌, ◌≤◌, ◌==◌, Bool, true, false, cond, List, [], ◌∷◌, ◌++◌, length, map, Some, None, Option}
 use Rattle.std.proofs.Common.{refl, sym, ap, subst, ◌∙◌, arith, eqb-true, replicate}
-use Rattle.std.specs.Prelude.{All, slice_get, slice_set, if◌then◌else◌}
+use Rattle.std.specs.Prelude.{All, option_map, slice_get, slice_set, if◌then◌else◌}
 use Rattle.std.specs.Cmp.{nat_cmp_total}
 use Rattle.std.specs.Ordering.{nat_cmp}
 use Rattle.std.specs.FinMap.{FinMap, empty, get, get-empty, insert, nat_cmp-IsAntisymmetric, retain_keys, same_map}
 use Rattle.std.proofs.lemmas.Bool.Decides.{nat_tests}
-use Rattle.std.proofs.lemmas.Option.{get_or_from_slice_get}
-use Rattle.std.proofs.lemmas.List.{length-replicate, length-set, replicate_more}
+use Rattle.std.proofs.lemmas.Option.{get_or_from_slice_get, slice_get-map}
+use Rattle.std.proofs.lemmas.List.{length-map, length-replicate, length-set, replicate_more}
 use Rattle.seq_model.specs.declared.held.Held.{Held}
 use Rattle.seq_model.specs.declared.held.Held.TheVariants as held
 use Rattle.seq_model.specs.Counts.{HasNoZero, Multiset}
@@ -22,11 +22,6 @@ past [] ys i = let e : 0 + i ≡ i = omega arith in ap (slice_get ys) e
 past (x ∷ xs) ys i =
     let e : suc (length xs) + i ≡ suc (length xs + i) = omega arith in
     ap (slice_get (x ∷ xs ++ ys)) e ∙ past xs ys i
-
-mapped : {A B : Type 0} (f : A → B) (xs : List A) (i : ℕ) (x : A) → slice_get xs i ≡ Some x → slice_get (map f xs) i ≡ Some (f x)
-mapped f [] i x h = absurd (let z : None ≡ Some x = h in cc)
-mapped f (y ∷ ys) zero x h = let z : Some y ≡ Some x = h in let e : y ≡ x = cc in ap (λ w. Some (f w)) e
-mapped f (y ∷ ys) (suc i) x h = mapped f ys i x h
 
 in_replicate : {A : Type 0} (n i : ℕ) (x : A) → i < n → slice_get (replicate n x) i ≡ Some x
 in_replicate zero i x lt = absurd (omega (arith, lt))
@@ -54,12 +49,9 @@ module _ {V X : Type 0} (kind : FinMap nat_cmp X → Held V) where
       (all now : List (Held V)) → g.first ≡ length olds → AreParts g u parts → all ≡ map kind parts → now ≡ map held_of olds ++ all
       → LieOver kind g u now
   laid held_of g u olds parts all now first are each after i le =
-      let there : g.first + i ≡ length (map held_of olds) + i = ap (λ n. n + i) (first ∙ sym (same_length held_of olds)) in
-      (λ j. slice_get (after j) (there j)) ∙ past (map held_of olds) all i ∙ ap (λ hs. slice_get hs i) each ∙ mapped kind parts i _ (are.1 i le)
-    where
-      same_length : {A : Type 0} (f : A → Held V) (xs : List A) → length (map f xs) ≡ length xs
-      same_length f [] = refl
-      same_length f (x ∷ xs) = ap suc (same_length f xs)
+      let there : g.first + i ≡ length (map held_of olds) + i = ap (λ n. n + i) (first ∙ sym (length-map olds held_of)) in
+      (λ j. slice_get (after j) (there j)) ∙ past (map held_of olds) all i ∙ ap (λ hs. slice_get hs i) each ∙ slice_get-map kind parts i
+      ∙ ap (option_map kind) (are.1 i le)
 
 module _ {V A : Type 0} (held_of : A → Held V) (g : Gates) (olds : List A) (all now : List (Held V)) (first : g.first ≡ length olds)
     (after : now ≡ map held_of olds ++ all) where
@@ -71,28 +63,25 @@ module _ {V A : Type 0} (held_of : A → Held V) (g : Gates) (olds : List A) (al
 
   pub laid_lanes : (items : List ℕ) → AreFirstOf g items all → AreLanes g (first_lane items) now
   laid_lanes items are i le =
-      let there : g.first + i ≡ length (map held_of olds) + i = ap (λ n. n + i) (first ∙ sym (mapped_length olds)) in
+      let there : g.first + i ≡ length (map held_of olds) + i = ap (λ n. n + i) (first ∙ sym (length-map olds held_of)) in
       (0, (λ j. slice_get (after j) (there j)) ∙ past (map held_of olds) all i ∙ are.1 i le)
-    where
-      mapped_length : (xs : List A) → length (map held_of xs) ≡ length xs
-      mapped_length [] = refl
-      mapped_length (x ∷ xs) = ap suc (mapped_length xs)
 
 -- ---- the items are in the first lane
+first_at : (V : Type 0) (n : ℕ) (items : List ℕ) (i : ℕ) → i ≤ n
+    → let queues : List (Held V) = held.Queue 0 items ∷ replicate n (held.Queue 0 []) in slice_get queues i ≡ Some (held.Queue 0 (first_lane items i))
+first_at V n items zero le = refl
+first_at V n items (suc i) le =
+    let none : Held V = held.Queue 0 [] in
+    let other : (suc i == 0) ≡ false = grind (arith, nat_tests) in
+    in_replicate n i none (omega (arith, le)) ∙ ap (λ b. Some (held.Queue 0 (if b then items else []))) (sym other)
+
 pub first_lanes : {V : Type 0} (g : Gates) (items : List ℕ) (hs : List (Held V))
     → hs ≡ held.Queue 0 items ∷ replicate g.others (held.Queue 0 []) → AreFirstOf g items hs
-first_lanes g items hs are = (
-  (let n = ap length are in let m = length-replicate g.others (held.Queue 0 []) in omega (arith, n, m)),
-  λ i le. ap (λ qs. slice_get qs i) are ∙ at i le,
-)
-  where
-    at : (i : ℕ) → i ≤ g.others
-        → slice_get (held.Queue 0 items ∷ replicate g.others (held.Queue 0 [])) i ≡ Some (held.Queue 0 (first_lane items i))
-    at zero le = refl
-    at (suc i) le =
-        let e : (suc i == 0) ≡ false = grind (arith, nat_tests) in
-        in_replicate g.others i (held.Queue 0 []) (omega (arith, le))
-        ∙ ap (λ b. Some (held.Queue 0 (if b then items else []))) (sym e)
+first_lanes {V} g items hs are =
+    let none : Held V = held.Queue 0 [] in
+    let many = ap length are in
+    let others = length-replicate g.others none in
+    (omega (arith, many, others), λ i le. ap (λ qs. slice_get qs i) are ∙ first_at V g.others items i le)
 
 pub one_map : {V : Type 0} (g : Gates) (u : FinMap nat_cmp V) (hs : List (Held V)) → g.others ≡ 0 → slice_get hs g.first ≡ Some (held.Map u)
     → LieOver held.Map g u hs
@@ -146,5 +135,5 @@ kept_no_zero u p none x e = by (p x) (sym (kept_get p u x) ∙ e)
 
 pub parts_no_zero : (g : Gates) (u : Multiset) (parts : List Multiset) → AreParts g u parts → HasNoZero u → All HasNoZero parts
 parts_no_zero g u parts are none k d lt =
-    subst HasNoZero (sym (get_or_from_slice_get parts k d _ (are.1 k (omega (arith, lt, are.0)))))
+    subst HasNoZero (sym (get_or_from_slice_get parts k _ d (are.1 k (omega (arith, lt, are.0)))))
     (kept_no_zero u (λ q. place_of g q == k) none)

@@ -1,7 +1,7 @@
 -- What is read at the end over several gates: the entries of all collections, one collection after another, are those of the whole map. Each
 -- key has its place in one of them, so a look-up in the joined list finds what the collection of that place has.
 use Rattle.std.proofs.Common.{◌≡◌, ℕ, zero, suc, ◌+◌, ◌-◌, ◌<◌, ◌≤◌, ◌==◌, Bool, true, false, cond, List, [], ◌∷◌, ◌++◌, length, Option, Some, None}
-use Rattle.std.proofs.Common.{refl, sym, ap, subst, ◌∙◌, arith, eqb-true, length-append}
+use Rattle.std.proofs.Common.{refl, sym, ap, subst, ◌∙◌, append-nil, arith, eqb-true, length-append}
 use Rattle.std.specs.Prelude.{slice_get}
 use Rattle.std.specs.Cmp.{nat_cmp_total}
 use Rattle.std.specs.Ordering.{nat_cmp, eq_by_cmp}
@@ -57,10 +57,6 @@ module _ {V X : Type 0} (entries_of : Option (Held V) → List (ℕ × X)) (hs :
       let none : last - place ≡ 0 = omega (arith, le) in
       ap (entries_from entries_of hs (first + place)) none
 
-  none_more : (xs : List (ℕ × X)) → xs ++ [] ≡ xs
-  none_more [] = refl
-  none_more (x ∷ xs) = ap (λ ys. x ∷ ys) (none_more xs)
-
   -- the part that was begun had none left, and the next one is begun
   pub goes_on : (place last : ℕ) (xs ys : List (ℕ × X)) → place < last → xs ≡ [] → ys ≡ entries_of (slice_get hs (first + place))
       → ys ++ entries_from entries_of hs (first + (place + 1)) (last - (place + 1)) ≡ xs ++ entries_from entries_of hs (first + place) (last - place)
@@ -71,9 +67,12 @@ module _ {V X : Type 0} (entries_of : Option (Held V) → List (ℕ × X)) (hs :
 
   -- no part is left to be begun
   pub ends : (place last : ℕ) (xs : List (ℕ × X)) → last ≤ place → xs ++ entries_from entries_of hs (first + place) (last - place) ≡ xs
-  ends place last xs le = ap (λ ys. xs ++ ys) (no_place place last le) ∙ none_more xs
+  ends place last xs le = ap (λ ys. xs ++ ys) (no_place place last le) ∙ append-nil xs
 
 -- ---- all entries
+pub entries_count : {X : Type 0} (m : FinMap nat_cmp X) → length (entries m) ≡ len m
+entries_count m = sym (len-entries m)
+
 module _ {V X : Type 0} (kind : FinMap nat_cmp X → Held V) (entries_of : Option (Held V) → List (ℕ × X))
     (shows : (m : FinMap nat_cmp X) → entries_of (Some (kind m)) ≡ entries m) (g : Gates) (hs : List (Held V)) (u : FinMap nat_cmp X)
     (lie : LieOver kind g u hs) where

@@ -1,8 +1,9 @@
 -- The numbers of keys of all collections that a map lies over: they add up to that of the map.
 use Rattle.std.proofs.Common.{◌≡◌, ℕ, zero, suc, ◌+◌, ◌<◌, ◌≤◌, ◌==◌, Bool, true, false, cond, List, [], ◌∷◌, ◌++◌, length, Some, refl, sym, ap, subst}
-use Rattle.std.proofs.Common.{◌∙◌, arith, eqb-true, sum}
+use Rattle.std.proofs.Common.{◌∙◌, append-nil, append_assoc, arith, eqb-true, sum}
 use Rattle.std.specs.Prelude.{Option, option_and_then, option_map, slice_get, slice_set}
-use Rattle.std.proofs.lemmas.List.Sums.{sum_by-cons}
+use Rattle.std.proofs.lemmas.List.{length_push}
+use Rattle.std.proofs.lemmas.List.Sums.{sum_by-append, sum_by-cons}
 use Rattle.std.specs.Cmp.{nat_cmp_total}
 use Rattle.std.specs.Ordering.{nat_cmp}
 use Rattle.std.specs.FinMap.{FinMap, entries, entries_sorted, from_entries, get-entries, get-from_entries, len, len-entries, nat_cmp-IsAntisymmetric}
@@ -53,16 +54,17 @@ below_none f p (suc n) le =
 
 below_one : (f : ℕ → ℕ) (p n : ℕ) → p < n → below (λ l. cond (p == l) (suc (f l)) (f l)) n ≡ suc (below f n)
 below_one f p zero lt = absurd (omega (arith, lt))
-below_one f p (suc n) lt = at (p == n) refl
+below_one f p (suc n) lt = at (p == n) refl (λ lower. below_one f p n lower)
   where
-    at : (b : Bool) → (p == n) ≡ b → below (λ l. cond (p == l) (suc (f l)) (f l)) n + cond b (suc (f n)) (f n) ≡ suc (below f n + f n)
-    at true is =
+    at : (b : Bool) → (p == n) ≡ b → (p < n → below (λ l. cond (p == l) (suc (f l)) (f l)) n ≡ suc (below f n))
+        → below (λ l. cond (p == l) (suc (f l)) (f l)) n + cond b (suc (f n)) (f n) ≡ suc (below f n + f n)
+    at true is others =
         let e = eqb-true p n is in
         let rest = below_none f p n (omega (arith, e)) in
         omega (arith, rest)
-    at false other =
+    at false other others =
         let apart : p ≡ n → ⊥ = λ e. grind (arith, nat_tests) in
-        let rest = below_one f p n (omega (arith, lt, apart)) in
+        let rest = others (omega (arith, lt, apart)) in
         omega (arith, rest)
 
 zeros : (n : ℕ) → below (λ l. 0) n ≡ 0
@@ -102,15 +104,21 @@ module _ {A : Type 0} (place : ℕ → ℕ) (n : ℕ) (within : (k : ℕ) → pl
       below_same (λ l. len (retain_keys m (λ k. place k == l))) (λ l. found {A = A} (λ k. place k == l) (entries m)) n (λ l lt. each l)
       ∙ all_found (entries m) ∙ sym (len-entries m)
 
-module _ {V : Type 0} where
-  -- ---- the calls
-  reads : (first : ℕ) (counts : List ℕ) → is_writer (len_calls {V = V} first counts) ≡ false
-  reads first [] = refl
-  reads first (n ∷ ns) = reads (first + 1) ns
+-- ---- the calls
+reads : (V : Type 0) (first : ℕ) (counts : List ℕ) → is_writer (len_calls {V = V} first counts) ≡ false
+reads V first [] = refl
+reads V first (n ∷ ns) = reads V (first + 1) ns
 
+sum_with : (xs : List ℕ) (x : ℕ) → sum (xs ++ x ∷ []) ≡ sum xs + x
+sum_with xs x =
+    let parts = sum_by-append (λ y. y) xs (x ∷ []) in
+    let one = sum_by-cons (λ y. y) x [] in
+    omega (arith, parts, one)
+
+module _ {V : Type 0} where
   -- so the state is as it was
   pub lens_leave : (first : ℕ) (counts : List ℕ) (s : Contents V) → IsLegal (len_calls first counts) s → after_calls (len_calls first counts) s ≡ s
-  lens_leave first counts s legal = after_reads (len_calls first counts) s (reads first counts) legal
+  lens_leave first counts s legal = after_reads (len_calls first counts) s (reads V first counts) legal
 
   -- so many keys or items the collection with this number has
   abbrev pub HasLen : Contents V → ℕ → ℕ → Type 0
@@ -145,18 +153,6 @@ module _ {V : Type 0} where
     pub is_sum : total ≡ sum counts
     pub made : now ≡ record { store = before.store; calls = before.calls ++ len_calls first counts }
 
-  one_longer : (xs : List ℕ) (x : ℕ) → length (xs ++ x ∷ []) ≡ length xs + 1
-  one_longer [] x = refl
-  one_longer (y ∷ ys) x = let rest = one_longer ys x in omega (arith, rest)
-
-  sum_with : (xs : List ℕ) (x : ℕ) → sum (xs ++ x ∷ []) ≡ sum xs + x
-  sum_with [] x = sum_by-cons (λ y. y) x [] ∙ omega arith
-  sum_with (y ∷ ys) x =
-      let whole = sum_by-cons (λ z. z) y (ys ++ x ∷ []) in
-      let part = sum_by-cons (λ z. z) y ys in
-      let rest = sum_with ys x in
-      omega (arith, whole, part, rest)
-
   calls_with : (first : ℕ) (counts : List ℕ) (n : ℕ)
       → len_calls {V = V} first (counts ++ n ∷ [])
       ≡ len_calls first counts ++ (record { target = first + length counts; op = ops.Len }, replies.Number n) ∷ []
@@ -169,21 +165,13 @@ module _ {V : Type 0} where
       (calls_with (first + 1) ms n
       ∙ ap (λ t. len_calls (first + 1) ms ++ (record { target = t; op = ops.Len }, replies.Number n) ∷ []) there)
 
-  pub joined_calls : (xs ys zs : List (Call V × Reply V)) → (xs ++ ys) ++ zs ≡ xs ++ (ys ++ zs)
-  joined_calls [] ys zs = refl
-  joined_calls (x ∷ xs) ys zs = ap (λ (cs : List (Call V × Reply V)). x ∷ cs) (joined_calls xs ys zs)
-
-  pub no_more_calls : (xs : List (Call V × Reply V)) → xs ≡ xs ++ []
-  no_more_calls [] = refl
-  no_more_calls (x ∷ xs) = ap (λ (cs : List (Call V × Reply V)). x ∷ cs) (no_more_calls xs)
-
   pub summed_none : (before : TransactionShown V) (store first : ℕ) → IsSummedTo before before store first 0 0
   summed_none before store first = record {
     own = λ lt. absurd (omega (arith, lt));
     counts = [];
     many = refl;
     is_sum = refl;
-    made = ap (λ (cs : List (Call V × Reply V)). record { store = before.store; calls = cs }) (no_more_calls before.calls);
+    made = ap (λ (cs : List (Call V × Reply V)). record { store = before.store; calls = cs }) (sym (append-nil before.calls));
   }
 
   pub then_summed : (before mid now : TransactionShown V) (store first i total number count more : ℕ) (r : Reply V)
@@ -192,7 +180,7 @@ module _ {V : Type 0} where
   then_summed before mid now store first i total number count more r so has there is adds = record {
     own = λ lt. sym (ap (λ (t : TransactionShown V). t.store) so.made) ∙ has.0;
     counts = so.counts ++ count ∷ [];
-    many = (let e = one_longer so.counts count in omega (arith, e, so.many));
+    many = (let e = length_push so.counts count in omega (arith, e, so.many));
     is_sum = (let e = sum_with so.counts count in omega (arith, e, so.is_sum, adds));
     made = has.1
         ∙ (λ j. record { store = (so.made j).store; calls = (so.made j).calls ++ (record { target = number; op = ops.Len }, is j) ∷ [] })
@@ -201,7 +189,7 @@ module _ {V : Type 0} where
           calls = (before.calls ++ len_calls first so.counts) ++ (record { target = t; op = ops.Len }, replies.Number count) ∷ [];
         }) at_end
         ∙ ap (λ (cs : List (Call V × Reply V)). record { store = before.store; calls = cs })
-        (joined_calls before.calls (len_calls first so.counts) _
+        (append_assoc before.calls (len_calls first so.counts) _
         ∙ ap (λ (cs : List (Call V × Reply V)). before.calls ++ cs) (sym (calls_with first so.counts count)));
   }
     where

@@ -35,7 +35,7 @@ impl<'a, V: Value> MapEntries<'a, V> {
     }
 
     /// How many keys there are.
-    #[tactic(auto, using(crate::proofs::ReadLemmas::keys_read, crate::proofs::SumLemmas::then_below))]
+    #[tactic(auto, using(crate::proofs::ReadLemmas::entries_count, crate::proofs::SumLemmas::then_below))]
     pub fn len(&self) -> usize
         ensures { (whole : _) → LieOver held.Map self.now.gates whole self.now.held.now → result ≡ min (map.len whole) (2 ^ 64 - 1) }
     {
@@ -49,7 +49,6 @@ impl<'a, V: Value> MapEntries<'a, V> {
     }
 
     /// The entries, rising by key where the map has one gate, and else those of one gate after those of another.
-    #[tactic(auto, using(crate::proofs::ReadLemmas::map_read))]
     pub fn iter(&self) -> MapIter<'a, V>
         ensures { (whole : _) → LieOver held.Map self.now.gates whole self.now.held.now → HasAll (map_left result) whole }
     {
@@ -153,7 +152,6 @@ impl<'a, V: Value> BagCounts<'a, V> {
 
     /// The elements with the numbers of their copies, rising where the multiset has one gate, and else those of one gate after those of
     /// another.
-    #[tactic(auto, using(crate::proofs::ReadLemmas::bag_read))]
     pub fn iter(&self) -> BagIter<'a, V>
         ensures { (whole : _) → LieOver held.Bag self.now.gates whole self.now.held.now → HasAll (bag_left result) whole }
     {
@@ -248,7 +246,7 @@ impl<'a, V: Value> LaneItems<'a, V> {
     }
 
     /// How many items all lanes have.
-    #[tactic(auto, using(crate::proofs::ReadLemmas::items_read, crate::proofs::SumLemmas::then_below))]
+    #[tactic(auto, using(crate::proofs::SumLemmas::then_below))]
     pub fn len(&self) -> usize
         ensures { (lanes : _) → AreLanes self.now.gates lanes self.now.held.now → result ≡ min (total_of lanes (self.now.gates.others + 1)) (2 ^ 64 - 1) }
     {

@@ -67,7 +67,6 @@ impl<V: Value> Layout<V> {
 
     /// Adds a queue in so many lanes, each of so many stripes, whose first lane holds these items at first. `TooLong` for no lanes, or
     /// more than 256; otherwise refused like `word`.
-    #[tactic(auto, using(crate::proofs::LayoutLemmas::laid_lanes))]
     pub fn lanes(&mut self, lanes: u32, stripes: u32, items: QueueItems) -> Result<Lanes, Refusal>
         ensures same { self.new.store ≡ self.old.store }
         ensures store { IfOk result (λ handle. handle.store ≡ self.new.store) }
@@ -131,7 +130,7 @@ fn parts_of<T: Drop>(
 }
 
 /// No entries for each of the collections.
-#[tactic(auto, using(crate::proofs::LayoutLemmas::one_more, crate::proofs::LayoutLemmas::no_parts))]
+#[tactic(auto, using(crate::proofs::LayoutLemmas::one_more))]
 fn no_parts<T: Drop>(alloc: Global, gates: Gates) -> Result<Vec<Entries<T>>, Memory>
     ensures { IfOk result (λ parts. AreParts gates empty parts.items) }
 {

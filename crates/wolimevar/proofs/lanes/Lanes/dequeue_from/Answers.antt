@@ -14,7 +14,7 @@ returns-in-Some g c =
     let some : c.args.first < c.lanes.i + 1 = omega (arith, from) in
     taken_within c.args.tx.now c.call.new.self c.args.self.now c.args.first (c.lanes.i + 1) c.args.end c.in-Some.item some
     (then_taken c.args.tx.now c.lanes.tx c.call.new.self c.args.self.now c.args.first c.lanes.i (c.lanes.i + 1) c.in_ok-number.number
-    (Some c.in-Some.item) c.in_ok-reply.reply within refl c.lanes.invariant.taken c.in_ok-number.ensures c.in_ok-reply.ensures
+    (Some c.in-Some.item) c.in_ok-reply.reply within refl c.lanes.invariant.taken c.in_ok-number.ensures c.in_ok-reply.ensures.made
     (c.in_ok-found.ensures ∙ ap found_reply is))
 
 pub lanes-preserved : goal.lanes-preserved
@@ -24,7 +24,7 @@ lanes-preserved g c =
     let from = c.lanes.invariant.from in
     record {
       taken = then_taken c.args.tx.now c.lanes.tx c.call.new.self c.args.self.now c.args.first c.lanes.i (c.lanes.i + 1) c.in_ok-number.number None
-          c.in_ok-reply.reply within refl c.lanes.invariant.taken c.in_ok-number.ensures c.in_ok-reply.ensures
+          c.in_ok-reply.reply within refl c.lanes.invariant.taken c.in_ok-number.ensures c.in_ok-reply.ensures.made
           (c.in_ok-found.ensures ∙ ap found_reply is);
       from = omega (arith, from);
     }

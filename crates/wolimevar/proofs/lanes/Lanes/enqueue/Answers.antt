@@ -11,4 +11,4 @@ returns g c =
     (λ added. HasDoneWithLanes c.args.tx.now c.args.self.now (λ lanes t. IsAdded c.args.self.now.gates lanes c.args.item added t) c.call.new.self)
     c.room_in.result
     (λ added is. has_added c.args.tx.now c.call.new.self c.args.self.now c.own.result c.in_ok-number.number c.args.item added c.in_ok-reply.reply
-    c.own.ensures c.in_ok-number.ensures c.in_ok-reply.ensures is) c.room_in.ensures
+    c.own.ensures c.in_ok-number.ensures c.in_ok-reply.ensures.made is) c.room_in.ensures

@@ -6,4 +6,4 @@ pub gates-preserved : goal.gates-preserved
 gates-preserved g c =
     let adds : c.in-Some.more ≡ c.gates.total + c.in_ok-count.count = search rules in
     then_summed c.args.self.now c.gates.self c.call.new.self c.args.store c.args.gates.first c.gates.i c.gates.total c.in_ok-number.number
-    c.in_ok-count.count c.in-Some.more c.in_ok-reply.reply c.gates.invariant c.in_ok-reply.ensures c.in_ok-number.ensures c.in_ok-count.ensures adds
+    c.in_ok-count.count c.in-Some.more c.in_ok-reply.reply c.gates.invariant c.in_ok-reply.ensures.made c.in_ok-number.ensures c.in_ok-count.ensures adds
