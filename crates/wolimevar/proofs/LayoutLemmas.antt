@@ -1,16 +1,18 @@
 -- Collections over several gates, as they are laid out: each entry in the part that has its key.
 use Rattle.std.proofs.Common.{◌≡◌, ℕ, zero, suc, ◌+◌, ◌<◌, ◌≤◌, ◌==◌, Bool, true, false, cond, List, [], ◌∷◌, ◌++◌, length, map, Some, None, Option}
-use Rattle.std.proofs.Common.{refl, sym, ap, subst, ◌∙◌, arith, eqb-true, replicate}
+use Rattle.std.proofs.Common.{refl, sym, ap, subst, ◌∙◌, arith, eqb-true, get_or, replicate}
 use Rattle.std.specs.Prelude.{All, option_map, slice_get, slice_set, if◌then◌else◌}
 use Rattle.std.specs.Cmp.{nat_cmp_total}
 use Rattle.std.specs.Ordering.{nat_cmp}
 use Rattle.std.specs.FinMap.{FinMap, empty, get, get-empty, insert, nat_cmp-IsAntisymmetric, retain_keys, same_map}
 use Rattle.std.proofs.lemmas.Bool.Decides.{nat_tests}
-use Rattle.std.proofs.lemmas.Option.{get_or_from_slice_get, slice_get-map}
+use Rattle.std.proofs.lemmas.Option.{get_or_from_slice_get, slice_get-map, slice_get_read}
+use Rattle.std.proofs.lemmas.List.Sums.{fold_push}
 use Rattle.std.proofs.lemmas.List.{length-map, length-replicate, length-set, replicate_more}
 use Rattle.seq_model.specs.declared.held.Held.{Held}
 use Rattle.seq_model.specs.declared.held.Held.TheVariants as held
 use Rattle.seq_model.specs.Counts.{HasNoZero, Multiset}
+use Rattle.seq_model.specs.Entries.{inserts}
 use Rattle.wolimevar.specs.declared.gates.Gates.{Gates}
 use Rattle.wolimevar.specs.Gates.{AreParts, LieOver, place_of}
 use Rattle.wolimevar.specs.Lanes.{AreFirstOf, AreLanes, first_lane}
@@ -124,6 +126,18 @@ module _ {X : Type 0} (g : Gates) where
       by i le false other =
           set_there parts (place_of g k) i (insert part k v) (unequal (place_of g k) i other)
           ∙ are.1 i le ∙ ap Some (sym (left_insert (λ q. place_of g q == i) u k v other))
+
+  pub then_entry : (es : List (ℕ × X)) (k : ℕ) (v : X) (parts : List (FinMap nat_cmp X)) (place : ℕ) (part next : FinMap nat_cmp X)
+      → AreParts g (inserts empty es) parts → place ≡ place_of g k → part ≡ get_or parts place part → next ≡ insert part k v
+      → AreParts g (inserts empty (es ++ (k, v) ∷ [])) (slice_set parts place next)
+  then_entry es k v parts place part next are there is put =
+      let within = place_within g k in
+      let at : slice_get parts place ≡ Some part = slice_get_read parts (g.others + 1) place part (sym are.0) (omega (arith, there, within)) is in
+      let more : insert (inserts empty es) k v ≡ inserts empty (es ++ (k, v) ∷ []) = sym (fold_push (λ m e. insert m e.0 e.1) empty es (k, v)) in
+      let with_it = with_entry (inserts empty es) parts k v part are (subst (λ p. slice_get parts p ≡ Some part) there at) in
+      subst (λ u. AreParts g u (slice_set parts place next)) more
+      (subst (λ p. AreParts g (insert (inserts empty es) k v) (slice_set parts p next)) (sym there)
+      (subst (λ m. AreParts g (insert (inserts empty es) k v) (slice_set parts (place_of g k) m)) (sym put) with_it))
 
 -- ---- the parts of a multiset have no zero
 kept_no_zero : (u : Multiset) (p : ℕ → Bool) → HasNoZero u → HasNoZero (retain_keys u p)

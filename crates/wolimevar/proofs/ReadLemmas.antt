@@ -195,3 +195,8 @@ module _ {V : Type 0} (g : Gates) (hs : List (Held V)) where
       below_same (λ i. length (items_of (slice_get hs (g.first + i)))) (λ i. length (lanes i)) (g.others + 1)
       (λ i lt. ap (λ o. length (items_of o)) (are i (omega (arith, lt))).1)
       ∙ sym (total_below lanes (g.others + 1))
+
+  pub lane_read : (lanes : ℕ → List ℕ) → AreLanes g lanes hs → (i head : ℕ) (items : List ℕ) → i ≤ g.others
+      → slice_get hs (g.first + i) ≡ Some (held.Queue head items) → Some items ≡ Some (lanes i)
+  lane_read lanes are i head items le at =
+      let both : Some (held.Queue head items) ≡ Some (held.Queue (are i le).0 (lanes i)) = sym at ∙ (are i le).1 in cc

@@ -48,7 +48,7 @@ impl Lanes {
 
     /// Takes the first item of a lane out, and returns it: of the client's own lane, or of the next one after it that has any, the first
     /// lane being after the last. `None` where all lanes are empty.
-    #[tactic(auto, using(crate::proofs::LaneLemmas::taken_first, crate::proofs::LaneLemmas::taken_then))]
+    #[tactic(auto, using(crate::proofs::LaneLemmas::taken_first))]
     pub fn dequeue<V: Value, S: Scope<V>>(
         &self,
         tx: &mut Transaction<'_, V, S>,

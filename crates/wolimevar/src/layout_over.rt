@@ -51,7 +51,7 @@ impl<V: Value> Layout<V> {
     }
 
     /// Adds a multiset over so many gates, each of so many stripes, that holds these counts at first. See `map_over`.
-    #[tactic(auto, using(crate::proofs::LayoutLemmas::laid_bag, crate::proofs::LayoutLemmas::parts_no_zero))]
+    #[tactic(auto, using(crate::proofs::LayoutLemmas::laid_bag))]
     pub fn bag_over(&mut self, gates: u32, stripes: u32, counts: Counts) -> Result<Bag, Refusal>
         ensures same { self.new.store ≡ self.old.store }
         ensures store { IfOk result (λ handle. handle.store ≡ self.new.store) }
