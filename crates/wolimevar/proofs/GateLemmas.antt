@@ -15,10 +15,10 @@ use Rattle.seq_model.specs.declared.call.Reply.TheVariants as replies
 use Rattle.seq_model.specs.declared.held.Held.{Held}
 use Rattle.seq_model.specs.declared.held.Held.TheVariants as held
 use Rattle.seq_model.specs.declared.limits.TheConstants.{COPY_LIMIT}
-use Rattle.seq_model.specs.Calls.{add_call, held_call, map_call, multiset_call, take_call, value_reply}
+use Rattle.seq_model.specs.Calls.{add_call, held_call, take_call, value_reply}
 use Rattle.seq_model.specs.Contents.{Contents, call_of, collection_call, op_call}
 use Rattle.seq_model.specs.Counts.{Multiset, copies, with_copies}
-use Rattle.seq_model.specs.Runs.{IsLegal, after_call, after_calls, reply_of}
+use Rattle.seq_model.specs.Runs.{after_call, reply_of}
 use Rattle.seq_model.proofs.RunLemmas.{answered}
 use Rattle.wolimevar.specs.declared.bags.Bag.{Bag}
 use Rattle.wolimevar.specs.declared.gates.Gates.{Gates}

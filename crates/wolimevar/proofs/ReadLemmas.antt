@@ -13,7 +13,7 @@ use Rattle.seq_model.specs.declared.held.Held.TheVariants as held
 use Rattle.wolimevar.specs.declared.gates.Gates.{Gates}
 use Rattle.wolimevar.specs.Gates.{LieOver, place_of}
 use Rattle.wolimevar.specs.Lanes.{AreLanes, total_of}
-use Rattle.wolimevar.specs.Read.{HasAll, bag_entries, entries_from, left_in, map_entries}
+use Rattle.wolimevar.specs.Read.{HasAll, bag_entries, entries_from, map_entries}
 use Rattle.wolimevar.proofs.GateLemmas.{kept_at, kept_get, place_within, unequal}
 use Rattle.wolimevar.proofs.SumLemmas.{below, below_first, below_same, entries_make, lens_add_up}
 use Rattle.wolimevar.proofs.LaneLemmas.{total_below}

@@ -24,8 +24,8 @@ use Rattle.seq_model.proofs.ChangeLemmas.{unchanged}
 use Rattle.seq_model.proofs.RunLemmas.{after_reads}
 use Rattle.wolimevar.specs.declared.gates.Gates.{Gates}
 use Rattle.wolimevar.specs.declared.maps.Map.{Map}
-use Rattle.wolimevar.specs.Answered.{AreOneCall, AreSummed, HasMadeMore, HasSummed, IsCallOn, MapAnswers, len_calls}
-use Rattle.wolimevar.specs.Gates.{AreSameBeside, LieOver, place_of}
+use Rattle.wolimevar.specs.Answered.{AreOneCall, AreSummed, HasSummed, IsCallOn, MapAnswers, len_calls}
+use Rattle.wolimevar.specs.Gates.{LieOver, place_of}
 use Rattle.wolimevar.specs.Made.{HasMade, TransactionShown}
 use Rattle.wolimevar.proofs.GateLemmas.{place_within}
 

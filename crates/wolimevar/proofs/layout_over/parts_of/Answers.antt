@@ -1,4 +1,4 @@
-use Rattle.std.proofs.Common.{◌≡◌, ◌∙◌, ap, map, map-id, subst, sym}
+use Rattle.std.proofs.Common.{◌≡◌, ◌∙◌, ap, map-id, subst, sym}
 use Rattle.std.specs.FinMap.{empty, entries}
 use Rattle.std.proofs.lemmas.Map.Iter.{iter_end}
 use Rattle.seq_model.specs.Entries.{inserts}

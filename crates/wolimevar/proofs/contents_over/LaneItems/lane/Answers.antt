@@ -15,5 +15,5 @@ returns-in-Some-Queue g c = λ lanes are le.
 pub returns-in_default : goal.returns-in_default
 returns-in_default g c = λ lanes are le.
     let there : slice_get c.args.self.now.held.now (c.args.self.now.gates.first + c.args.lane)
-        ≡ Some (held.Queue (are c.args.lane le).0 (lanes c.args.lane)) = (are c.args.lane le).1 in
+    ≡ Some (held.Queue (are c.args.lane le).0 (lanes c.args.lane)) = (are c.args.lane le).1 in
     grind (arith, common_steps)
