@@ -25,7 +25,7 @@ pub(crate) struct Collection<V> {
 /// What a store opens with. Each word and each collection that is added returns its handle, by which transactions call it.
 ///
 /// A collection is in 1 to 4,096 stripes, a priority queue in at most 4,095. Calls on different stripes of it don't conflict, so more
-/// stripes let more transactions commit beside each other; each stripe is one location more to read where a call needs them all.
+/// stripes let more transactions commit beside each other. But `len` of a map and `take_least` read all stripes, each a location more.
 pub struct Layout<V> {
     pub(crate) alloc: Global,
     pub(crate) store: u32,

@@ -29,8 +29,8 @@ impl<V: Value> Layout<V> {
     }
 
     /// Adds a map over so many gates, each of so many stripes, that holds these entries at first. It is called like any other map; calls
-    /// on different keys seldom take the same gate, so it is faster with several threads. It counts as so many collections of the store.
-    /// `TooLong` for no gates, or more than 256; otherwise refused like `word`.
+    /// on different keys seldom take the same gate, so it is faster with several threads, but `len` reads all stripes of all gates. It
+    /// counts as so many collections of the store. `TooLong` for no gates, or more than 256; otherwise refused like `word`.
     #[tactic(auto, using(crate::proofs::LayoutLemmas::laid_map))]
     pub fn map_over(
         &mut self,

@@ -2,8 +2,9 @@
 //!
 //! A service has five steps:
 //!
-//! 1. A [`Layout`] lists the words and the collections. Adding one returns its handle: [`Word`], [`Map`], [`Bag`], [`PriorityQueue`] or
-//!    [`Queue`]. Handles are `Copy`, so each thread has them.
+//! 1. A [`Layout`] lists the words and the collections. Adding one returns its handle: [`Word`], [`Map`], [`Bag`], [`PriorityQueue`],
+//!    [`Queue`] or [`Lanes`]. Handles are `Copy`, so each thread has them. What several threads call at once is laid over several gates:
+//!    [`Layout::map_over`], [`Layout::bag_over`], [`Layout::lanes`].
 //! 2. [`Layout::open`] opens a [`Store`].
 //! 3. A [`Body`] is what runs as one transaction: straight code over the handles' calls. It is all done or nothing is, and it sees one state
 //!    of the store.
