@@ -123,7 +123,8 @@ fn serve<R: Threads + Sync>(rt: &R, alloc: Global) -> Result<(Vec<u64>, usize, u
     }
     let mut layout = Layout::new(alloc);
     let bank = Bank {
-        accounts: layout.map(4, accounts)?,
+        // Several tellers call the accounts at once: over four gates they seldom wait for each other.
+        accounts: layout.map_over(4, 4, accounts)?,
         audit: layout.queue(1, QueueItems::new(alloc))?,
         alerts: layout.priority_queue(1, Counts::new(alloc))?,
     };

@@ -30,12 +30,38 @@ fn print_found<V: Number>(
     )
 }
 
+/// Prints what collections over several gates hold: how many keys a map has, their sum, the value at key 2, the copies of 3, how many
+/// elements a multiset has, and how many items all lanes have.
+fn print_wide<V: Number>(
+    text: &mut String,
+    contents: &Contents<V>,
+    handles: &Handles<V>,
+) -> Result<(), AllocError> {
+    let Some(entries) = contents.map(handles.wide_map) else {
+        return text.push_str("no map");
+    };
+    let mut keys = 0u64;
+    for (key, _) in entries.iter() {
+        keys = keys.saturating_add(*key);
+    }
+    let (len, value) = (entries.len(), entries.get(2).map(|value| value.number()));
+    let counts = contents.bag(handles.wide_bag);
+    let copies = counts.map_or(0, |counts| counts.copies(3));
+    let elements = counts.map_or(0, |counts| counts.iter().count());
+    let items = contents.lanes(handles.lanes).map_or(0, |lanes| lanes.len());
+    writeln!(
+        text,
+        "over gates = {len} {keys} {value:?} {copies} {elements} {items}"
+    )
+}
+
 fn print_all<V: Number>(
     text: &mut String,
     contents: &Contents<V>,
     all: &All<V>,
 ) -> Result<(), AllocError> {
     print_found(text, "contents", contents, &all.own)?;
+    print_wide(text, contents, &all.own)?;
     print_found(text, "contents beyond the layout", contents, &all.beyond)?;
     print_found(text, "contents of another store", contents, &all.other)
 }

@@ -2,13 +2,14 @@
 use crate::numbers::Number;
 use std::alloc::Global;
 use wolimevar::{
-    Bag, Counts, Layout, Map, Memory, PriorityQueue, Queue, QueueItems, Refusal, Store, Word,
+    Bag, Counts, Lanes, Layout, Map, Memory, PriorityQueue, Queue, QueueItems, Refusal, Store, Word,
 };
 
 /// The most copies of an element.
 const COPIES: u64 = 4_294_967_295;
 
-/// Words, a collection of each kind, and two in which 7 has the most copies that it can have.
+/// Words, a collection of each kind, two in which 7 has the most copies that it can have, and a map, a multiset and a queue that lie over
+/// three gates.
 #[derive(Drop)]
 #[derive_where(Clone, Copy)]
 pub struct Handles<V> {
@@ -19,6 +20,9 @@ pub struct Handles<V> {
     pub queue: Queue,
     pub full_bag: Bag,
     pub full_least: PriorityQueue,
+    pub wide_map: Map<V>,
+    pub wide_bag: Bag,
+    pub lanes: Lanes,
 }
 
 /// The handles of a store, and those of another store, beyond the layout, and of another kind.
@@ -61,6 +65,9 @@ fn lay_out<V: Number>(alloc: Global, layout: &mut Layout<V>) -> Result<Handles<V
         queue: layout.queue(1, QueueItems::new(alloc))?,
         full_bag: layout.bag(1, full(alloc)?)?,
         full_least: layout.priority_queue(1, full(alloc)?)?,
+        wide_map: layout.map_over(3, 2, V::entries(alloc)?)?,
+        wide_bag: layout.bag_over(3, 2, Counts::new(alloc))?,
+        lanes: layout.lanes(3, 1, QueueItems::new(alloc))?,
     })
 }
 
@@ -77,6 +84,9 @@ fn lay_out_reversed<V: Number>(
         map: layout.map(1, V::entries(alloc)?)?,
         full_least: layout.priority_queue(1, full(alloc)?)?,
         full_bag: layout.bag(1, full(alloc)?)?,
+        wide_bag: layout.bag_over(3, 1, Counts::new(alloc))?,
+        lanes: layout.lanes(3, 1, QueueItems::new(alloc))?,
+        wide_map: layout.map_over(3, 1, V::entries(alloc)?)?,
     })
 }
 

@@ -23,12 +23,15 @@ fn lay_out(alloc: Global, layout: &mut Layout<u64>, asked: &str) -> Result<(), R
     match kind {
         "bags" => add_bags(alloc, layout, number),
         "stripes" => layout.map(stripes, Entries::new(alloc)).map(|_| ()),
+        "gates" => layout.map_over(stripes, 1, Entries::new(alloc)).map(|_| ()),
+        "lanes" => layout.lanes(stripes, 1, QueueItems::new(alloc)).map(|_| ()),
         "queue" => layout.queue(stripes, QueueItems::new(alloc)).map(|_| ()),
         _ => layout.bag(1, copies(alloc, number)?).map(|_| ()),
     }
 }
 
-/// Opens such a layout: so many `bags`, a map of so many `stripes`, a `queue` of so many, or so many `copies` of an element.
+/// Opens such a layout: so many `bags`, a map of so many `stripes`, a `queue` of so many, a map over so many `gates`, so many `lanes`, or
+/// so many `copies` of an element.
 pub fn opens(alloc: Global, asked: &str) -> Result<(), Refusal> {
     let mut layout = Layout::new(alloc);
     let laid = lay_out(alloc, &mut layout, asked);

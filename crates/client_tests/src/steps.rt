@@ -4,7 +4,7 @@ use crate::numbers::Number;
 use std::alloc::AllocError;
 use std::fmt;
 use std::fmt::Write;
-use wolimevar::{Bag, Full, Map, PriorityQueue, Queue, Refusal, Scope, Transaction, Word};
+use wolimevar::{Bag, Full, Lanes, Map, PriorityQueue, Queue, Refusal, Scope, Transaction, Word};
 
 /// How often a step after `until` is taken at most.
 const TIMES: u64 = 5_000;
@@ -164,6 +164,19 @@ fn on_queue<V: Number, S: Scope<V>>(
     }
 }
 
+fn on_lanes<V: Number, S: Scope<V>>(
+    tx: &mut Transaction<'_, V, S>,
+    lanes: Lanes,
+    op: &str,
+    item: u64,
+) -> Result<Reply, Refusal> {
+    match op {
+        "enqueue" => lanes.enqueue(tx, item).map(room),
+        "dequeue" => lanes.dequeue(tx).map(found),
+        _ => lanes.len(tx).map(Reply::Number),
+    }
+}
+
 /// Makes the call that a step spells: a handle, what is done, and up to two numbers.
 fn make<V: Number, S: Scope<V>>(
     tx: &mut Transaction<'_, V, S>,
@@ -182,6 +195,9 @@ fn make<V: Number, S: Scope<V>>(
         "least" => on_least(tx, handles.least, op, first),
         "full_least" => on_least(tx, handles.full_least, op, first),
         "queue" => on_queue(tx, handles.queue, op, first),
+        "wide_map" => on_map(tx, handles.wide_map, op, first, second),
+        "wide_bag" => on_bag(tx, handles.wide_bag, op, first),
+        "lanes" => on_lanes(tx, handles.lanes, op, first),
         _ => on_word(tx, word_of(handles.words, name), op, first),
     }
 }

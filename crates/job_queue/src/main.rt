@@ -4,7 +4,7 @@
 use std::alloc::Global;
 use std::thread::{Threads, yield_now};
 use wolimevar::{
-    Bag, Body, Client, Counts, Entries, Layout, Map, PriorityQueue, Queue, QueueItems, Refusal,
+    Bag, Body, Client, Counts, Entries, Lanes, Layout, Map, PriorityQueue, QueueItems, Refusal,
     Scope, Session, Transaction, Word,
 };
 
@@ -18,7 +18,7 @@ struct Jobs {
     ready: PriorityQueue,
     tries: Map<u64>,
     ended: Bag,
-    dead: Queue,
+    dead: Lanes,
     left: Word,
 }
 
@@ -124,7 +124,8 @@ fn serve<R: Threads + Sync>(rt: &R, alloc: Global) -> Result<String, Refusal> {
         ready: layout.priority_queue(1, Counts::new(alloc))?,
         tries: layout.map(4, Entries::new(alloc))?,
         ended: layout.bag(4, Counts::new(alloc))?,
-        dead: layout.queue(1, QueueItems::new(alloc))?,
+        // The order in which jobs died doesn't matter: in a lane of its own no worker waits for another.
+        dead: layout.lanes(3, 1, QueueItems::new(alloc))?,
         left: layout.word(200)?,
     };
     let mut store = layout.open()?;
@@ -137,7 +138,7 @@ fn serve<R: Threads + Sync>(rt: &R, alloc: Global) -> Result<String, Refusal> {
     let contents = store.close()?;
     let ended = contents.bag(jobs.ended).ok_or(Refusal::NoSuch)?;
     let once = ended.iter().filter(|entry| *entry.1 == 1).count();
-    let dead = contents.queue(jobs.dead).map_or(0, |items| items.len());
+    let dead = contents.lanes(jobs.dead).map_or(0, |lanes| lanes.len());
     Ok(format!(in alloc; "{tries} tries, {once} jobs ended just once, {dead} of them dead")?)
 }
 

@@ -1,7 +1,8 @@
 //! Transactions at seats of a shared table, each seat in a thread of its own, beside the same calls under one lock.
+use crate::gated::Kind;
 use crate::outcomes::Outcomes;
 use crate::work::{On, Work};
-use crate::{locked, seats};
+use crate::{gated, locked, seats};
 use std::io;
 use std::rt::Runtime;
 use std::sync::Wait;
@@ -21,7 +22,35 @@ pub fn measure<R: Runtime + AllocGlobal + Threads + Wait + Sync>(rt: &R) -> io::
             }
         }
     }
+    for kind in [
+        Kind::Map(1, 1),
+        Kind::Map(8, 1),
+        Kind::Lanes(1),
+        Kind::Lanes(4),
+    ] {
+        for threads in [1, 2, 4] {
+            report_gated(rt, kind, threads, TRANSACTIONS)?;
+        }
+    }
     Ok(())
+}
+
+/// By the clients of a store.
+pub fn report_gated<R: Runtime + AllocGlobal + Threads + Sync>(
+    rt: &R,
+    kind: Kind,
+    threads: u32,
+    transactions: u32,
+) -> io::Result<()> {
+    let (committed, refused, seconds) = gated::time(rt, kind, threads, transactions)?;
+    let speed = f64::from(u32::try_from(committed).unwrap_or(u32::MAX)) / seconds / 1e3;
+    let (name, writes) = match kind {
+        Kind::Map(gates, writes) => (format!(in rt.alloc(); "a map over {gates} gates")?, writes),
+        Kind::Lanes(lanes) => (format!(in rt.alloc(); "a queue in {lanes} lanes")?, 10),
+    };
+    println!(rt;
+        "{name}, {writes} writes of ten calls, {threads} threads: {speed:.0} thousand transactions a second; refused: {refused}"
+    )
 }
 
 pub fn report_seats<R: Runtime + AllocGlobal + Threads + Sync>(

@@ -6,9 +6,12 @@
 //!   priority queue (3) or a queue (4), of whose calls WRITES of ten change something, in 1, 2 or 4 threads;
 //! - `sessions MIX RELATIONS CLIENTS SESSIONS`: of drawn sessions at seats of a shared table, with low contention (MIX 0), with high
 //!   contention (1), or long ones (2), of 1 to 64 clients;
+//! - `gated KIND GATES THREADS TRANSACTIONS`: of transactions by the clients of a store, on a map over GATES gates of whose calls none
+//!   (KIND 0) or one of ten (1) changes something, or a queue in GATES lanes (2);
 //! - `lock MIX RELATIONS CLIENTS SESSIONS`: of the same sessions under one lock.
 #![tactic(auto)]
 
+use gated::Kind;
 use sessions::{Mix, options};
 use std::alloc::Global;
 use std::rt::Runtime;
@@ -20,6 +23,7 @@ use work::{On, Work};
 mod bases;
 mod clock;
 mod engine;
+mod gated;
 mod lock;
 mod locked;
 mod ordered;
@@ -49,6 +53,8 @@ With numbers behind it, a name runs one row alone:
 
   engine KIND WRITES THREADS TRANSACTIONS     KIND: 0 words, 1 a map, 2 a map whose number of keys is read, 3 a priority queue, 4 a queue
                                               WRITES: how many of ten calls change something; THREADS: 1, 2 or 4
+  gated KIND GATES THREADS TRANSACTIONS       KIND: 0 a map over GATES gates, which is read, 1 with one write of ten calls, 2 a queue in
+                                              GATES lanes; THREADS: 1 to 63
   sessions MIX RELATIONS CLIENTS SESSIONS     MIX: 0 low contention, 1 high contention, 2 long sessions; CLIENTS: 1 to 64
   lock MIX RELATIONS CLIENTS SESSIONS         the same sessions under one lock
 ";
@@ -109,6 +115,9 @@ fn measure_one<R: Runtime + AllocGlobal + Threads + Wait + Sync>(
         ("engine", [kind, writes, threads, transactions]) => {
             engine::report_seats(rt, work_of(*kind, *writes)?, *threads, *transactions)
         }
+        ("gated", [kind, gates, threads, transactions]) => {
+            engine::report_gated(rt, kind_of(*kind, *gates)?, *threads, *transactions)
+        }
         ("sessions", [mix, relations, clients, sessions]) => {
             let mix = mix_of(*mix)?;
             rows::report_table(rt, mix, &options(mix, *relations, *clients, *sessions), 1)
@@ -127,6 +136,15 @@ fn mix_of(mix: u32) -> io::Result<Mix> {
         1 => Ok(Mix::High),
         2 => Ok(Mix::Long),
         _ => Err(io::Error::other("no mix has this number")),
+    }
+}
+
+fn kind_of(kind: u32, gates: u32) -> io::Result<Kind> {
+    match kind {
+        0 => Ok(Kind::Map(gates, 0)),
+        1 => Ok(Kind::Map(gates, 1)),
+        2 => Ok(Kind::Lanes(gates)),
+        _ => Err(io::Error::other("no kind has this number")),
     }
 }
 

@@ -5,6 +5,7 @@ use Rattle.seq_model.specs.Runs.{IsInCommitOrder, IsRun, after_run}
 use Rattle.seq_model.specs.declared.event.Request.{Request}
 use Rattle.seq_model.specs.declared.held.Held.{Held}
 use Rattle.seq_model.specs.declared.record.Record.{Record}
+use Rattle.wolimevar.specs.declared.gates.Gates.{Gates}
 use Rattle.wolimevar.specs.declared.tally.Tally.{Tally}
 use Rattle.tx_table.specs.Shown.{total}
 
@@ -23,6 +24,10 @@ module _ {V : Type 0} where
   -- a handle of a store with this number is one of the own store, and its collection holds this
   abbrev pub HeldAt : ℕ → Contents V → ℕ → ℕ → Held V → Type 0
   HeldAt own s store number h = (own ≡ store) × (slice_get s.held number ≡ Some h)
+
+  -- a handle of a store with this number is one of the own store, and this is what all collections hold, and where its own lies
+  abbrev pub AreHeld : ℕ → Contents V → ℕ → Gates → List (Held V) → Gates → Type 0
+  AreHeld own s store g held lies = (own ≡ store) × (held ≡ s.held) × (lies ≡ g)
 
   -- and so of a word
   abbrev pub WordAt : ℕ → Contents V → ℕ → ℕ → ℕ → Type 0

@@ -15,6 +15,7 @@ ghost use Rattle.wolimevar.specs.Frames.{HasMadeCalls, calls_made};
 ghost use Rattle.wolimevar.specs.Tallies.{AreCounted};
 
 use crate::body::Body;
+use crate::caller::Caller;
 use crate::failures::Failure;
 use crate::scope::Scope;
 use crate::tally::Tally;
@@ -71,7 +72,7 @@ fn begin<V: Value>(table: &TxTable<V>, seat: &mut TxSeat<V>, declared: bool) -> 
 /// Runs the body in the open transaction of the seat, and returns the seat after the body's calls.
 fn run_in<V: Value, S: Scope<V>, B: Body<V>>(
     table: &TxTable<V>,
-    store: u32,
+    caller: Caller,
     seat: TxSeat<V>,
     body: &B,
 ) -> (TxSeat<V>, Ran<B::Out, B::Error>)
@@ -87,7 +88,8 @@ fn run_in<V: Value, S: Scope<V>, B: Body<V>>(
     let mut tx: Transaction<'_, V, S> = Transaction {
         table,
         seat,
-        store,
+        store: caller.store,
+        lane: caller.lane,
         refused: None,
         scope: PhantomData,
     };
@@ -96,6 +98,7 @@ fn run_in<V: Value, S: Scope<V>, B: Body<V>>(
         table: _,
         seat,
         store: _,
+        lane: _,
         refused,
         scope: _,
     } = tx;
@@ -105,7 +108,7 @@ fn run_in<V: Value, S: Scope<V>, B: Body<V>>(
 /// Runs the body in the open transaction of the seat, see `run_in`.
 fn run<V: Value, B: Body<V>>(
     table: &TxTable<V>,
-    store: u32,
+    caller: Caller,
     seat: TxSeat<V>,
     body: &B,
 ) -> (TxSeat<V>, Ran<B::Out, B::Error>)
@@ -117,7 +120,7 @@ fn run<V: Value, B: Body<V>>(
     ensures made { IfOk result.1.gave (λ out. B.makes body.now out (calls_made (opening_of table.now) result.0.seat)) }
     ensures aborts { IfErr result.1.gave (λ error. B.aborts body.now error (calls_made (opening_of table.now) result.0.seat)) }
 {
-    run_in::<V, Brand, B>(table, store, seat, body)
+    run_in::<V, Brand, B>(table, caller, seat, body)
 }
 
 /// Commits the transaction, or aborts it where its body returned an error. Where a call ended the transaction and the body went on, the
@@ -164,7 +167,7 @@ fn first_refusal(refused: Option<Refusal>, cause: Refusal) -> Refusal {
 /// One attempt of a body.
 fn attempt<V: Value, B: Body<V>>(
     table: &TxTable<V>,
-    store: u32,
+    caller: Caller,
     seat: TxSeat<V>,
     body: &B,
     declared: bool,
@@ -179,7 +182,7 @@ fn attempt<V: Value, B: Body<V>>(
     if let Err(cause) = begin(table, &mut seat, declared) {
         return (seat, Err(Failure::Refused(cause)));
     }
-    let (mut seat, ran) = run(table, store, seat, body);
+    let (mut seat, ran) = run(table, caller, seat, body);
     let ended = finish(table, &mut seat, ran, declared);
     (seat, ended)
 }
@@ -188,7 +191,7 @@ fn attempt<V: Value, B: Body<V>>(
 /// is counted.
 pub(crate) fn retry<V: Value, B: Body<V>>(
     table: &TxTable<V>,
-    store: u32,
+    caller: Caller,
     seat: TxSeat<V>,
     tally: Tally,
     body: &B,
@@ -206,13 +209,13 @@ pub(crate) fn retry<V: Value, B: Body<V>>(
     ensures counted { AreCounted tries tally result.1 result.2 }
     ensures reads { IfOk result.2 (λ done. declared ≡ true → done.1.writes ≡ false) }
 {
-    let (mut seat, mut ended) = attempt(table, store, seat, body, declared);
+    let (mut seat, mut ended) = attempt(table, caller, seat, body, declared);
     let mut counted = tally.with_end(&ended);
     'tries: for i in 1..tries {
         match ended {
             Err(Failure::Refused(cause)) if cause.is_conflict() => {
                 wait(i);
-                (seat, ended) = attempt(table, store, seat, body, declared);
+                (seat, ended) = attempt(table, caller, seat, body, declared);
                 counted = counted.with_end(&ended);
             }
             _ => return (seat, counted, ended),

@@ -2,9 +2,11 @@
 ghost use Rattle.std.specs.Prelude.{◌≡◌, IfOk};
 ghost use Rattle.seq_model.specs.declared.call.Op.TheVariants as op;
 ghost use Rattle.seq_model.specs.declared.call.Reply.TheVariants as replies;
-ghost use Rattle.wolimevar.specs.Made.{HasMade, room_reply, yes_reply};
+ghost use Rattle.wolimevar.specs.Answered.{BagAnswers};
+ghost use Rattle.wolimevar.specs.Made.{room_reply, yes_reply};
 
 use crate::changes::Full;
+use crate::gates::Gates;
 use crate::replies::{number_in, room_in, yes_in};
 use crate::scope::Scope;
 use crate::transaction::Transaction;
@@ -14,15 +16,15 @@ use seq_model::{Op, Refusal, Value};
 #[derive(Clone, Copy)]
 pub struct Bag {
     pub(crate) store: u32,
-    pub(crate) number: u32,
+    pub(crate) gates: Gates,
 }
 
 impl Bag {
-    pub(crate) fn of(store: u32, number: u32) -> Bag
+    pub(crate) fn over(store: u32, gates: Gates) -> Bag
         ensures store { result.store ≡ store }
-        ensures number { result.number ≡ number }
+        ensures gates { result.gates ≡ gates }
     {
-        Bag { store, number }
+        Bag { store, gates }
     }
 
     /// How many copies of the element the multiset has.
@@ -37,9 +39,9 @@ impl Bag {
         tx: &mut Transaction<'_, V, S>,
         element: u64,
     ) -> Result<u64, Refusal>
-        ensures { IfOk result (λ count. HasMade tx.old self.now.store self.now.number (op.Count element) (replies.Number count) tx.new) }
+        ensures { IfOk result (λ count. BagAnswers tx.old self.now (op.Count element) (replies.Number count) tx.new) }
     {
-        let reply = tx.call(self.store, self.number, Op::Count(element))?;
+        let reply = tx.call_at(self.store, self.gates, element, Op::Count(element))?;
         number_in(reply)
     }
 
@@ -54,9 +56,9 @@ impl Bag {
         tx: &mut Transaction<'_, V, S>,
         element: u64,
     ) -> Result<Result<(), Full>, Refusal>
-        ensures { IfOk result (λ added. HasMade tx.old self.now.store self.now.number (op.Add element) (room_reply added) tx.new) }
+        ensures { IfOk result (λ added. BagAnswers tx.old self.now (op.Add element) (room_reply added) tx.new) }
     {
-        let reply = tx.call(self.store, self.number, Op::Add(element))?;
+        let reply = tx.call_at(self.store, self.gates, element, Op::Add(element))?;
         room_in(reply)
     }
 
@@ -72,9 +74,9 @@ impl Bag {
         tx: &mut Transaction<'_, V, S>,
         element: u64,
     ) -> Result<bool, Refusal>
-        ensures { IfOk result (λ taken. HasMade tx.old self.now.store self.now.number (op.Take element) (yes_reply taken) tx.new) }
+        ensures { IfOk result (λ taken. BagAnswers tx.old self.now (op.Take element) (yes_reply taken) tx.new) }
     {
-        let reply = tx.call(self.store, self.number, Op::Take(element))?;
+        let reply = tx.call_at(self.store, self.gates, element, Op::Take(element))?;
         yes_in(reply)
     }
 }

@@ -10,6 +10,7 @@ ghost use Rattle.wolimevar.specs.Runners.{HasRun};
 ghost use Rattle.wolimevar.specs.Tallies.{AreCounted};
 
 use crate::body::Body;
+use crate::caller::Caller;
 use crate::failures::Failure;
 use crate::runner::Runner;
 use crate::scope::Scope;
@@ -52,7 +53,7 @@ impl<'t, V, S: Scope<V>> Model for Client<'t, V, S> {
 }
 
 impl<'t, V: Value, S: Scope<V>> Client<'t, V, S> {
-    pub(crate) fn of(table: &'t TxTable<V>, store: u32, seat: TxSeat<V>) -> Client<'t, V, S>
+    pub(crate) fn of(table: &'t TxTable<V>, caller: Caller, seat: TxSeat<V>) -> Client<'t, V, S>
         requires ready { IsReady table.now seat }
         requires frame { S.frame ≡ Some (record { table = table.now; begun = Some seat }) }
         requires none { (view seat.seat).receipts ≡ [] }
@@ -61,7 +62,7 @@ impl<'t, V: Value, S: Scope<V>> Client<'t, V, S> {
         Client {
             table,
             runner: Runner {
-                store,
+                caller,
                 seat: Some(seat),
                 tally: Tally::new(),
             },
@@ -80,7 +81,7 @@ impl<'t, V: Value, S: Scope<V>> Client<'t, V, S> {
             scope: _,
         } = self;
         let Runner {
-            store: _,
+            caller: _,
             seat,
             tally: _,
         } = runner;

@@ -1,14 +1,16 @@
 //! What a store holds at its end.
 ghost use Rattle.std.specs.Prelude.{◌≡◌, IfSome, Some, slice_get};
 ghost use Rattle.seq_model.specs.declared.held.Held.TheVariants as held;
-ghost use Rattle.wolimevar.specs.Stores.{HeldAt, WordAt};
+ghost use Rattle.wolimevar.specs.Stores.{AreHeld, HeldAt, WordAt};
 
 use crate::bags::Bag;
+use crate::contents_over::{BagCounts, LaneItems, MapEntries};
+use crate::lanes::Lanes;
 use crate::maps::Map;
 use crate::priority_queues::PriorityQueue;
 use crate::queues::Queue;
 use crate::words::Word;
-use seq_model::{Counts, Entries, Held, QueueItems, State, Value};
+use seq_model::{Counts, Held, QueueItems, State, Value};
 
 /// What the words and the collections of a store hold once it is closed, read by their handles. A handle of a store with another number, of
 /// another kind, or beyond the layout finds `None`.
@@ -34,17 +36,29 @@ impl<V: Value> Contents<V> {
         self.state.held().get(number as usize)
     }
 
+    /// What the collections of the store with this number hold.
+    fn all_held(&self, store: u32) -> Option<&[Held<V>]>
+        ensures { IfSome result (λ held. (self.now.store ≡ store) × (held.now ≡ self.now.state.held)) }
+    {
+        if self.store != store {
+            return None;
+        }
+        Some(self.state.held())
+    }
+
     /// The entries of a map.
     ///
     /// ```
     /// let entries = contents.map(map);
     /// let value = entries.and_then(|entries| entries.get(1)); // Some(10)
     /// ```
-    pub fn map(&self, map: Map<V>) -> Option<&Entries<V>>
-        ensures { IfSome result (λ entries. HeldAt self.now.store self.now.state map.store map.number (held.Map entries.now)) }
+    pub fn map(&self, map: Map<V>) -> Option<MapEntries<'_, V>>
+        ensures { IfSome result (λ entries. AreHeld self.now.store self.now.state map.store map.gates entries.held.now entries.gates) }
     {
-        match self.held(map.store, map.number) {
-            Some(Held::Map(entries)) => Some(entries),
+        let held = self.all_held(map.store)?;
+        let gates = map.gates;
+        match gates.held_at(held, 0) {
+            Some(Held::Map(_)) => Some(MapEntries { held, gates }),
             _ => None,
         }
     }
@@ -55,11 +69,13 @@ impl<V: Value> Contents<V> {
     /// let counts = contents.bag(bag);
     /// let copies = counts.map(|counts| counts.copies(3)); // Some(2)
     /// ```
-    pub fn bag(&self, bag: Bag) -> Option<&Counts>
-        ensures { IfSome result (λ counts. HeldAt self.now.store self.now.state bag.store bag.number (held.Bag counts.now)) }
+    pub fn bag(&self, bag: Bag) -> Option<BagCounts<'_, V>>
+        ensures { IfSome result (λ counts. AreHeld self.now.store self.now.state bag.store bag.gates counts.held.now counts.gates) }
     {
-        match self.held(bag.store, bag.number) {
-            Some(Held::Bag(counts)) => Some(counts),
+        let held = self.all_held(bag.store)?;
+        let gates = bag.gates;
+        match gates.held_at(held, 0) {
+            Some(Held::Bag(_)) => Some(BagCounts { held, gates }),
             _ => None,
         }
     }
@@ -90,6 +106,18 @@ impl<V: Value> Contents<V> {
     {
         match self.held(queue.store, queue.number) {
             Some(Held::Queue { head: _, items }) => Some(items),
+            _ => None,
+        }
+    }
+
+    /// The items of a queue in lanes.
+    pub fn lanes(&self, lanes: Lanes) -> Option<LaneItems<'_, V>>
+        ensures { IfSome result (λ items. AreHeld self.now.store self.now.state lanes.store lanes.gates items.held.now items.gates) }
+    {
+        let held = self.all_held(lanes.store)?;
+        let gates = lanes.gates;
+        match gates.held_at(held, 0) {
+            Some(Held::Queue { .. }) => Some(LaneItems { held, gates }),
             _ => None,
         }
     }

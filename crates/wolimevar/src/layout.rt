@@ -1,8 +1,10 @@
 //! What a store opens with.
 ghost use Rattle.std.specs.Prelude.{◌≡◌, IfOk, Some, map, slice_get};
+ghost use Rattle.wolimevar.specs.Gates.{LieOver};
 ghost use Rattle.seq_model.specs.declared.held.Held.TheVariants as held;
 
 use crate::bags::Bag;
+use crate::gates::Gates;
 use crate::maps::Map;
 use crate::priority_queues::PriorityQueue;
 use crate::queues::Queue;
@@ -23,10 +25,12 @@ pub(crate) struct Collection<V> {
 /// What a store opens with. Each word and each collection that is added returns its handle, by which transactions call it.
 ///
 /// A collection is in 1 to 4,096 stripes, a priority queue in at most 4,095. Calls on different stripes of it don't conflict, so more
-/// stripes let more transactions commit beside each other; each stripe is one location more to read where a call needs them all.
+/// stripes let more transactions commit beside each other. But `len` of a map and `take_least` read all stripes, each a location more.
 pub struct Layout<V> {
     pub(crate) alloc: Global,
     pub(crate) store: u32,
+    /// What keys are hashed with in collections over several gates.
+    pub(crate) seed: u64,
     pub(crate) words: Vec<u64>,
     pub(crate) collections: Vec<Collection<V>>,
 }
@@ -36,6 +40,7 @@ impl<V: Drop> Drop for Layout<V> {
         let Layout {
             alloc: _,
             store: _,
+            seed: _,
             words: _,
             collections: _,
         } = self;
@@ -68,6 +73,7 @@ impl<V: Value> Layout<V> {
         Layout {
             alloc,
             store: number,
+            seed: 0,
             words: Vec::new(alloc),
             collections: Vec::new(alloc),
         }
@@ -109,13 +115,15 @@ impl<V: Value> Layout<V> {
     /// entries.insert(1, 10)?;
     /// let map = layout.map(64, entries)?;
     /// ```
+    #[tactic(auto, using(crate::proofs::LayoutLemmas::one_map))]
     pub fn map(&mut self, stripes: u32, entries: Entries<V>) -> Result<Map<V>, Refusal>
         ensures same { self.new.store ≡ self.old.store }
         ensures store { IfOk result (λ handle. handle.store ≡ self.new.store) }
-        ensures holds { IfOk result (λ handle. slice_get (map (λ c. c.held) self.new.collections.items) handle.number ≡ Some (held.Map entries)) }
+        ensures holds { IfOk result (λ handle. slice_get (map (λ c. c.held) self.new.collections.items) handle.gates.first ≡ Some (held.Map entries)) }
+        ensures lies { IfOk result (λ handle. LieOver held.Map handle.gates entries (map (λ c. c.held) self.new.collections.items)) }
     {
         let number = self.add(stripes, Held::Map(entries))?;
-        Ok(Map::of(self.store, number))
+        Ok(Map::over(self.store, Gates::one(number)))
     }
 
     /// Adds a multiset that holds these counts at first. Refused like `word`.
@@ -125,13 +133,15 @@ impl<V: Value> Layout<V> {
     /// counts.set_copies(3, 2)?;
     /// let bag = layout.bag(64, counts)?;
     /// ```
+    #[tactic(auto, using(crate::proofs::LayoutLemmas::one_bag))]
     pub fn bag(&mut self, stripes: u32, counts: Counts) -> Result<Bag, Refusal>
         ensures same { self.new.store ≡ self.old.store }
         ensures store { IfOk result (λ handle. handle.store ≡ self.new.store) }
-        ensures holds { IfOk result (λ handle. slice_get (map (λ c. c.held) self.new.collections.items) handle.number ≡ Some (held.Bag counts)) }
+        ensures holds { IfOk result (λ handle. slice_get (map (λ c. c.held) self.new.collections.items) handle.gates.first ≡ Some (held.Bag counts)) }
+        ensures lies { IfOk result (λ handle. LieOver held.Bag handle.gates counts (map (λ c. c.held) self.new.collections.items)) }
     {
         let number = self.add(stripes, Held::Bag(counts))?;
-        Ok(Bag::of(self.store, number))
+        Ok(Bag::over(self.store, Gates::one(number)))
     }
 
     /// Adds a priority queue that holds these counts at first. Refused like `word`.
@@ -182,6 +192,7 @@ impl<V: Value> Layout<V> {
         let Layout {
             alloc,
             store: number,
+            seed: _,
             words,
             collections,
         } = self;

@@ -14,6 +14,7 @@ ghost use Rattle.wolimevar.specs.Homes.{IsHomeOf};
 ghost use Rattle.wolimevar.specs.Lenders.{HasBack, HasTakenBack};
 ghost use Rattle.wolimevar.specs.Sessions.{receipts_at};
 
+use crate::caller::Caller;
 use crate::homes::{Home, Own, home_for};
 use crate::lent::LentClient;
 use crate::serving::Serving;
@@ -104,7 +105,8 @@ impl<V: Value> Lender<V> {
             return Err(Refusal::Memory);
         };
         let seat = self.seat.split(&self.table, 1);
-        Ok(LentClient::of(Own { table, home }, self.number, seat))
+        let caller = Caller::new(self.number, self.seat.shares());
+        Ok(LentClient::of(Own { table, home }, caller, seat))
     }
 
     /// Has a client serve the session in a thread of its own. Where no thread can be started, it is served before this returns.

@@ -10,6 +10,7 @@ ghost use Rattle.wolimevar.specs.Runners.{HasRun};
 ghost use Rattle.wolimevar.specs.Tallies.{AreCounted};
 
 use crate::body::Body;
+use crate::caller::Caller;
 use crate::failures::Failure;
 use crate::homes::Own;
 use crate::runner::Runner;
@@ -49,7 +50,7 @@ impl<V: Drop> Drop for LentClient<V> {
         let LentClient { own, runner } = self;
         let Own { table, home } = own;
         let Runner {
-            store: _,
+            caller: _,
             seat,
             tally: _,
         } = runner;
@@ -63,7 +64,7 @@ impl<V: Drop> Drop for LentClient<V> {
 }
 
 impl<V: Value> LentClient<V> {
-    pub(crate) fn of(own: Own<V>, store: u32, seat: TxSeat<V>) -> LentClient<V>
+    pub(crate) fn of(own: Own<V>, caller: Caller, seat: TxSeat<V>) -> LentClient<V>
         requires ready { IsReady (arc_value own.table) seat }
         requires share { (view seat.seat).shares ≡ 1 }
         requires none { (view seat.seat).receipts ≡ [] }
@@ -72,7 +73,7 @@ impl<V: Value> LentClient<V> {
         LentClient {
             own,
             runner: Runner {
-                store,
+                caller,
                 seat: Some(seat),
                 tally: Tally::new(),
             },

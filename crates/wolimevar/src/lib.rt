@@ -2,8 +2,9 @@
 //!
 //! A service has five steps:
 //!
-//! 1. A [`Layout`] lists the words and the collections. Adding one returns its handle: [`Word`], [`Map`], [`Bag`], [`PriorityQueue`] or
-//!    [`Queue`]. Handles are `Copy`, so each thread has them.
+//! 1. A [`Layout`] lists the words and the collections. Adding one returns its handle: [`Word`], [`Map`], [`Bag`], [`PriorityQueue`],
+//!    [`Queue`] or [`Lanes`]. Handles are `Copy`, so each thread has them. What several threads call at once is laid over several gates:
+//!    [`Layout::map_over`], [`Layout::bag_over`], [`Layout::lanes`].
 //! 2. [`Layout::open`] opens a [`Store`].
 //! 3. A [`Body`] is what runs as one transaction: straight code over the handles' calls. It is all done or nothing is, and it sees one state
 //!    of the store.
@@ -32,12 +33,17 @@
 mod attempts;
 mod bags;
 mod body;
+mod caller;
 mod changes;
 mod client;
 mod contents;
+mod contents_over;
 mod failures;
+mod gates;
 mod homes;
+mod lanes;
 mod layout;
+mod layout_over;
 mod lender;
 mod lent;
 mod maps;
@@ -60,7 +66,9 @@ pub use body::Body;
 pub use changes::Full;
 pub use client::Client;
 pub use contents::Contents;
+pub use contents_over::{BagCounts, BagIter, LaneItems, MapEntries, MapIter};
 pub use failures::Failure;
+pub use lanes::Lanes;
 pub use layout::Layout;
 pub use lender::{Lender, StillLent};
 pub use lent::LentClient;

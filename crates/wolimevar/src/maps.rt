@@ -3,9 +3,10 @@ ghost use Rattle.std.specs.Prelude.{◌≡◌, IfOk};
 ghost use Rattle.seq_model.specs.Calls.{value_reply};
 ghost use Rattle.seq_model.specs.declared.call.Op.TheVariants as op;
 ghost use Rattle.seq_model.specs.declared.call.Reply.TheVariants as replies;
-ghost use Rattle.wolimevar.specs.Made.{HasMade};
+ghost use Rattle.wolimevar.specs.Answered.{MapAnswers};
 
-use crate::replies::{number_in, value_in};
+use crate::gates::Gates;
+use crate::replies::value_in;
 use crate::scope::Scope;
 use crate::transaction::Transaction;
 use seq_model::{Op, Refusal, Value};
@@ -16,18 +17,18 @@ use std::marker::PhantomData;
 #[derive_where(Clone, Copy)]
 pub struct Map<V> {
     pub(crate) store: u32,
-    pub(crate) number: u32,
+    pub(crate) gates: Gates,
     pub(crate) values: PhantomData<V>,
 }
 
 impl<V: Value> Map<V> {
-    pub(crate) fn of(store: u32, number: u32) -> Map<V>
+    pub(crate) fn over(store: u32, gates: Gates) -> Map<V>
         ensures store { result.store ≡ store }
-        ensures number { result.number ≡ number }
+        ensures gates { result.gates ≡ gates }
     {
         Map {
             store,
-            number,
+            gates,
             values: PhantomData,
         }
     }
@@ -43,9 +44,9 @@ impl<V: Value> Map<V> {
         tx: &mut Transaction<'_, V, S>,
         key: u64,
     ) -> Result<Option<V>, Refusal>
-        ensures { IfOk result (λ found. HasMade tx.old self.now.store self.now.number (op.Get key) (value_reply found) tx.new) }
+        ensures { IfOk result (λ found. MapAnswers tx.old self.now (op.Get key) (value_reply found) tx.new) }
     {
-        let reply = tx.call(self.store, self.number, Op::Get(key))?;
+        let reply = tx.call_at(self.store, self.gates, key, Op::Get(key))?;
         value_in(reply)
     }
 
@@ -61,9 +62,9 @@ impl<V: Value> Map<V> {
         key: u64,
         value: V,
     ) -> Result<Option<V>, Refusal>
-        ensures { IfOk result (λ held. HasMade tx.old self.now.store self.now.number (op.Put key value) (value_reply held) tx.new) }
+        ensures { IfOk result (λ held. MapAnswers tx.old self.now (op.Put key value) (value_reply held) tx.new) }
     {
-        let reply = tx.call(self.store, self.number, Op::Put(key, value))?;
+        let reply = tx.call_at(self.store, self.gates, key, Op::Put(key, value))?;
         value_in(reply)
     }
 
@@ -78,9 +79,9 @@ impl<V: Value> Map<V> {
         tx: &mut Transaction<'_, V, S>,
         key: u64,
     ) -> Result<Option<V>, Refusal>
-        ensures { IfOk result (λ held. HasMade tx.old self.now.store self.now.number (op.Remove key) (value_reply held) tx.new) }
+        ensures { IfOk result (λ held. MapAnswers tx.old self.now (op.Remove key) (value_reply held) tx.new) }
     {
-        let reply = tx.call(self.store, self.number, Op::Remove(key))?;
+        let reply = tx.call_at(self.store, self.gates, key, Op::Remove(key))?;
         value_in(reply)
     }
 
@@ -91,9 +92,8 @@ impl<V: Value> Map<V> {
     /// let keys = map.len(tx)?; // 1
     /// ```
     pub fn len<S: Scope<V>>(&self, tx: &mut Transaction<'_, V, S>) -> Result<u64, Refusal>
-        ensures { IfOk result (λ count. HasMade tx.old self.now.store self.now.number op.Len (replies.Number count) tx.new) }
+        ensures { IfOk result (λ count. MapAnswers tx.old self.now op.Len (replies.Number count) tx.new) }
     {
-        let reply = tx.call(self.store, self.number, Op::Len)?;
-        number_in(reply)
+        tx.total_len(self.store, self.gates)
     }
 }

@@ -6,6 +6,7 @@ ghost use Rattle.wolimevar.specs.Runners.{HasLearnt, HasRun};
 
 use crate::attempts::retry;
 use crate::body::Body;
+use crate::caller::Caller;
 use crate::failures::Failure;
 use crate::scope::Scope;
 use crate::tally::Tally;
@@ -15,8 +16,7 @@ use tx_table::TxTable;
 
 #[derive(Drop)]
 pub(crate) struct Runner<V> {
-    /// The number of its store.
-    pub(crate) store: u32,
+    pub(crate) caller: Caller,
     /// It is `None` only while a transaction runs.
     pub(crate) seat: Option<TxSeat<V>>,
     pub(crate) tally: Tally,
@@ -40,7 +40,13 @@ impl<V: Value> Runner<V> {
         match self.seat.take() {
             Some(seat) => {
                 let (seat, tally, ended) = retry(
-                    table, self.store, seat, self.tally, body, declared, tries,
+                    table,
+                    self.caller,
+                    seat,
+                    self.tally,
+                    body,
+                    declared,
+                    tries,
                 );
                 self.seat = Some(seat);
                 self.tally = tally;

@@ -11,6 +11,7 @@ ghost use Rattle.tx_engine.specs.Ready.{IsReady};
 ghost use Rattle.wolimevar.specs.Frames.{AreBy};
 ghost use Rattle.wolimevar.specs.Sessions.{IsFinished, HaveServed, IsServed, IsWhy, IsWaiting, joined, receipts_at};
 
+use crate::caller::Caller;
 use crate::client::Client;
 use crate::scope::Scope;
 use seq_model::{Refusal, Value};
@@ -59,7 +60,7 @@ pub(crate) struct Task<V, N, O> {
 /// Serves a session by a client with this seat, and returns the seat.
 fn serve_as<V: Value, S: Scope<V>, N: Session<V> + Drop>(
     table: &TxTable<V>,
-    store: u32,
+    caller: Caller,
     seat: TxSeat<V>,
     session: N,
 ) -> (TxSeat<V>, N::Out)
@@ -71,7 +72,7 @@ fn serve_as<V: Value, S: Scope<V>, N: Session<V> + Drop>(
     ensures served { N.serves session result.1 (view result.0.seat).receipts }
     ensures own { AreBy (actor result.0.seat) (view result.0.seat).receipts }
 {
-    let mut client: Client<'_, V, S> = Client::of(table, store, seat);
+    let mut client: Client<'_, V, S> = Client::of(table, caller, seat);
     let out = session.serve(&mut client);
     (client.into_seat(), out)
 }
@@ -79,7 +80,7 @@ fn serve_as<V: Value, S: Scope<V>, N: Session<V> + Drop>(
 /// Serves a session, see `serve_as`.
 pub(crate) fn serve_one<V: Value, N: Session<V> + Drop>(
     table: &TxTable<V>,
-    store: u32,
+    caller: Caller,
     seat: TxSeat<V>,
     session: N,
 ) -> (TxSeat<V>, N::Out)
@@ -90,13 +91,13 @@ pub(crate) fn serve_one<V: Value, N: Session<V> + Drop>(
     ensures served { N.serves session result.1 (view result.0.seat).receipts }
     ensures own { AreBy (actor result.0.seat) (view result.0.seat).receipts }
 {
-    serve_as::<V, Brand, N>(table, store, seat, session)
+    serve_as::<V, Brand, N>(table, caller, seat, session)
 }
 
 /// Serves the session of a task.
 fn serve_task<V: Value, N: Session<V> + Drop>(
     table: &TxTable<V>,
-    store: u32,
+    caller: Caller,
     task: &mut Task<V, N, N::Out>,
 )
     requires waits { IsWaiting table.now task.old }
@@ -104,7 +105,7 @@ fn serve_task<V: Value, N: Session<V> + Drop>(
 {
     match (task.seat.take(), task.session.take()) {
         (Some(seat), Some(session)) => {
-            let (seat, out) = serve_one(table, store, seat, session);
+            let (seat, out) = serve_one(table, caller, seat, session);
             task.seat = Some(seat);
             task.out = Some(out);
         }
@@ -130,10 +131,10 @@ where
         rt,
         tasks,
         count,
-        &|_: usize, task: &mut Task<V, N, N::Out>|
+        &|place: usize, task: &mut Task<V, N, N::Out>|
             requires { IsWaiting table.now task.now }
             ensures { IsServed table.entry.now N.serves task.entry.now task.exit.now }
-        { serve_task(table, store, task) },
+        { serve_task(table, Caller::new(store, place as u64), task) },
     );
 }
 

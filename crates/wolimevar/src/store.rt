@@ -10,6 +10,7 @@ ghost use Rattle.wolimevar.specs.Tallies.{AreCounted};
 
 use crate::attempts::retry;
 use crate::body::Body;
+use crate::caller::Caller;
 use crate::contents::Contents;
 use crate::failures::Failure;
 use crate::lender::Lender;
@@ -137,7 +138,7 @@ impl<V: Value> Store<V> {
             Some(seat) => {
                 let (seat, tally, ended) = retry(
                     &self.table,
-                    self.number,
+                    Caller::new(self.number, 0),
                     seat,
                     self.tally,
                     body,

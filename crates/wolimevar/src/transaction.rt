@@ -1,7 +1,11 @@
 //! A transaction, as a body sees it.
-ghost use Rattle.std.specs.Prelude.{◌≡◌, IfOk};
+ghost use Rattle.std.specs.Prelude.{◌≡◌, ◌+◌, IfOk};
+ghost use Rattle.wolimevar.specs.Answered.{HasSummed};
+ghost use Rattle.wolimevar.specs.Gates.{place_of};
 ghost use Rattle.wolimevar.specs.Made.{HasMade, RefusesForeign, with_call};
 
+use crate::gates::Gates;
+use crate::replies::number_in;
 use crate::scope::Scope;
 use seq_model::{Call, Op, Refusal, Reply, Value};
 use std::marker::{Model, PhantomData};
@@ -25,6 +29,8 @@ pub struct Transaction<'t, V, S: Scope<V>> {
     pub(crate) seat: TxSeat<V>,
     /// The number of its store, which the handles of the store's layout have too.
     pub(crate) store: u32,
+    /// The lane of its client.
+    pub(crate) lane: u64,
     /// The refusal of the last call, if it was refused.
     pub(crate) refused: Option<Refusal>,
     pub(crate) scope: PhantomData<S>,
@@ -88,5 +94,41 @@ impl<'t, V: Value, S: Scope<V>> Transaction<'t, V, S> {
                 Err(cause)
             }
         }
+    }
+
+    /// A call on the one of these collections that has the key.
+    pub(crate) fn call_at(
+        &mut self,
+        store: u32,
+        gates: Gates,
+        key: u64,
+        op: Op<V>,
+    ) -> Result<Reply<V>, Refusal>
+        ensures { IfOk result (λ reply. HasMade self.old store (gates.first + place_of gates key) op reply self.new) }
+    {
+        let number = gates.number(gates.place(key))?;
+        self.call(store, number, op)
+    }
+
+    /// The lane of its client.
+    pub(crate) fn lane(&self) -> u64 {
+        self.lane
+    }
+
+    /// How many keys, or items, these collections have together. `TooLong` where they are more than a `u64` can say.
+    pub(crate) fn total_len(&mut self, store: u32, gates: Gates) -> Result<u64, Refusal>
+        ensures { IfOk result (λ total. HasSummed self.old store gates total self.new) }
+    {
+        let mut total = 0u64;
+        'gates: for i in 0..u64::from(gates.others) + 1 {
+            let number = gates.number(i)?;
+            let reply = self.call(store, number, Op::Len)?;
+            let count = number_in(reply)?;
+            let Some(more) = total.checked_add(count) else {
+                return Err(Refusal::TooLong);
+            };
+            total = more;
+        }
+        Ok(total)
     }
 }
