@@ -4,8 +4,8 @@ use std::alloc::Global;
 use std::fmt::Write;
 use std::thread::Threads;
 use wolimevar::{
-    Bag, Body, Client, Counts, Entries, Layout, Lender, Map, PriorityQueue, Queue, QueueItems,
-    Refusal, Scope, Session, Shared, Store, Tally, Text, Transaction, Value, Word,
+    Bag, Body, Client, Contents, Counts, Entries, Lanes, Layout, Lender, Map, PriorityQueue, Queue,
+    QueueItems, Refusal, Scope, Session, Shared, Store, Tally, Text, Transaction, Value, Word,
 };
 
 /// The handles of a store with a word and a collection of each kind.
@@ -320,6 +320,74 @@ fn print_contents(text: &mut String, store: Store<u64>, handles: Handles) -> Res
     Ok(printed?)
 }
 
+/// Items go into lanes and out again. It gives what the calls answered.
+#[derive(Drop)]
+struct Work(Lanes);
+
+impl Body<u64> for Work {
+    type Out = (Option<u64>, u64);
+
+    type Error = Refusal;
+
+    fn run<S: Scope<u64>>(
+        &self,
+        tx: &mut Transaction<'_, u64, S>,
+    ) -> Result<(Option<u64>, u64), Refusal> {
+        let jobs = self.0;
+        jobs.enqueue(tx, 6)??;
+        jobs.enqueue(tx, 7)??;
+        let taken = jobs.dequeue(tx)?; // Some(6)
+        let left = jobs.len(tx)?; // 1
+        Ok((taken, left))
+    }
+}
+
+fn work_over_gates(text: &mut String) -> Result<(), Refusal> {
+    let alloc = *text.allocator();
+    let mut layout: Layout<u64> = Layout::new(alloc);
+    layout.seed(20_251);
+    let mut entries = Entries::new(alloc);
+    entries.insert(1, 10)?;
+    let map = layout.map_over(8, 8, entries)?;
+    let mut counts = Counts::new(alloc);
+    counts.set_copies(3, 2)?;
+    let bag = layout.bag_over(8, 8, counts)?;
+    let jobs = layout.lanes(4, 8, QueueItems::new(alloc))?;
+    let mut store = layout.open()?;
+    let ((taken, left), _) = store.atomically(1_000, &Work(jobs))?;
+    writeln!(text, "a queue in lanes = {taken:?} {left}")?;
+    let contents = store.close()?;
+    print_over_gates(text, &contents, map, bag, jobs)
+}
+
+fn print_over_gates(
+    text: &mut String,
+    contents: &Contents<u64>,
+    map: Map<u64>,
+    bag: Bag,
+    jobs: Lanes,
+) -> Result<(), Refusal> {
+    let entries = contents.map(map).ok_or(Refusal::NoSuch)?;
+    let keys = entries.len(); // 1
+    let value = entries.get(1); // Some(10)
+    for (key, value) in entries.iter() {
+        writeln!(text, "{key} {value}")?;
+    }
+    let counts = contents.bag(bag).ok_or(Refusal::NoSuch)?;
+    let copies = counts.copies(3); // 2
+    for (element, copies) in counts.iter() {
+        writeln!(text, "{element} {copies}")?;
+    }
+    let lanes = contents.lanes(jobs);
+    let lanes = lanes.ok_or(Refusal::NoSuch)?;
+    let first = lanes.lane(0).and_then(|items| items.first()); // Some(7)
+    let items = lanes.len(); // 1
+    Ok(writeln!(
+        text,
+        "over gates = {keys} {value:?} {copies} {first:?} {items}"
+    )?)
+}
+
 fn print_values(text: &mut String) -> Result<(), Refusal> {
     let alloc = *text.allocator();
     let name = Text::of(alloc, "Ada")?;
@@ -341,5 +409,6 @@ pub fn test<R: Threads + Sync>(rt: &R, alloc: Global, text: &mut String) -> Resu
     lend(rt, text, store, handles.word)?;
     let (store, handles) = open_filled(alloc)?;
     print_contents(text, store, handles)?;
+    work_over_gates(text)?;
     print_values(text)
 }

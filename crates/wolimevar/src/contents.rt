@@ -111,6 +111,10 @@ impl<V: Value> Contents<V> {
     }
 
     /// The items of a queue in lanes.
+    ///
+    /// ```
+    /// let lanes = contents.lanes(jobs);
+    /// ```
     pub fn lanes(&self, lanes: Lanes) -> Option<LaneItems<'_, V>>
         ensures { IfSome result (λ items. AreHeld self.now.store self.now.state lanes.store lanes.gates items.held.now items.gates) }
     {

@@ -24,6 +24,10 @@ pub struct MapEntries<'a, V> {
 
 impl<'a, V: Value> MapEntries<'a, V> {
     /// The value at a key.
+    ///
+    /// ```
+    /// let value = entries.get(1); // Some(10)
+    /// ```
     #[tactic(auto, using(crate::proofs::GateLemmas::got_of))]
     pub fn get(&self, key: u64) -> Option<&'a V>
         ensures { (whole : _) → LieOver held.Map self.now.gates whole self.now.held.now → option_copied result ≡ map.get whole key }
@@ -35,6 +39,10 @@ impl<'a, V: Value> MapEntries<'a, V> {
     }
 
     /// How many keys there are.
+    ///
+    /// ```
+    /// let keys = entries.len(); // 1
+    /// ```
     #[tactic(auto, using(crate::proofs::ReadLemmas::entries_count, crate::proofs::SumLemmas::then_below))]
     pub fn len(&self) -> usize
         ensures { (whole : _) → LieOver held.Map self.now.gates whole self.now.held.now → result ≡ min (map.len whole) (2 ^ 64 - 1) }
@@ -49,6 +57,12 @@ impl<'a, V: Value> MapEntries<'a, V> {
     }
 
     /// The entries, rising by key where the map has one gate, and else those of one gate after those of another.
+    ///
+    /// ```
+    /// for (key, value) in entries.iter() {
+    ///     writeln!(text, "{key} {value}")?;
+    /// }
+    /// ```
     pub fn iter(&self) -> MapIter<'a, V>
         ensures { (whole : _) → LieOver held.Map self.now.gates whole self.now.held.now → HasAll (map_left result) whole }
     {
@@ -140,6 +154,10 @@ pub struct BagCounts<'a, V> {
 
 impl<'a, V: Value> BagCounts<'a, V> {
     /// How many copies of an element there are.
+    ///
+    /// ```
+    /// let copies = counts.copies(3); // 2
+    /// ```
     #[tactic(auto, using(crate::proofs::GateLemmas::copies_of))]
     pub fn copies(&self, element: u64) -> u64
         ensures { (whole : _) → LieOver held.Bag self.now.gates whole self.now.held.now → result ≡ copies whole element }
@@ -152,6 +170,12 @@ impl<'a, V: Value> BagCounts<'a, V> {
 
     /// The elements with the numbers of their copies, rising where the multiset has one gate, and else those of one gate after those of
     /// another.
+    ///
+    /// ```
+    /// for (element, copies) in counts.iter() {
+    ///     writeln!(text, "{element} {copies}")?;
+    /// }
+    /// ```
     pub fn iter(&self) -> BagIter<'a, V>
         ensures { (whole : _) → LieOver held.Bag self.now.gates whole self.now.held.now → HasAll (bag_left result) whole }
     {
@@ -233,6 +257,10 @@ pub struct LaneItems<'a, V> {
 
 impl<'a, V: Value> LaneItems<'a, V> {
     /// The items of one lane, counted from 0, the first one first.
+    ///
+    /// ```
+    /// let first = lanes.lane(0).and_then(|items| items.first()); // Some(7)
+    /// ```
     pub fn lane(&self, lane: u32) -> Option<&'a QueueItems>
         ensures { (lanes : _) → AreLanes self.now.gates lanes self.now.held.now → lane ≤ self.now.gates.others → option_copied result ≡ Some (lanes lane) }
     {
@@ -246,6 +274,10 @@ impl<'a, V: Value> LaneItems<'a, V> {
     }
 
     /// How many items all lanes have.
+    ///
+    /// ```
+    /// let items = lanes.len(); // 1
+    /// ```
     #[tactic(auto, using(crate::proofs::SumLemmas::then_below))]
     pub fn len(&self) -> usize
         ensures { (lanes : _) → AreLanes self.now.gates lanes self.now.held.now → result ≡ min (total_of lanes (self.now.gates.others + 1)) (2 ^ 64 - 1) }

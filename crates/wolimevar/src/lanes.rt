@@ -34,6 +34,10 @@ impl Lanes {
     }
 
     /// Adds an item at the end of the client's lane. [`Full`] once the lane's positions are used up.
+    ///
+    /// ```
+    /// jobs.enqueue(tx, 6)??;
+    /// ```
     pub fn enqueue<V: Value, S: Scope<V>>(
         &self,
         tx: &mut Transaction<'_, V, S>,
@@ -48,6 +52,12 @@ impl Lanes {
 
     /// Takes the first item of a lane out, and returns it: of the client's own lane, or of the next one after it that has any, the first
     /// lane being after the last. `None` where all lanes are empty.
+    ///
+    /// ```
+    /// jobs.enqueue(tx, 6)??;
+    /// jobs.enqueue(tx, 7)??;
+    /// let taken = jobs.dequeue(tx)?; // Some(6)
+    /// ```
     #[tactic(auto, using(crate::proofs::LaneLemmas::taken_first))]
     pub fn dequeue<V: Value, S: Scope<V>>(
         &self,
@@ -85,6 +95,10 @@ impl Lanes {
     }
 
     /// How many items all lanes have.
+    ///
+    /// ```
+    /// let left = jobs.len(tx)?; // 1
+    /// ```
     pub fn len<V: Value, S: Scope<V>>(&self, tx: &mut Transaction<'_, V, S>) -> Result<u64, Refusal>
         ensures { IfOk result (λ count. HasDoneWithLanes tx.old self.now (λ lanes t. IsCounted self.now.gates lanes count t) tx.new) }
     {

@@ -20,6 +20,10 @@ const GATE_LIMIT: u32 = 256;
 impl<V: Value> Layout<V> {
     /// What the keys of collections over several gates are hashed with, of those laid out from now on; 0 before. A service whose keys come
     /// from outside draws a number that nobody knows: then nobody can choose keys that all take one gate.
+    ///
+    /// ```
+    /// layout.seed(20_251);
+    /// ```
     pub fn seed(&mut self, seed: u64)
         ensures same { self.new.store ≡ self.old.store }
         ensures collections { self.new.collections ≡ self.old.collections }
@@ -31,6 +35,10 @@ impl<V: Value> Layout<V> {
     /// Adds a map over so many gates, each of so many stripes, that holds these entries at first. It is called like any other map; calls
     /// on different keys seldom take the same gate, so it is faster with several threads, but `len` reads all stripes of all gates. It
     /// counts as so many collections of the store. `TooLong` for no gates, or more than 256; otherwise refused like `word`.
+    ///
+    /// ```
+    /// let map = layout.map_over(8, 8, entries)?;
+    /// ```
     #[tactic(auto, using(crate::proofs::LayoutLemmas::laid_map))]
     pub fn map_over(
         &mut self,
@@ -51,6 +59,10 @@ impl<V: Value> Layout<V> {
     }
 
     /// Adds a multiset over so many gates, each of so many stripes, that holds these counts at first. See `map_over`.
+    ///
+    /// ```
+    /// let bag = layout.bag_over(8, 8, counts)?;
+    /// ```
     #[tactic(auto, using(crate::proofs::LayoutLemmas::laid_bag))]
     pub fn bag_over(&mut self, gates: u32, stripes: u32, counts: Counts) -> Result<Bag, Refusal>
         ensures same { self.new.store ≡ self.old.store }
@@ -67,6 +79,10 @@ impl<V: Value> Layout<V> {
 
     /// Adds a queue in so many lanes, each of so many stripes, whose first lane holds these items at first. `TooLong` for no lanes, or
     /// more than 256; otherwise refused like `word`.
+    ///
+    /// ```
+    /// let jobs = layout.lanes(4, 8, QueueItems::new(alloc))?;
+    /// ```
     pub fn lanes(&mut self, lanes: u32, stripes: u32, items: QueueItems) -> Result<Lanes, Refusal>
         ensures same { self.new.store ≡ self.old.store }
         ensures store { IfOk result (λ handle. handle.store ≡ self.new.store) }
