@@ -146,12 +146,16 @@ impl<V: Value> LentClient<V> {
         ensures counts { result.1.tally ≡ self.tally }
     {
         let LentClient { own, runner } = self;
-        let Runner { store, seat, tally } = runner;
+        let Runner {
+            caller,
+            seat,
+            tally,
+        } = runner;
         match seat {
             Some(seat) => {
-                let (seat, out) = serve_one(&own.table, store, seat, session);
+                let (seat, out) = serve_one(&own.table, caller, seat, session);
                 let runner = Runner {
-                    store,
+                    caller,
                     seat: Some(seat),
                     tally,
                 };
