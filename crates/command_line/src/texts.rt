@@ -68,7 +68,7 @@ to the same word:
 Each outcome, which is the answers of each actor, the committed transactions, and what words and collections hold, is
 printed once: how many schedules gave it, what it is, and the shortest script with steps that leads there. Schedules
 that differ only by the order of steps that touch nothing in common are run once.
-docs/formats.md says more; examples/explore has scripts, beside what they print.
+docs/interleavings.md says more; examples/explore has scripts, beside what they print.
 
 Example:
   proust_tool explore examples/explore/write_skew.steps";
