@@ -49,7 +49,6 @@ pub fn run_all<H: Threads + Wait + Clock + Sync>(
     Ok(text)
 }
 
-// A refusal is printed, but for that of memory.
 fn run_section<H: Threads + Wait + Clock + Sync>(
     rt: &H,
     text: &mut String,
@@ -57,15 +56,28 @@ fn run_section<H: Threads + Wait + Clock + Sync>(
     file: &str,
 ) -> Result<(), AllocError> {
     let (_, kind) = name.split_once(" = ").unwrap_or((name, ""));
-    let outcome = match kind {
-        "script" => print_script(text, file),
-        "world" => print_worlds(text, file),
-        "trace" => print_laid_out(text, file),
-        "files" => return print_files(text, file),
-        "times" => return print_missed(text),
-        "paces" => return print_paces(text),
-        _ => return run_words(rt, text, name, file),
-    };
+    match kind {
+        "script" => {
+            let outcome = print_script(text, file);
+            told(text, outcome)
+        }
+        "world" => {
+            let outcome = print_worlds(text, file);
+            told(text, outcome)
+        }
+        "trace" => {
+            let outcome = print_laid_out(text, file);
+            told(text, outcome)
+        }
+        "files" => print_files(text, file),
+        "times" => print_missed(text),
+        "paces" => print_paces(text),
+        _ => run_words(rt, text, name, file),
+    }
+}
+
+// A refusal is printed, but for that of memory.
+fn told(text: &mut String, outcome: Result<(), Refusal>) -> Result<(), AllocError> {
     match outcome {
         Ok(()) => Ok(()),
         Err(Refusal::Memory) => Err(AllocError),
@@ -149,13 +161,16 @@ fn run_over<H: Threads + Wait + Clock + Sync>(
     if status == MEMORY && out.bytes.is_empty() {
         return Err(AllocError);
     }
-    let lines = text_of(out.bytes.as_slice());
-    if races {
-        print_raced(text, lines)?;
-    } else {
-        print_lines(text, lines)?;
-    }
+    print_output(text, text_of(out.bytes.as_slice()), races)?;
     print_end(text, status, err.bytes.as_slice())
+}
+
+fn print_output(text: &mut String, lines: &str, races: bool) -> Result<(), AllocError> {
+    if races {
+        print_raced(text, lines)
+    } else {
+        print_lines(text, lines)
+    }
 }
 
 fn print_raced(text: &mut String, lines: &str) -> Result<(), AllocError> {
