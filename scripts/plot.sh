@@ -7,15 +7,14 @@
 # Figures are lines of numbers with commas between them, after a line of names; a line with # says when, on what machine and by what they
 # were measured. Titles are made of them, too, so a picture never says what its figures don't.
 #
-# Measure on an idle machine. With PEERS=FOLDER the other programs in that folder are measured beside this one: it has `run_one.sh`, which
-# runs them in turn, and prints `config=vac-low-4 .. peer=NAME clients=4 .. rate=SESSIONS ..` for each; and `extra_proust.sh`, by which
-# `bench` takes part. ROUNDS says how often each is measured, three times where it is left out.
+# Measure on an idle machine. With PEERS=1 other transactional memories are measured beside this one, too, as scripts/beside_peers.sh runs
+# them. ROUNDS says how often each is measured, three times where it is left out.
 #
 # It draws with gnuplot, which it installs where it isn't there.
 set -eu
 
 usage() {
-    sed -n '2,15s/^# \{0,1\}//p' "$0" >&2
+    sed -n '2,14s/^# \{0,1\}//p' "$0" >&2
     exit 2
 }
 
@@ -113,19 +112,14 @@ means_of_all() {
 }
 
 measure_peers() {
-    local clients contention
-    head_of "run_one.sh"
+    head_of "scripts/beside_peers.sh"
     echo "contention,program,clients,thousand_a_second,least,most"
-    for contention in low high; do
-        for clients in 1 2 4; do
-            EXTRA="proust=$PEERS/extra_proust.sh $1" "$PEERS/run_one.sh" "vac-$contention-$clients" "$rounds" |
-                awk -v OFS=, -v contention="$contention" -v clients="$clients" '{
-                    peer = rate = ""
-                    for (i = 1; i <= NF; i++) { split($i, word, "="); if (word[1] == "peer") peer = word[2]; if (word[1] == "rate") rate = word[2] }
-                    if (rate != "") print contention, peer, clients, rate / 1000
-                }'
-        done
-    done | means
+    PEERS="" PROGRAM=$1 ROUNDS=$rounds scripts/beside_peers.sh vac-{low,high}-{1,2,4} | awk -v OFS=, '/^config=/ {
+        delete of
+        for (i = 1; i <= NF; i++) { split($i, word, "="); of[word[1]] = word[2] }
+        split(of["config"], config, "-")
+        if ("rate" in of) print config[2], of["peer"], config[3], of["rate"] / 1000
+    }' | means
 }
 
 # new NAME COMMAND ..: the figures NAME are what the command prints, once it has ended well.
@@ -285,12 +279,12 @@ END
 # Each program that is measured beside this one.
 draw_peers() {
     local contention=$1 ours lock plot="" name
-    ours=$(figure peers.csv 4 "$contention,proust,4,")
+    ours=$(figure peers.csv 4 "$contention,wolimevar,4,")
     lock=$(figure peers.csv 4 "$contention,mutex,4,")
     while read -r name; do
         plot="$plot${plot:+, }$(rows peers.csv "$contention,$name") using 3:4:5:6 with yerrorlines title '$name' noenhanced"
     done < <(awk -F, -v contention="$contention" '$1 == contention && !seen[$2]++ { print $2 }' "$figures/peers.csv")
-    draw "peers_$contention" peers.csv "Four clients: proved transactions serve $(ratio "$ours" "$lock") times what one lock serves" <<END
+    draw "peers_$contention" peers.csv "Four clients: Wolimevar serves $(ratio "$ours" "$lock") times what one lock serves" <<END
 set xlabel "clients (${contention} contention)"
 set ylabel "thousand sessions a second"
 set xtics (1, 2, 4)
