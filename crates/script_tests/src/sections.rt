@@ -74,24 +74,32 @@ fn run_section<H: Threads + Wait + Clock + Sync>(
     file: &str,
 ) -> Result<(), AllocError> {
     let (_, kind) = name.split_once(" = ").unwrap_or((name, ""));
-    let outcome = match kind {
-        "script" => print_script(text, file),
-        "world" => print_worlds(text, file),
-        "trace" => print_laid_out(text, file),
+    match kind {
+        "script" => {
+            let outcome = print_script(text, file);
+            told(text, outcome)
+        }
+        "world" => {
+            let outcome = print_worlds(text, file);
+            told(text, outcome)
+        }
+        "trace" => {
+            let outcome = print_laid_out(text, file);
+            told(text, outcome)
+        }
         "replayed" => {
             let outcome = print_replayed(text, file);
-            return told_fault(text, outcome);
+            told_fault(text, outcome)
         }
         "schedules" => {
             let outcome = print_beside_all(text, file);
-            return told_fault(text, outcome);
+            told_fault(text, outcome)
         }
-        "files" => return print_files(text, file),
-        "times" => return print_missed(text),
-        "paces" => return print_paces(text),
-        _ => return run_words(rt, text, name, file),
-    };
-    told(text, outcome)
+        "files" => print_files(text, file),
+        "times" => print_missed(text),
+        "paces" => print_paces(text),
+        _ => run_words(rt, text, name, file),
+    }
 }
 
 // A refusal is printed, but for that of memory.

@@ -2,10 +2,10 @@
 --
 -- A lent client leaves a seat that fits its home, and its home has the lender's table; so the lender may join it. Joining adds the seat's
 -- receipts, those of one actor, behind the lender's, and its share, and changes nothing else that contracts see.
-use Rattle.std.proofs.Common.{◌≡◌, ℕ, ◌+◌, ◌≤◌, List, [], ◌∷◌, ◌++◌, Option, Some, None, length, refl, sym, ap, ◌∙◌, subst, arith}
+use Rattle.std.proofs.Common.{◌≡◌, ℕ, ◌+◌, ◌≤◌, List, [], ◌∷◌, ◌++◌, Option, Some, None, refl, sym, ap, ◌∙◌, subst, arith}
 use Rattle.std.proofs.lemmas.List.{append-nil, append_assoc, length-append}
 use Rattle.std.proofs.lemmas.List.Elements.{All-append, All-cons, All-nil}
-use Rattle.std.specs.Prelude.{All, IfSome}
+use Rattle.std.specs.Prelude.{IfSome}
 use Rattle.seq_model.specs.declared.record.Record.{Record}
 use Rattle.tx_table.specs.declared.seat.Seat.{Seat}
 use Rattle.tx_table.specs.declared.table.TxTable.{TxTable}
@@ -19,8 +19,7 @@ use Rattle.tx_engine.specs.Ready.{IsReady}
 use Rattle.wolimevar.specs.declared.homes.Home.{Home}
 use Rattle.wolimevar.specs.declared.tally.Tally.{Tally}
 use Rattle.wolimevar.specs.Backs.{IsBack, IsLent, shares_at}
-use Rattle.wolimevar.specs.Clients.{IsAtClient}
-use Rattle.wolimevar.specs.Frames.{AreBy, Frame}
+use Rattle.wolimevar.specs.Frames.{AreBy}
 use Rattle.wolimevar.specs.Homes.{IsHomeOf}
 use Rattle.wolimevar.specs.Lenders.{HasBack, HasTakenBack, IsAtLender, LenderShown, lender_at}
 use Rattle.wolimevar.specs.Sessions.{IsOfOne, joined, receipts_at}

@@ -1,4 +1,4 @@
-use Rattle.std.proofs.Common.{rules, ◌≡◌, ◌+◌, ◌++◌, ◌∙◌, ap, arith, length, map, sym, subst}
+use Rattle.std.proofs.Common.{rules, ◌≡◌, ◌++◌, ◌∙◌, ap, arith, length, map, sym, subst}
 use Rattle.std.specs.Prelude.{All, drop, take}
 use Rattle.std.specs.List.{AllZip}
 use Rattle.tx_table.specs.Seated.{view}
