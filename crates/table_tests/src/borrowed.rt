@@ -1,5 +1,6 @@
 //! Transactions that borrow their seats, by typed calls or not: what a row of [`crate::engine`] asks for.
 pub mod calls;
-pub mod ends;
-pub mod lists;
+mod ends;
+mod hearing;
+mod lists;
 pub mod transacted;

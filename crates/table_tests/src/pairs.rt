@@ -4,7 +4,7 @@ ghost use Rattle.tx_table.specs.Seated.{view};
 ghost use Rattle.tx_engine.specs.Ready.{IsReady};
 
 use crate::engine::turns::{at_once, four_at_once, in_turn};
-use crate::shared::{Order, Page, Told, commit_after};
+use crate::shared::{Order, Page, commit_after};
 use std::thread::Threads;
 use tx_engine::TxSeat;
 use tx_table::TxTable;
@@ -13,13 +13,13 @@ use tx_table::TxTable;
 const SECOND_SHARES: u64 = 32;
 
 /// The rows of two seats, into which this one is split. It is the first of them, and has all shares in the end.
-pub fn run_pair<R: Threads + Sync, V: Told + Send + Sync>(
+pub fn run_pair<R: Threads + Sync>(
     rt: &R,
-    page: &mut Page<V>,
-    table: &TxTable<V>,
-    mut first: TxSeat<V>,
+    page: &mut Page,
+    table: &TxTable<u64>,
+    mut first: TxSeat<u64>,
     rows: &str,
-) -> TxSeat<V>
+) -> TxSeat<u64>
     requires ready { IsReady table.now first }
     requires shares { (view first.seat).shares ≡ 64 }
     ensures ready { IsReady table.now result }
@@ -31,12 +31,12 @@ pub fn run_pair<R: Threads + Sync, V: Told + Send + Sync>(
 }
 
 // Where an allocation failed, each seat commits a write after it.
-fn run_both<R: Threads + Sync, V: Told + Send + Sync>(
+fn run_both<R: Threads + Sync>(
     rt: &R,
-    page: &mut Page<V>,
-    table: &TxTable<V>,
-    first: &mut TxSeat<V>,
-    second: &mut TxSeat<V>,
+    page: &mut Page,
+    table: &TxTable<u64>,
+    first: &mut TxSeat<u64>,
+    second: &mut TxSeat<u64>,
     rows: &str,
 )
     requires first { IsReady table.now first.old }
@@ -49,12 +49,12 @@ fn run_both<R: Threads + Sync, V: Told + Send + Sync>(
     commit_after(page, table, second);
 }
 
-fn answer_rows<R: Threads + Sync, V: Told + Send + Sync>(
+fn answer_rows<R: Threads + Sync>(
     rt: &R,
-    page: &mut Page<V>,
-    table: &TxTable<V>,
-    first: &mut TxSeat<V>,
-    second: &mut TxSeat<V>,
+    page: &mut Page,
+    table: &TxTable<u64>,
+    first: &mut TxSeat<u64>,
+    second: &mut TxSeat<u64>,
     rows: &str,
 )
     requires first { IsReady table.now first.old }
@@ -72,12 +72,11 @@ fn answer_rows<R: Threads + Sync, V: Told + Send + Sync>(
 
 // In how many threads the rows are answered, in which order, and the rows after what says so.
 fn threads_of(rows: &str) -> (u64, Order, &str) {
-    let (first, others) = rows.split_once('\n').unwrap_or((rows, ""));
-    match first {
-        "at once" => (2, Order::LastIsFirst, others),
-        "row by row" => (2, Order::RowByRow, others),
-        "four at once" => (4, Order::LastIsFirst, others),
-        "four row by row" => (4, Order::RowByRow, others),
+    match rows.split_once('\n') {
+        Some(("at once", rows)) => (2, Order::LastIsFirst, rows),
+        Some(("row by row", rows)) => (2, Order::RowByRow, rows),
+        Some(("four at once", rows)) => (4, Order::LastIsFirst, rows),
+        Some(("four row by row", rows)) => (4, Order::RowByRow, rows),
         _ => (1, Order::RowByRow, rows),
     }
 }

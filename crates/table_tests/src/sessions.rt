@@ -31,14 +31,26 @@ fn options_of(words: &str) -> Option<Options> {
     let (workers, words) = words.split_once(' ')?;
     let (stripes, limits) = words.split_once(' ')?;
     let (tries, meet) = limits.split_once(' ')?;
-    let (workers, stripes) = (number(workers)?, number(stripes)?);
-    if workers > 64 || stripes > u64::from(u32::MAX) {
-        return None;
-    }
     Some(Options {
-        workers: workers as usize,
-        stripes: stripes as u32,
+        workers: workers_of(number(workers)?)?,
+        stripes: stripes_of(number(stripes)?)?,
         tries: number(tries)?,
         meet: number(meet)?,
     })
+}
+
+fn workers_of(workers: u64) -> Option<usize> {
+    if workers <= 64 {
+        Some(workers as usize)
+    } else {
+        None
+    }
+}
+
+fn stripes_of(stripes: u64) -> Option<u32> {
+    if stripes <= u32::MAX as u64 {
+        Some(stripes as u32)
+    } else {
+        None
+    }
 }

@@ -4,19 +4,19 @@
 //! of all receipts has to be Ok. Workers may be held before their commits until all stand there, or their rows be answered one by one. Who
 //! runs the transactions stands in the modules beside this one.
 mod ends;
+mod learning;
 mod listed;
 mod meeting;
 mod openings;
 mod pages;
 mod places;
-mod told;
 mod writes;
 
-pub use ends::{audit_receipts, close, print_receipt};
+pub use ends::{audit_receipts, close, close_told, print_receipt};
+pub use learning::{learn, say_last};
 pub use listed::{Listed, job_of};
 pub use meeting::{Meeting, Order};
-pub use openings::open;
+pub use openings::{open, opening_of};
 pub use pages::{Page, end_page};
-pub use places::{say_left, say_places};
-pub use told::{Told, call_of};
+pub use places::say_places;
 pub use writes::{commit_after, commit_write};

@@ -4,15 +4,15 @@ ghost use Rattle.tx_table.specs.Seated.{view};
 ghost use Rattle.tx_engine.specs.Ready.{IsReady};
 
 use crate::pairs::run_pair;
-use crate::shared::{Page, Told, close, end_page, open, say_left, say_places};
+use crate::shared::{Page, close_told, end_page, open, opening_of, say_places};
 use crate::worker::lists::{Limits, limits_of};
 use crate::worker::retries::retry_rows;
 use crate::worker::runs::run_lists;
-use row_parts::{script_of, shape_of, state_of};
-use seq_model::{Refusal, Shape, State};
+use row_parts::script_of;
+use seq_model::{Refusal, State};
 use std::sync::Wait;
 use std::thread::Threads;
-use text_formats::number;
+use text_formats::{Script, number};
 use tx_engine::TxSeat;
 use tx_table::TxTable;
 
@@ -45,9 +45,12 @@ pub fn answer_table<R: Threads + Wait + Sync>(
     words: &str,
     rows: &str,
 ) -> Result<(), Refusal> {
-    let (limits, header) = words.split_once(" on ").unwrap_or(("", words));
+    let (limits, table) = match words.split_once(" on ") {
+        Some((limits, table)) => (limits, table),
+        None => ("", words),
+    };
     match kind_of(kind, limits) {
-        Some(kind) => answer_header(rt, text, kind, header, rows),
+        Some(kind) => answer_header(rt, text, kind, table, rows),
         None => Err(Refusal::NoSuch),
     }
 }
@@ -68,54 +71,88 @@ fn answer_header<R: Threads + Wait + Sync>(
     header: &str,
     rows: &str,
 ) -> Result<(), Refusal> {
-    let alloc = *text.allocator();
-    let script = script_of(alloc, header)?;
-    let shape = shape_of(alloc, &script)?;
-    let opening = state_of(alloc, &script, 0)?;
-    let mut page = Page::<u64>::new(alloc)?;
-    let (clock, last) = run_opening(rt, &mut page, kind, &shape, &opening, rows)?;
-    end_page(text, &mut page, &opening, kind.told(clock), last, rows)
+    let script = script_of(*text.allocator(), header)?;
+    let answered = answer_script(rt, text, kind, &script, rows);
+    drop(script);
+    answered
 }
 
-fn run_opening<R: Threads + Wait + Sync, V: Told + Send + Sync>(
+fn answer_script<R: Threads + Wait + Sync>(
     rt: &R,
-    page: &mut Page<V>,
+    text: &mut String,
     kind: Kind,
-    shape: &Shape,
-    opening: &State<V>,
+    script: &Script,
     rows: &str,
-) -> Result<(u64, State<V>), Refusal> {
-    let (table, seat) = open(page.alloc(), shape, opening)?;
+) -> Result<(), Refusal> {
+    let opening = opening_of(*text.allocator(), script)?;
+    let answered = answer_opening(rt, text, kind, script, &opening, rows);
+    drop(opening);
+    answered
+}
+
+fn answer_opening<R: Threads + Wait + Sync>(
+    rt: &R,
+    text: &mut String,
+    kind: Kind,
+    script: &Script,
+    opening: &State<u64>,
+    rows: &str,
+) -> Result<(), Refusal> {
+    let mut page = Page::new(*text.allocator())?;
+    let answered = answer_page(rt, text, &mut page, kind, script, opening, rows);
+    drop(page);
+    answered
+}
+
+fn answer_page<R: Threads + Wait + Sync>(
+    rt: &R,
+    text: &mut String,
+    page: &mut Page,
+    kind: Kind,
+    script: &Script,
+    opening: &State<u64>,
+    rows: &str,
+) -> Result<(), Refusal> {
+    let (clock, last) = run_script(rt, page, kind, script, opening, rows)?;
+    end_page(text, page, opening, kind.told(clock), last, rows)
+}
+
+fn run_script<R: Threads + Wait + Sync>(
+    rt: &R,
+    page: &mut Page,
+    kind: Kind,
+    script: &Script,
+    opening: &State<u64>,
+    rows: &str,
+) -> Result<(u64, State<u64>), Refusal> {
+    let (table, seat) = open(page.alloc(), script, opening)?;
     run_table(rt, page, kind, table, seat, rows)
 }
 
-fn run_table<R: Threads + Wait + Sync, V: Told + Send + Sync>(
+fn run_table<R: Threads + Wait + Sync>(
     rt: &R,
-    page: &mut Page<V>,
+    page: &mut Page,
     kind: Kind,
-    table: TxTable<V>,
-    seat: TxSeat<V>,
+    table: TxTable<u64>,
+    seat: TxSeat<u64>,
     rows: &str,
-) -> Result<(u64, State<V>), Refusal>
+) -> Result<(u64, State<u64>), Refusal>
     requires ready { IsReady table seat }
     requires shares { (view seat.seat).shares ≡ 64 }
 {
     let seat = run_seat(rt, page, kind, &table, seat, rows);
     say_places(page, &table, rows);
-    let closed = close(table, seat)?;
-    say_left(page, &closed, rows);
-    let clock = closed.clock();
-    Ok((clock, closed.state()?))
+    close_told(page, table, seat, rows)
 }
 
-fn run_seat<R: Threads + Wait + Sync, V: Told + Send + Sync>(
+fn run_seat<R: Threads + Wait + Sync>(
     rt: &R,
-    page: &mut Page<V>,
+    page: &mut Page,
     kind: Kind,
-    table: &TxTable<V>,
-    seat: TxSeat<V>,
+    table: &TxTable<u64>,
+    seat: TxSeat<u64>,
     rows: &str,
-) -> TxSeat<V>
+) -> TxSeat<u64>
     requires ready { IsReady table.now seat }
     requires shares { (view seat.seat).shares ≡ 64 }
     ensures ready { IsReady table.now result }

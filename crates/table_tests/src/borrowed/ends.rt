@@ -8,18 +8,15 @@ use tx_engine::Tx;
 #[derive(Clone, Copy)]
 pub enum End {
     Commits,
-    /// It is a declared reader, which commits.
-    Reads,
     Aborts,
     /// It is dropped while it is open.
     Drops,
 }
 
-/// How a transaction ends by this verb.
+/// How a transaction ends by this verb, unless it is a declared reader.
 pub fn end_of(verb: &str) -> Option<End> {
     match verb {
         "commits" => Some(End::Commits),
-        "reads" => Some(End::Reads),
         "aborts" => Some(End::Aborts),
         "drops" => Some(End::Drops),
         _ => None,
@@ -42,7 +39,7 @@ pub fn end_as<V: Value>(tx: Tx<'_, V>, end: End) -> Ended<V>
     ensures ready { IsReady tx.entry.table.now tx.exit.1.0.now }
 {
     match end {
-        End::Commits | End::Reads => commit(tx),
+        End::Commits => commit(tx),
         End::Aborts => abort(tx),
         End::Drops => Ended::Dropped,
     }

@@ -1,5 +1,5 @@
 //! Workers at a table of such values, whose commits overlap, and one of whose copies is refused.
-ghost use Rattle.std.specs.Prelude.{◌≡◌, ◌≤◌, length};
+ghost use Rattle.std.specs.Prelude.{◌≡◌, ◌≤◌, IfOk, length};
 ghost use Rattle.tx_table.specs.Seated.{view};
 ghost use Rattle.tx_engine.specs.Ready.{IsReady};
 
@@ -36,21 +36,33 @@ pub fn race<R: Threads + Wait + Sync>(
     requires shares { (view seat.seat).shares ≡ 64 }
     ensures ready { IsReady table.now result.0 }
 {
-    match lists_of(alloc, ration, workers) {
-        Ok(lists) if 0 < lists.len() && lists.len() <= 64 => {
-            race_lists(rt, alloc, ration, table, seat, place, lists, receipts)
-        }
-        Ok(_) => (seat, Err(Refusal::NoSuch)),
+    let lists = if workers == 2 {
+        two_lists(alloc, ration)
+    } else {
+        four_lists(alloc, ration)
+    };
+    match lists {
+        Ok(lists) => race_lists(rt, alloc, ration, table, seat, place, lists, receipts),
         Err(_) => (seat, Err(Refusal::Memory)),
     }
 }
 
-fn lists_of(alloc: Global, ration: &Ration, workers: u64) -> Result<Vec<Vec<Step>>, Memory> {
-    let mut lists = Vec::new(alloc);
-    for _ in 0..workers {
-        lists.push(put_of(alloc, ration)?)?;
-    }
-    Ok(lists)
+fn two_lists(alloc: Global, ration: &Ration) -> Result<Vec<Vec<Step>>, Memory>
+    ensures { IfOk result (λ lists. (1 ≤ length lists.items) × (length lists.items ≤ 64)) }
+{
+    let first = put_of(alloc, ration)?;
+    let second = put_of(alloc, ration)?;
+    Ok(vec![in alloc; first, second]?)
+}
+
+fn four_lists(alloc: Global, ration: &Ration) -> Result<Vec<Vec<Step>>, Memory>
+    ensures { IfOk result (λ lists. (1 ≤ length lists.items) × (length lists.items ≤ 64)) }
+{
+    let first = put_of(alloc, ration)?;
+    let second = put_of(alloc, ration)?;
+    let third = put_of(alloc, ration)?;
+    let fourth = put_of(alloc, ration)?;
+    Ok(vec![in alloc; first, second, third, fourth]?)
 }
 
 fn race_lists<R: Threads + Wait + Sync>(

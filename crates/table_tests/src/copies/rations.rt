@@ -2,7 +2,7 @@
 ghost use Rattle.std.specs.Prelude.{◌≡◌, ℕ, IfOk};
 
 use crate::shared::{Meeting, Order};
-use seq_model::{Call, Entries, Held, Items, Memory, Op, Refusal, Shape, State, Value};
+use seq_model::{Call, Entries, Held, Memory, Op, Refusal, State, Value};
 use std::alloc::Global;
 use std::marker::Model;
 use std::sync::Arc;
@@ -147,12 +147,4 @@ pub fn get(key: u64) -> Call<Rationed> {
         target: 0,
         op: Op::Get(key),
     }
-}
-
-/// One stripe for the one collection, at clock 0.
-pub fn one_stripe(alloc: Global) -> Result<Shape, Memory> {
-    Ok(Shape {
-        stripes: Items::from_vec(vec![in alloc; 1u32]?),
-        clock: 0,
-    })
 }

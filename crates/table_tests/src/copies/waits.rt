@@ -44,12 +44,17 @@ impl Job<Rationed> for Step {
         match (replies.len(), self.asks) {
             (0, Asks::Gets) => Ok(Ask::Call(get(5))),
             (0, Asks::Puts) | (1, Asks::WritesAndPuts) => Ok(Ask::Call(self.ration.put(5)?)),
-            (0, _) => {
-                let op = Op::Write(7);
-                Ok(Ask::Call(Call { target: 0, op }))
-            }
+            (0, _) => Ok(Ask::Call(write())),
             _ => Ok(Ask::Done),
         }
+    }
+}
+
+/// `write 0 7`.
+fn write() -> Call<Rationed> {
+    Call {
+        target: 0,
+        op: Op::Write(7),
     }
 }
 

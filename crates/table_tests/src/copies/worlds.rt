@@ -1,9 +1,9 @@
 //! A transaction in a running world, one of whose copies is refused.
-use super::rations::{Ration, Rationed, get, one_stripe};
+use super::rations::{Ration, Rationed, get};
 use crate::shared::audit_receipts;
-use seq_model::{Event, Notice, Refusal, Request};
+use seq_model::{Event, Items, Memory, Notice, Record, Refusal, Request, Shape, State};
 use std::alloc::Global;
-use step_world::World;
+use step_world::{Trace, World};
 
 /// No request of the transaction has so many steps.
 const STEPS: u64 = 1_000;
@@ -13,18 +13,52 @@ const STEPS: u64 = 1_000;
 pub fn is_refused(alloc: Global, place: u64) -> Result<bool, Refusal> {
     let ration = Ration::new(alloc)?;
     let opening = ration.opening(alloc)?;
-    let shape = one_stripe(alloc)?;
-    let mut world = World::open(alloc, &shape, opening.try_copy(alloc)?)?;
-    if put_all(&mut world, &ration, place)? {
-        return Ok(true);
+    refuse(alloc, &ration, &opening, place)
+}
+
+fn refuse(
+    alloc: Global,
+    ration: &Ration,
+    opening: &State<Rationed>,
+    place: u64,
+) -> Result<bool, Refusal> {
+    match open(alloc, opening) {
+        Ok(world) => run(alloc, ration, opening, place, world),
+        Err(refusal) => Err(refusal),
     }
+}
+
+fn run(
+    alloc: Global,
+    ration: &Ration,
+    opening: &State<Rationed>,
+    place: u64,
+    mut world: World<Rationed>,
+) -> Result<bool, Refusal> {
+    match put_all(&mut world, ration, place) {
+        Ok(false) => audit_world(alloc, opening, world),
+        refused => refused,
+    }
+}
+
+// No copy was refused, and what the world holds is what its records leave.
+fn audit_world(
+    alloc: Global,
+    opening: &State<Rationed>,
+    world: World<Rationed>,
+) -> Result<bool, Refusal> {
     let trace = world.into_trace()?;
-    let mut receipts = Vec::new(alloc);
-    for (_, record) in trace.records.into_vec() {
-        receipts.push(record)?;
-    }
-    audit_receipts(alloc, &opening, receipts.as_slice(), &trace.state)?;
+    audit_trace(alloc, opening, trace)?;
     Ok(false)
+}
+
+fn open(alloc: Global, opening: &State<Rationed>) -> Result<World<Rationed>, Refusal> {
+    let shape = Shape {
+        stripes: Items::from_vec(vec![in alloc; 1u32]?),
+        clock: 0,
+    };
+    let state = opening.try_copy(alloc)?;
+    World::open(alloc, &shape, state)
 }
 
 // Whether a copy was refused, and the world failed by that.
@@ -49,13 +83,36 @@ fn has_failed(world: &mut World<Rationed>) -> Result<bool, Refusal> {
     Ok(true)
 }
 
+fn audit_trace(
+    alloc: Global,
+    opening: &State<Rationed>,
+    trace: Trace<Rationed>,
+) -> Result<(), Refusal> {
+    let receipts = receipts_of(alloc, trace.records)?;
+    audit_receipts(alloc, opening, receipts.as_slice(), &trace.state)
+}
+
+fn receipts_of(
+    alloc: Global,
+    records: Items<(u32, Record<Rationed>)>,
+) -> Result<Vec<Record<Rationed>>, Memory> {
+    let mut receipts = Vec::new(alloc);
+    for (_, record) in records.into_vec() {
+        receipts.push(record)?;
+    }
+    Ok(receipts)
+}
+
 fn commit_puts(world: &mut World<Rationed>, ration: &Ration) -> Result<(), Refusal> {
     ask(world, Request::Begin)?;
-    for key in 5..7u64 {
-        ask(world, Request::Call(ration.put(key)?))?;
-        ask(world, Request::Call(get(key)))?;
-    }
+    put_and_get(world, ration, 5)?;
+    put_and_get(world, ration, 6)?;
     ask(world, Request::Commit)
+}
+
+fn put_and_get(world: &mut World<Rationed>, ration: &Ration, key: u64) -> Result<(), Refusal> {
+    ask(world, Request::Call(ration.put(key)?))?;
+    ask(world, Request::Call(get(key)))
 }
 
 // A request, and steps up to where it is answered.

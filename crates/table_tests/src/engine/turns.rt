@@ -2,7 +2,7 @@
 ghost use Rattle.tx_engine.specs.Ready.{IsReady};
 
 use super::rows::{answer_own, answer_rows};
-use crate::shared::{Meeting, Order, Page, Told, commit_after};
+use crate::shared::{Meeting, Order, Page, commit_after};
 use seq_model::{Memory, Refusal};
 use std::alloc::Global;
 use std::thread::{Threads, join_mut};
@@ -14,11 +14,11 @@ const QUARTER: u64 = 16;
 
 /// The rows one after another, by seats without transactions.
 #[tactic(auto, using(crate::proofs::FitLemmas::rests_fit))]
-pub fn in_turn<V: Told>(
-    page: &mut Page<V>,
-    table: &TxTable<V>,
-    first: &mut TxSeat<V>,
-    second: &mut TxSeat<V>,
+pub fn in_turn(
+    page: &mut Page,
+    table: &TxTable<u64>,
+    first: &mut TxSeat<u64>,
+    second: &mut TxSeat<u64>,
     rows: &str,
 )
     requires first { IsReady table.now first.old }
@@ -32,12 +32,12 @@ pub fn in_turn<V: Told>(
 }
 
 /// The rows of each seat in a thread of its own. Those of the first seat are answered before those of the second on the page.
-pub fn at_once<R: Threads, V: Told + Send + Sync>(
+pub fn at_once<R: Threads>(
     rt: &R,
-    page: &mut Page<V>,
-    table: &TxTable<V>,
-    first: &mut TxSeat<V>,
-    second: &mut TxSeat<V>,
+    page: &mut Page,
+    table: &TxTable<u64>,
+    first: &mut TxSeat<u64>,
+    second: &mut TxSeat<u64>,
     order: Order,
     rows: &str,
 )
@@ -52,12 +52,12 @@ pub fn at_once<R: Threads, V: Told + Send + Sync>(
 }
 
 /// Likewise of four seats, two of which are split off.
-pub fn four_at_once<R: Threads + Sync, V: Told + Send + Sync>(
+pub fn four_at_once<R: Threads + Sync>(
     rt: &R,
-    page: &mut Page<V>,
-    table: &TxTable<V>,
-    first: &mut TxSeat<V>,
-    second: &mut TxSeat<V>,
+    page: &mut Page,
+    table: &TxTable<u64>,
+    first: &mut TxSeat<u64>,
+    second: &mut TxSeat<u64>,
     order: Order,
     rows: &str,
 )
@@ -72,12 +72,12 @@ pub fn four_at_once<R: Threads + Sync, V: Told + Send + Sync>(
 }
 
 // The worker is the first of two.
-fn pair_at_once<R: Threads, V: Told + Send + Sync>(
+fn pair_at_once<R: Threads>(
     rt: &R,
-    page: &mut Page<V>,
-    table: &TxTable<V>,
-    first: &mut TxSeat<V>,
-    second: &mut TxSeat<V>,
+    page: &mut Page,
+    table: &TxTable<u64>,
+    first: &mut TxSeat<u64>,
+    second: &mut TxSeat<u64>,
     worker: u64,
     meeting: &Meeting,
     rows: &str,
@@ -99,12 +99,12 @@ fn pair_at_once<R: Threads, V: Told + Send + Sync>(
     }
 }
 
-fn halves_at_once<R: Threads + Sync, V: Told + Send + Sync>(
+fn halves_at_once<R: Threads + Sync>(
     rt: &R,
-    page: &mut Page<V>,
-    table: &TxTable<V>,
-    first: &mut TxSeat<V>,
-    second: &mut TxSeat<V>,
+    page: &mut Page,
+    table: &TxTable<u64>,
+    first: &mut TxSeat<u64>,
+    second: &mut TxSeat<u64>,
     meeting: &Meeting,
     rows: &str,
 )
@@ -125,23 +125,28 @@ fn halves_at_once<R: Threads + Sync, V: Told + Send + Sync>(
     }
 }
 
-fn leave_wanting<V: Told>(page: &mut Page<V>, meeting: &Meeting) {
+fn leave_wanting(page: &mut Page, meeting: &Meeting) {
     page.fail(Refusal::Memory);
     meeting.leave();
 }
 
-fn two_pages<V: Told>(alloc: Global) -> Result<(Page<V>, Page<V>), Memory> {
+fn two_pages(alloc: Global) -> Result<(Page, Page), Memory> {
     let left = Page::new(alloc)?;
-    let right = Page::new(alloc)?;
-    Ok((left, right))
+    match Page::new(alloc) {
+        Ok(right) => Ok((left, right)),
+        Err(memory) => {
+            drop(left);
+            Err(memory)
+        }
+    }
 }
 
 // No other seat is to wait for one that answers no more rows.
 #[tactic(auto, using(crate::proofs::FitLemmas::rests_fit))]
-fn answer_seat<V: Told>(
-    page: &mut Page<V>,
-    table: &TxTable<V>,
-    seat: &mut TxSeat<V>,
+fn answer_seat(
+    page: &mut Page,
+    table: &TxTable<u64>,
+    seat: &mut TxSeat<u64>,
     worker: u64,
     meeting: &Meeting,
     rows: &str,
@@ -156,13 +161,13 @@ fn answer_seat<V: Told>(
     }
 }
 
-fn in_threads<R: Threads, V: Told + Send + Sync>(
+fn in_threads<R: Threads>(
     rt: &R,
-    table: &TxTable<V>,
-    left: &mut Page<V>,
-    first: &mut TxSeat<V>,
-    right: &mut Page<V>,
-    second: &mut TxSeat<V>,
+    table: &TxTable<u64>,
+    left: &mut Page,
+    first: &mut TxSeat<u64>,
+    right: &mut Page,
+    second: &mut TxSeat<u64>,
     worker: u64,
     meeting: &Meeting,
     rows: &str,
@@ -186,13 +191,13 @@ fn in_threads<R: Threads, V: Told + Send + Sync>(
     );
 }
 
-fn halves_in_threads<R: Threads + Sync, V: Told + Send + Sync>(
+fn halves_in_threads<R: Threads + Sync>(
     rt: &R,
-    table: &TxTable<V>,
-    left: &mut Page<V>,
-    first: &mut TxSeat<V>,
-    right: &mut Page<V>,
-    second: &mut TxSeat<V>,
+    table: &TxTable<u64>,
+    left: &mut Page,
+    first: &mut TxSeat<u64>,
+    right: &mut Page,
+    second: &mut TxSeat<u64>,
     meeting: &Meeting,
     rows: &str,
 )
@@ -215,11 +220,11 @@ fn halves_in_threads<R: Threads + Sync, V: Told + Send + Sync>(
 }
 
 // Two of four seats, of which the worker is the first.
-fn answer_half<R: Threads, V: Told + Send + Sync>(
+fn answer_half<R: Threads>(
     rt: &R,
-    page: &mut Page<V>,
-    table: &TxTable<V>,
-    seat: &mut TxSeat<V>,
+    page: &mut Page,
+    table: &TxTable<u64>,
+    seat: &mut TxSeat<u64>,
     worker: u64,
     meeting: &Meeting,
     rows: &str,
@@ -237,12 +242,12 @@ fn answer_half<R: Threads, V: Told + Send + Sync>(
 }
 
 // Where an allocation failed, the seat that was split off commits a write before it is joined again.
-fn answer_quarters<R: Threads, V: Told + Send + Sync>(
+fn answer_quarters<R: Threads>(
     rt: &R,
-    page: &mut Page<V>,
-    table: &TxTable<V>,
-    seat: &mut TxSeat<V>,
-    other: &mut TxSeat<V>,
+    page: &mut Page,
+    table: &TxTable<u64>,
+    seat: &mut TxSeat<u64>,
+    other: &mut TxSeat<u64>,
     worker: u64,
     meeting: &Meeting,
     rows: &str,

@@ -5,7 +5,7 @@ ghost use Rattle.vac_model.specs.Balanced.{IsBalanced};
 use super::printed::{is_refused, print_served};
 use crate::shared::{Meeting, Order, audit_receipts};
 use client_sessions::{Entry, state_of};
-use seq_model::{Refusal, State};
+use seq_model::{Items, Record, Refusal, State};
 use std::alloc::Global;
 use std::sync::Wait;
 use std::thread::Threads;
@@ -32,12 +32,53 @@ pub fn serve_sessions<R: Threads + Wait + Sync>(
     if options.workers == 0 {
         return Err(Refusal::NoSuch);
     }
-    let alloc = *text.allocator();
-    let (tables, actions) = parse_sessions(alloc, file.as_bytes())?;
-    let opening = state_of(alloc, &tables)?;
+    match parse_sessions(*text.allocator(), file.as_bytes()) {
+        Ok((tables, actions)) => serve_tables(rt, text, options, tables, actions),
+        Err(refusal) => Err(refusal),
+    }
+}
+
+fn serve_tables<R: Threads + Wait + Sync>(
+    rt: &R,
+    text: &mut String,
+    options: Options,
+    tables: Tables,
+    actions: Vec<Action>,
+) -> Result<(), Refusal>
+    requires workers { 1 ≤ options.workers }
+    requires balanced { IsBalanced tables }
+{
+    match state_of(*text.allocator(), &tables) {
+        Ok(opening) => {
+            let answered = serve_opening(rt, text, options, &opening, tables, actions);
+            drop(opening);
+            answered
+        }
+        Err(_) => {
+            drop(tables);
+            drop(actions);
+            Err(Refusal::Memory)
+        }
+    }
+}
+
+fn serve_opening<R: Threads + Wait + Sync>(
+    rt: &R,
+    text: &mut String,
+    options: Options,
+    opening: &State<Entry>,
+    tables: Tables,
+    actions: Vec<Action>,
+) -> Result<(), Refusal>
+    requires workers { 1 ≤ options.workers }
+    requires balanced { IsBalanced tables }
+{
     let meeting = Meeting::new(options.meet, Order::LastIsFirst);
-    match serve_actions(rt, alloc, tables, options, actions, &meeting) {
-        Ok(served) => answer_served(text, &opening, served, meeting.is_missed()),
+    let served = serve_actions(rt, *text.allocator(), tables, options, actions, &meeting);
+    let is_held_in_vain = meeting.is_missed();
+    drop(meeting);
+    match served {
+        Ok(served) => answer_served(text, opening, served, is_held_in_vain),
         Err(Refusal::TooLong) => Ok(text.push_str("TooLong\n")?),
         Err(refusal) => Err(refusal),
     }
@@ -54,9 +95,29 @@ fn serve_actions<R: Threads + Wait + Sync>(
     requires workers { 1 ≤ options.workers }
     requires balanced { IsBalanced tables }
 {
-    let lists = deal(alloc, actions, options.workers)?;
+    match deal(alloc, actions, options.workers) {
+        Ok(lists) => serve_lists(rt, alloc, tables, options, lists, meeting),
+        Err(_) => {
+            drop(tables);
+            Err(Refusal::Memory)
+        }
+    }
+}
+
+fn serve_lists<R: Threads + Wait + Sync>(
+    rt: &R,
+    alloc: Global,
+    tables: Tables,
+    options: Options,
+    lists: Vec<Vec<Action>>,
+    meeting: &Meeting,
+) -> Result<Served, Refusal>
+    requires { IsBalanced tables }
+{
     let count = lists.len();
     if count == 0 || count > 64 || options.tries == 0 {
+        drop(tables);
+        drop(lists);
         return Err(Refusal::NoSuch);
     }
     serve(
@@ -82,9 +143,22 @@ fn answer_served(
         state,
     } = served;
     let printed = print_served(text, &report, &tables);
+    drop(tables);
     let is_wanted = is_refused(&report);
-    audit_report(*text.allocator(), opening, report, &state)?;
-    // Where an allocation failed for a worker, others are held in vain.
+    let audited = audit_report(*text.allocator(), opening, report, &state);
+    drop(state);
+    end(text, printed, audited, is_wanted, is_held_in_vain)
+}
+
+// Where an allocation failed for a worker, others are held in vain.
+fn end(
+    text: &mut String,
+    printed: Result<(), Refusal>,
+    audited: Result<(), Refusal>,
+    is_wanted: bool,
+    is_held_in_vain: bool,
+) -> Result<(), Refusal> {
+    audited?;
     if is_wanted {
         return Err(Refusal::Memory);
     }
@@ -105,8 +179,22 @@ fn audit_report(
     let Report { receipts, missed } = report;
     drop(missed);
     let mut all = Vec::new(alloc);
-    for list in receipts.into_vec() {
-        all.append(&mut list.into_vec())?;
+    let audited = if have_room(&mut all, receipts) {
+        audit_receipts(alloc, opening, all.as_slice(), last)
+    } else {
+        Err(Refusal::Memory)
+    };
+    drop(all);
+    audited
+}
+
+// All receipts are gathered; whether there was room.
+fn have_room(all: &mut Vec<Record<Entry>>, lists: Items<Items<Record<Entry>>>) -> bool {
+    let mut is_held = true;
+    for list in lists.into_vec() {
+        let mut list = list.into_vec();
+        is_held = all.append(&mut list).is_ok() && is_held;
+        drop(list);
     }
-    audit_receipts(alloc, opening, all.as_slice(), last)
+    is_held
 }

@@ -1,9 +1,8 @@
 //! What is printed of a table's rows, and the receipts so far.
 use super::ends::{audit_receipts, print_closed, print_receipt};
 use super::meeting::Meeting;
-use super::told::Told;
-use crate::borrowed::ends::Ended;
-use seq_model::{LastAbort, Memory, Record, Refusal, Reply, State};
+use row_parts::print_reply;
+use seq_model::{Memory, Record, Refusal, Reply, State};
 use std::alloc::Global;
 use std::fmt::Write;
 use tx_table::Block;
@@ -14,14 +13,14 @@ const ROOM: usize = 96;
 /// What is printed of a table's rows, and the receipts so far. `Memory`, or another fault, is kept to the end, so that the rows
 /// continue after it.
 #[derive(Drop)]
-pub struct Page<V> {
+pub struct Page {
     pub text: String,
-    receipts: Vec<Record<V>>,
+    receipts: Vec<Record<u64>>,
     fault: Option<Refusal>,
 }
 
-impl<V: Told> Page<V> {
-    pub fn new(alloc: Global) -> Result<Page<V>, Memory> {
+impl Page {
+    pub fn new(alloc: Global) -> Result<Page, Memory> {
         let receipts = Vec::with_capacity(alloc, ROOM)?;
         Ok(Page {
             text: String::new(alloc),
@@ -105,41 +104,22 @@ impl<V: Told> Page<V> {
         }
     }
 
-    pub fn hear(&mut self, answered: Result<Reply<V>, Refusal>) {
+    pub fn hear(&mut self, answered: Result<Reply<u64>, Refusal>) {
         match answered {
             Ok(reply) => {
                 self.begin_part();
-                let is_printed = V::print_reply(&mut self.text, &reply).is_ok();
+                let is_printed = print_reply(&mut self.text, &reply).is_ok();
+                drop(reply);
                 self.note(is_printed);
             }
             Err(refusal) => self.refuse(refusal),
         }
     }
 
-    pub fn hear_commit(&mut self, answered: Result<Record<V>, Refusal>) {
+    pub fn hear_commit(&mut self, answered: Result<Record<u64>, Refusal>) {
         match answered {
             Ok(receipt) => self.keep(receipt),
             Err(refusal) => self.refuse(refusal),
-        }
-    }
-
-    /// What comes of attempts of a job.
-    pub fn hear_tries(&mut self, tried: Result<Record<V>, LastAbort>) {
-        match tried {
-            Ok(receipt) => self.keep(receipt),
-            Err(LastAbort::Refused(refusal)) => self.refuse(refusal),
-            Err(LastAbort::GivenUp) => self.say("given up"),
-            Err(LastAbort::NotStarted) => self.say("not started"),
-        }
-    }
-
-    /// How a transaction has ended that borrowed its seat.
-    pub fn hear_end(&mut self, ended: Ended<V>) {
-        match ended {
-            Ended::Committed(receipt) => self.keep(receipt),
-            Ended::Refused(refusal) => self.refuse(refusal),
-            Ended::Aborted => self.say("aborted"),
-            Ended::Dropped => self.say("dropped"),
         }
     }
 
@@ -152,7 +132,7 @@ impl<V: Told> Page<V> {
     }
 
     /// A write is printed, if there was one to commit.
-    pub fn hear_write(&mut self, written: Result<Option<Record<V>>, Refusal>) {
+    pub fn hear_write(&mut self, written: Result<Option<Record<u64>>, Refusal>) {
         match written {
             Ok(Some(receipt)) => self.keep(receipt),
             Ok(None) => {}
@@ -162,13 +142,15 @@ impl<V: Told> Page<V> {
 
     /// Where an allocation failed, those who meet are held in vain.
     pub fn hear_meeting(&mut self, meeting: Meeting) {
-        if meeting.is_missed() && !self.wants_memory() {
+        let is_missed = meeting.is_missed();
+        drop(meeting);
+        if is_missed && !self.wants_memory() {
             self.fail(Refusal::NotIdle);
         }
     }
 
     /// A receipt is printed, and joins the others.
-    pub fn keep(&mut self, receipt: Record<V>) {
+    pub fn keep(&mut self, receipt: Record<u64>) {
         self.begin_part();
         let is_printed = print_receipt(&mut self.text, &receipt).is_ok();
         self.note(is_printed);
@@ -176,23 +158,26 @@ impl<V: Told> Page<V> {
     }
 
     /// A receipt joins the others.
-    pub fn receive(&mut self, receipt: Record<V>) {
-        if self.receipts.push(receipt).is_err() {
+    pub fn receive(&mut self, receipt: Record<u64>) {
+        if let Err(failed) = self.receipts.push(receipt) {
+            drop(failed);
             self.fail(Refusal::TooLong);
         }
     }
 
     /// Another page is put after this one.
-    pub fn append(&mut self, other: Page<V>) {
+    pub fn append(&mut self, other: Page) {
         let Page {
             text,
             mut receipts,
             fault,
         } = other;
         self.print(text.as_str());
+        drop(text);
         if self.receipts.append(&mut receipts).is_err() {
             self.fail(Refusal::TooLong);
         }
+        drop(receipts);
         if let Some(refusal) = fault {
             self.fail(refusal);
         }
@@ -213,16 +198,17 @@ impl<V: Told> Page<V> {
 
 /// What a table that was closed held, audited, and all that was printed of it, which joins the text. Else it is refused as the page has
 /// failed, and `NotIdle` where the receipts do not leave what the table held.
-pub fn end_page<V: Told>(
+pub fn end_page(
     text: &mut String,
-    page: &mut Page<V>,
-    opening: &State<V>,
+    page: &mut Page,
+    opening: &State<u64>,
     clock: Option<u64>,
-    mut last: State<V>,
+    mut last: State<u64>,
     rows: &str,
 ) -> Result<(), Refusal> {
     let audited = audit_receipts(page.alloc(), opening, page.receipts.as_slice(), &last);
     let printed = print_closed(&mut page.text, clock, &mut last, rows);
+    drop(last);
     audited?;
     if let Some(refusal) = page.fault {
         return Err(refusal);

@@ -2,13 +2,13 @@
 ghost use Rattle.std.specs.Prelude.{◌≡◌, ◌<◌};
 
 use super::pages::Page;
-use super::told::Told;
+use row_parts::print_base;
 use seq_model::Refusal;
 use text_formats::number;
-use tx_table::{Closed, TxTable};
+use tx_table::{Block, Closed, TxTable};
 
 /// Answers each row `the words`, how many there are, and `the block 0`, where this collection is stored.
-pub fn say_places<V: Told>(page: &mut Page<V>, table: &TxTable<V>, rows: &str) {
+pub fn say_places(page: &mut Page, table: &TxTable<u64>, rows: &str) {
     for row in rows.lines() {
         if let Some(asked) = row.strip_prefix("the ") {
             page.begin_row(row);
@@ -18,13 +18,17 @@ pub fn say_places<V: Told>(page: &mut Page<V>, table: &TxTable<V>, rows: &str) {
     }
 }
 
-fn say_place<V: Told>(page: &mut Page<V>, table: &TxTable<V>, asked: &str) {
+fn say_place(page: &mut Page, table: &TxTable<u64>, asked: &str) {
     match asked.strip_prefix("block ") {
-        Some(digits) => match table.block(collection_of(digits)) {
-            Some(block) => page.say_block(block),
-            None => page.say("none"),
-        },
+        Some(digits) => say_block(page, table.block(collection_of(digits))),
         None => page.say_number("", table.words() as u64),
+    }
+}
+
+fn say_block(page: &mut Page, block: Option<Block>) {
+    match block {
+        Some(block) => page.say_block(block),
+        None => page.say("none"),
     }
 }
 
@@ -37,7 +41,7 @@ fn collection_of(digits: &str) -> u32 {
 }
 
 /// Answers each row `left 0`, what this collection holds.
-pub fn say_left<V: Told>(page: &mut Page<V>, closed: &Closed<V>, rows: &str) {
+pub fn say_left(page: &mut Page, closed: &Closed<u64>, rows: &str) {
     for row in rows.lines() {
         if let Some(digits) = row.strip_prefix("left ") {
             page.begin_row(row);
@@ -47,10 +51,10 @@ pub fn say_left<V: Told>(page: &mut Page<V>, closed: &Closed<V>, rows: &str) {
     }
 }
 
-fn say_collection<V: Told>(page: &mut Page<V>, closed: &Closed<V>, collection: u32) {
+fn say_collection(page: &mut Page, closed: &Closed<u64>, collection: u32) {
     if (collection as usize) < closed.collections() {
         let base = closed.collection(collection);
-        if let Err(refusal) = V::print_base(&mut page.text, base) {
+        if let Err(refusal) = print_base(&mut page.text, base) {
             page.fail(refusal);
         }
     } else {

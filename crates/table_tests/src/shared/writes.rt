@@ -2,7 +2,6 @@
 ghost use Rattle.tx_engine.specs.Ready.{HasBegunSince, IsReady};
 
 use super::pages::Page;
-use super::told::Told;
 use seq_model::{Call, Op, Record, Refusal};
 use std::thread::yield_now;
 use tx_engine::TxSeat;
@@ -15,10 +14,10 @@ const KINDS: u64 = 5;
 const TRIES: u64 = 1_000_000;
 
 /// A transaction of one write: on the first word, or else on the first collection, whatever its kind. None at the limit of the clock.
-pub fn commit_write<V: Told>(
-    table: &TxTable<V>,
-    seat: &mut TxSeat<V>,
-) -> Result<Option<Record<V>>, Refusal>
+pub fn commit_write(
+    table: &TxTable<u64>,
+    seat: &mut TxSeat<u64>,
+) -> Result<Option<Record<u64>>, Refusal>
     requires ready { IsReady table.now seat.old }
     ensures ready { IsReady table.now seat.new }
 {
@@ -33,7 +32,7 @@ pub fn commit_write<V: Told>(
 }
 
 /// Where an allocation failed, the seat commits a write after it. Other seats may be at work.
-pub fn commit_after<V: Told>(page: &mut Page<V>, table: &TxTable<V>, seat: &mut TxSeat<V>)
+pub fn commit_after(page: &mut Page, table: &TxTable<u64>, seat: &mut TxSeat<u64>)
     requires ready { IsReady table.now seat.old }
     ensures ready { IsReady table.now seat.new }
 {
@@ -43,24 +42,35 @@ pub fn commit_after<V: Told>(page: &mut Page<V>, table: &TxTable<V>, seat: &mut 
     }
 }
 
-fn commit_among<V: Told>(
-    table: &TxTable<V>,
-    seat: &mut TxSeat<V>,
-) -> Result<Option<Record<V>>, Refusal>
+fn commit_among(
+    table: &TxTable<u64>,
+    seat: &mut TxSeat<u64>,
+) -> Result<Option<Record<u64>>, Refusal>
     requires ready { IsReady table.now seat.old }
     ensures ready { IsReady table.now seat.new }
 {
     'tries: for _ in 0..TRIES {
         match commit_write(table, seat) {
             Ok(written) => return Ok(written),
-            Err(cause) if cause.is_conflict() => yield_now(),
+            Err(cause) if is_of_others(cause) => yield_now(),
             Err(cause) => return Err(cause),
         }
     }
     Err(Refusal::NotIdle)
 }
 
-fn write_any<V: Told>(table: &TxTable<V>, seat: &mut TxSeat<V>) -> Result<(), Refusal>
+fn is_of_others(cause: Refusal) -> bool {
+    matches!(
+        cause,
+        Refusal::Moved { .. }
+            | Refusal::Busy { .. }
+            | Refusal::Stale { .. }
+            | Refusal::GateBusy { .. }
+            | Refusal::Invalid { .. }
+    )
+}
+
+fn write_any(table: &TxTable<u64>, seat: &mut TxSeat<u64>) -> Result<(), Refusal>
     requires ready { IsReady table.now seat.old }
     requires since { HasBegunSince table.now seat.old }
     ensures ready { IsReady table.now seat.new }
@@ -68,7 +78,10 @@ fn write_any<V: Told>(table: &TxTable<V>, seat: &mut TxSeat<V>) -> Result<(), Re
 {
     'kinds: for kind in 0..KINDS {
         match seat.call(table, write_of(kind)) {
-            Ok(_) => return Ok(()),
+            Ok(reply) => {
+                drop(reply);
+                return Ok(());
+            }
             Err(Refusal::NoSuch) => {}
             Err(cause) => return Err(cause),
         }
@@ -76,10 +89,10 @@ fn write_any<V: Told>(table: &TxTable<V>, seat: &mut TxSeat<V>) -> Result<(), Re
     Err(Refusal::NoSuch)
 }
 
-fn write_of<V: Told>(kind: u64) -> Call<V> {
+fn write_of(kind: u64) -> Call<u64> {
     let op = match kind {
         0 => Op::Write(77),
-        1 => Op::Put(5, V::of_number(77)),
+        1 => Op::Put(5, 77),
         2 => Op::Add(5),
         3 => Op::Insert(5),
         _ => Op::Enqueue(5),

@@ -2,21 +2,21 @@
 ghost use Rattle.std.specs.Prelude.{◌≤◌};
 ghost use Rattle.tx_engine.specs.Ready.{IsReady};
 
-use crate::shared::{Page, Told, commit_after, job_of};
+use crate::shared::{Listed, Page, commit_after, job_of};
 use seq_model::Refusal;
 use tx_engine::TxSeat;
 use tx_table::TxTable;
-use workers::{NoPause, retry};
+use workers::{LastAbort, NoPause, retry};
 
 /// The jobs of these rows, one after another, each in up to so many attempts; the run fails where there are none. Where an allocation
 /// failed, the seat commits a write after it.
-pub fn retry_rows<V: Told>(
-    page: &mut Page<V>,
+pub fn retry_rows(
+    page: &mut Page,
     tries: u64,
-    table: &TxTable<V>,
-    mut seat: TxSeat<V>,
+    table: &TxTable<u64>,
+    mut seat: TxSeat<u64>,
     rows: &str,
-) -> TxSeat<V>
+) -> TxSeat<u64>
     requires ready { IsReady table.now seat }
     ensures ready { IsReady table.now result }
 {
@@ -24,16 +24,24 @@ pub fn retry_rows<V: Told>(
         page.fail(Refusal::NoSuch);
         return seat;
     }
-    answer_rows(page, tries, table, &mut seat, rows);
-    commit_after(page, table, &mut seat);
+    run_seat(page, tries, table, &mut seat, rows);
     seat
 }
 
-fn answer_rows<V: Told>(
-    page: &mut Page<V>,
+fn run_seat(page: &mut Page, tries: u64, table: &TxTable<u64>, seat: &mut TxSeat<u64>, rows: &str)
+    requires some { 1 ≤ tries }
+    requires ready { IsReady table.now seat.old }
+    ensures ready { IsReady table.now seat.new }
+{
+    answer_rows(page, tries, table, seat, rows);
+    commit_after(page, table, seat);
+}
+
+fn answer_rows(
+    page: &mut Page,
     tries: u64,
-    table: &TxTable<V>,
-    seat: &mut TxSeat<V>,
+    table: &TxTable<u64>,
+    seat: &mut TxSeat<u64>,
     rows: &str,
 )
     requires some { 1 ≤ tries }
@@ -41,19 +49,30 @@ fn answer_rows<V: Told>(
     ensures ready { IsReady table.now seat.new }
 {
     'rows: for row in rows.lines() {
-        if let Some(words) = row.strip_prefix("1 ") {
+        answer_row(page, tries, table, seat, row);
+    }
+}
+
+fn answer_row(page: &mut Page, tries: u64, table: &TxTable<u64>, seat: &mut TxSeat<u64>, row: &str)
+    requires some { 1 ≤ tries }
+    requires ready { IsReady table.now seat.old }
+    ensures ready { IsReady table.now seat.new }
+{
+    match row.split_once(' ') {
+        Some(("1", words)) => {
             page.begin_row(row);
             answer_words(page, tries, table, seat, words);
             page.end_row();
         }
+        _ => {}
     }
 }
 
-fn answer_words<V: Told>(
-    page: &mut Page<V>,
+fn answer_words(
+    page: &mut Page,
     tries: u64,
-    table: &TxTable<V>,
-    seat: &mut TxSeat<V>,
+    table: &TxTable<u64>,
+    seat: &mut TxSeat<u64>,
     words: &str,
 )
     requires some { 1 ≤ tries }
@@ -62,9 +81,28 @@ fn answer_words<V: Told>(
 {
     match job_of(page.alloc(), words) {
         Ok(job) => {
-            let tried = retry(table, seat, &job, tries, 1, &NoPause);
-            page.hear_tries(tried);
+            retry_job(page, tries, table, seat, &job);
+            drop(job);
         }
         Err(refusal) => page.fail(refusal),
+    }
+}
+
+fn retry_job(
+    page: &mut Page,
+    tries: u64,
+    table: &TxTable<u64>,
+    seat: &mut TxSeat<u64>,
+    job: &Listed,
+)
+    requires some { 1 ≤ tries }
+    requires ready { IsReady table.now seat.old }
+    ensures ready { IsReady table.now seat.new }
+{
+    match retry(table, seat, job, tries, 1, &NoPause) {
+        Ok(receipt) => page.keep(receipt),
+        Err(LastAbort::Refused(refusal)) => page.refuse(refusal),
+        Err(LastAbort::GivenUp) => page.say("given up"),
+        Err(LastAbort::NotStarted) => page.say("not started"),
     }
 }

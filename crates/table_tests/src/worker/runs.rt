@@ -5,7 +5,7 @@ ghost use Rattle.tx_engine.specs.Ready.{IsReady};
 
 use super::lists::{Limits, lists_of, wants_of};
 use super::reports::{memory_missed, print_report, receive_all};
-use crate::shared::{Listed, Meeting, Page, Told, commit_write};
+use crate::shared::{Listed, Meeting, Page, commit_write};
 use seq_model::{Memory, Refusal};
 use std::sync::Wait;
 use std::thread::Threads;
@@ -14,14 +14,14 @@ use tx_table::TxTable;
 use workers::{Report, run_workers_owned};
 
 /// The workers' lists that these rows spell; the run fails where there are none, or more than 64, or no attempts.
-pub fn run_lists<R: Threads + Wait + Sync, V: Told + Send + Sync>(
+pub fn run_lists<R: Threads + Wait + Sync>(
     rt: &R,
-    page: &mut Page<V>,
+    page: &mut Page,
     limits: Limits,
-    table: &TxTable<V>,
-    seat: TxSeat<V>,
+    table: &TxTable<u64>,
+    seat: TxSeat<u64>,
     rows: &str,
-) -> TxSeat<V>
+) -> TxSeat<u64>
     requires ready { IsReady table.now seat }
     requires shares { (view seat.seat).shares ≡ 64 }
     ensures ready { IsReady table.now result }
@@ -35,36 +35,37 @@ pub fn run_lists<R: Threads + Wait + Sync, V: Told + Send + Sync>(
     }
 }
 
-fn run_some<R: Threads + Wait + Sync, V: Told + Send + Sync>(
+fn run_some<R: Threads + Wait + Sync>(
     rt: &R,
-    page: &mut Page<V>,
+    page: &mut Page,
     limits: Limits,
-    table: &TxTable<V>,
-    seat: TxSeat<V>,
+    table: &TxTable<u64>,
+    seat: TxSeat<u64>,
     lists: Vec<Vec<Listed>>,
     rows: &str,
-) -> TxSeat<V>
+) -> TxSeat<u64>
     requires ready { IsReady table.now seat }
     requires shares { (view seat.seat).shares ≡ 64 }
     ensures ready { IsReady table.now result }
 {
     let count = lists.len();
     if count == 0 || count > 64 || limits.tries == 0 {
+        drop(lists);
         page.fail(Refusal::NoSuch);
         return seat;
     }
     run_seat(rt, page, limits, table, seat, lists, rows)
 }
 
-fn run_seat<R: Threads + Wait + Sync, V: Told + Send + Sync>(
+fn run_seat<R: Threads + Wait + Sync>(
     rt: &R,
-    page: &mut Page<V>,
+    page: &mut Page,
     limits: Limits,
-    table: &TxTable<V>,
-    seat: TxSeat<V>,
+    table: &TxTable<u64>,
+    seat: TxSeat<u64>,
     lists: Vec<Vec<Listed>>,
     rows: &str,
-) -> TxSeat<V>
+) -> TxSeat<u64>
     requires some { 1 ≤ limits.tries }
     requires ready { IsReady table.now seat }
     requires lists { (1 ≤ length lists.items) × (length lists.items ≤ 64) }
@@ -80,16 +81,17 @@ fn run_seat<R: Threads + Wait + Sync, V: Told + Send + Sync>(
 }
 
 // Whether any job ran out of memory. That is `Memory` of the run unless the jobs were to have none.
-fn hear<V: Told>(
-    page: &mut Page<V>,
-    report: Result<Report<V>, Memory>,
-    limits: Limits,
-    wants: u64,
-) -> bool {
-    let Ok(report) = report else {
-        page.fail(Refusal::Memory);
-        return true;
-    };
+fn hear(page: &mut Page, report: Result<Report<u64>, Memory>, limits: Limits, wants: u64) -> bool {
+    match report {
+        Ok(report) => hear_report(page, report, limits, wants),
+        Err(_) => {
+            page.fail(Refusal::Memory);
+            true
+        }
+    }
+}
+
+fn hear_report(page: &mut Page, report: Report<u64>, limits: Limits, wants: u64) -> bool {
     let is_printed = print_report(&mut page.text, &report, limits).is_ok();
     page.note(is_printed);
     let refused = memory_missed(report.missed.as_slice());
@@ -103,20 +105,27 @@ fn hear<V: Told>(
 }
 
 // Where an allocation failed, the seat commits a write after it.
-fn go_on<V: Told>(
-    page: &mut Page<V>,
-    table: &TxTable<V>,
-    mut seat: TxSeat<V>,
+fn go_on(
+    page: &mut Page,
+    table: &TxTable<u64>,
+    mut seat: TxSeat<u64>,
     is_refused: bool,
-) -> TxSeat<V>
+) -> TxSeat<u64>
     requires ready { IsReady table.now seat }
     ensures ready { IsReady table.now result }
 {
     if is_refused {
-        page.begin_row("after");
-        let written = commit_write(table, &mut seat);
-        page.hear_write(written);
-        page.end_row();
+        commit_one(page, table, &mut seat);
     }
     seat
+}
+
+fn commit_one(page: &mut Page, table: &TxTable<u64>, seat: &mut TxSeat<u64>)
+    requires ready { IsReady table.now seat.old }
+    ensures ready { IsReady table.now seat.new }
+{
+    page.begin_row("after");
+    let written = commit_write(table, seat);
+    page.hear_write(written);
+    page.end_row();
 }

@@ -2,4 +2,4 @@ use Rattle.tx_engine.specs.Ready.{IsReady}
 use Rattle.table_tests.proofs.shared.writes.commit_among.Given as goal
 
 abbrev pub invariant-tries : goal.invariant-tries
-invariant-tries g l = IsReady l.table l.seat
+invariant-tries l = IsReady l.table l.seat
