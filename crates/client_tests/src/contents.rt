@@ -45,9 +45,13 @@ fn print_wide<V: Number>(
         keys = keys.saturating_add(*key);
     }
     let (len, value) = (entries.len(), entries.get(2).map(|value| value.number()));
-    let counts = contents.bag(handles.wide_bag);
-    let copies = counts.map_or(0, |counts| counts.copies(3));
-    let elements = counts.map_or(0, |counts| counts.iter().count());
+    let (mut copies, mut elements) = (0, 0u64);
+    if let Some(counts) = contents.bag(handles.wide_bag) {
+        copies = counts.copies(3);
+        for (_, _) in counts.iter() {
+            elements = elements.saturating_add(1);
+        }
+    }
     let items = contents.lanes(handles.lanes).map_or(0, |lanes| lanes.len());
     writeln!(
         text,
