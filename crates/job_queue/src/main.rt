@@ -8,11 +8,9 @@ use wolimevar::{
     Scope, Session, Transaction, Word,
 };
 
-/// How often a job is tried at most.
-const TRIES: u64 = 3;
+const TRIES: u64 = 3; // how often a job is tried at most
 
-/// The numbers of the jobs that are ready, the least one the most urgent; how often each of them may still be tried; how often each job has
-/// ended; those whose every try failed; and how many haven't ended.
+/// Jobs that are ready, the most urgent first; how often each may be tried yet; how often each has ended; the dead; how many haven't ended.
 #[derive(Clone, Copy)]
 struct Jobs {
     ready: PriorityQueue,
@@ -99,8 +97,7 @@ impl Session<u64> for Role {
             Role::Worker(jobs) => for _ in 0..10_000_000u64 {
                 match client.atomically(u64::MAX, &Take(jobs))? {
                     (Found::Job(number, tries), _) => {
-                        // Jobs fail at their first tries: none of them, one, two, or all three.
-                        let done = TRIES.saturating_sub(tries) >= number % 4;
+                        let done = TRIES.saturating_sub(tries) >= number % 4; // none to three tries fail
                         let change = if done || tries <= 1 {
                             Change::End(jobs, number, done)
                         } else {
@@ -124,20 +121,23 @@ fn serve<R: Threads + Sync>(rt: &R, alloc: Global) -> Result<String, Refusal> {
         ready: layout.priority_queue(1, Counts::new(alloc))?,
         tries: layout.map(4, Entries::new(alloc))?,
         ended: layout.bag(4, Counts::new(alloc))?,
-        // The order in which jobs died doesn't matter: in a lane of its own no worker waits for another.
-        dead: layout.lanes(3, 1, QueueItems::new(alloc))?,
+        dead: layout.lanes(3, 1, QueueItems::new(alloc))?, // in no order: no worker waits for another
         left: layout.word(200)?,
     };
     let mut store = layout.open()?;
     let (give, work) = (|first| Role::Producer(jobs, first), || Role::Worker(jobs));
     let roles = vec![in alloc; give(0), give(100), work(), work(), work()]?;
-    let mut tries = 0u64;
+    let (mut tries, mut once) = (0u64, 0u64);
     for made in store.run(rt, roles)? {
         tries = tries.saturating_add(made?);
     }
     let contents = store.close()?;
     let ended = contents.bag(jobs.ended).ok_or(Refusal::NoSuch)?;
-    let once = ended.iter().filter(|entry| *entry.1 == 1).count();
+    for (_, times) in ended.iter() {
+        if *times == 1 {
+            once = once.saturating_add(1);
+        }
+    }
     let dead = contents.lanes(jobs.dead).map_or(0, |lanes| lanes.len());
     Ok(format!(in alloc; "{tries} tries, {once} jobs ended just once, {dead} of them dead")?)
 }
