@@ -1,4 +1,2 @@
-pub mod TryLemmas
-pub mod TaskLemmas
 pub mod ReportLemmas
 pub mod HalfLemmas

@@ -1,4 +1,2 @@
-pub mod Tries
-pub mod Tasks
 pub mod Trees
 pub mod Reports

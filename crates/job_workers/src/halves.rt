@@ -6,8 +6,8 @@ ghost use Rattle.tx_table.specs.Shown.{both_of, left_of, right_of};
 ghost use Rattle.tx_engine.specs.Ready.{IsReady};
 ghost use Rattle.job_workers.specs.Trees.{AreOthers, CanRun, ComesBack, IsFresh, Ran, WasLeft, leaves};
 
-use crate::priority::Priority;
 use crate::tree::Tree;
+use job_tasks::Priority;
 use seq_model::{ACTOR_LIMIT, Job, Value};
 use std::snapshot::Snapshot;
 use std::sync::Wait;

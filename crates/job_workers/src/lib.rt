@@ -6,15 +6,12 @@
 
 mod halves;
 mod lists;
-mod priority;
 mod report;
 mod run;
-mod tasks;
 mod tree;
-mod tries;
 
+pub use job_tasks::retry;
 pub use report::Report;
 pub use run::{run_workers, run_workers_owned};
 pub use seq_model::LastAbort;
-pub use tries::retry;
 pub use tx_engine::{NoPause, Pause};

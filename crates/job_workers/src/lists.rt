@@ -1,30 +1,12 @@
 //! The lists of jobs, halved into a tree.
 ghost use Rattle.std.specs.Prelude.{◌≡◌, ◌+◌, ◌<◌, ◌≤◌, IfOk, length};
 ghost use Rattle.job_workers.specs.Reports.{AreTaken};
-ghost use Rattle.job_workers.specs.Tasks.{IsFreshTask};
 ghost use Rattle.job_workers.specs.Trees.{AreOthers, IsFresh, leaves, works};
 
-use crate::tasks::Task;
 use crate::tree::Tree;
+use job_tasks::Task;
 use seq_model::{Job, Memory, Value};
 use std::alloc::Global;
-
-impl<V: Value, J: Job<V> + Drop> Task<V, J> {
-    /// A worker's list, with room for what comes of it.
-    pub fn new(alloc: Global, worker: u64, jobs: Vec<J>) -> Result<Task<V, J>, Memory>
-        ensures fresh { IfOk result IsFreshTask }
-        ensures jobs { IfOk result (λ task. (task.worker ≡ worker) × (task.jobs.items ≡ jobs.items)) }
-    {
-        let receipts = Vec::with_capacity(alloc, jobs.len())?;
-        let missed = Vec::with_capacity(alloc, jobs.len())?;
-        Ok(Task {
-            worker,
-            jobs,
-            receipts,
-            missed,
-        })
-    }
-}
 
 /// So many of these lists, the last ones, as a tree of halves. The first of them is this worker's.
 pub fn tree_of<V: Value, J: Job<V> + Drop>(

@@ -8,10 +8,10 @@ ghost use Rattle.job_workers.specs.Reports.{HasNotRun, HasRoomFor, HasRun, IsRep
 
 use crate::halves::run_tree;
 use crate::lists::tree_of;
-use crate::priority::Priority;
 use crate::report::{Draft, Report};
 use crate::tree::Tree;
 use core::mem::replace_with;
+use job_tasks::Priority;
 use seq_model::{ACTOR_LIMIT, Job, Memory, Value};
 use std::alloc::Global;
 use std::sync::Wait;

@@ -2,7 +2,7 @@
 ghost use Rattle.std.specs.Prelude.{◌≡◌, ◌≤◌, []};
 ghost use Rattle.job_workers.specs.Trees.{AreLeft, AreOthers, IsFresh, gained, leaves, works};
 
-use crate::tasks::Task;
+use job_tasks::Task;
 use seq_model::{ACTOR_LIMIT, Job, Value};
 
 /// The lists of jobs of some workers, halved and halved again.

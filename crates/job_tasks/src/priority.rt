@@ -19,7 +19,7 @@ const SPINS: u64 = 200;
 
 /// The job that has priority, by a number that no other job has; 0 where none has it.
 #[derive(Drop)]
-pub(crate) struct Priority {
+pub struct Priority {
     job: AtomicU64,
 }
 
@@ -42,7 +42,8 @@ impl Waiting {
 }
 
 impl Priority {
-    pub(crate) fn new() -> Priority {
+    /// No job has it.
+    pub fn new() -> Priority {
         Priority {
             job: AtomicU64::new(0),
         }

@@ -1,12 +1,13 @@
 //! A worker's list of jobs.
-ghost use Rattle.std.specs.Prelude.{◌≡◌, ◌<◌, ◌≤◌, ◌+◌, ◌++◌, ◌∷◌, [], length};
+ghost use Rattle.std.specs.Prelude.{◌≡◌, ◌<◌, ◌≤◌, ◌+◌, ◌++◌, ◌∷◌, [], IfOk, length};
 ghost use Rattle.tx_table.specs.Seated.{actor, view};
 ghost use Rattle.tx_engine.specs.Ready.{IsReady};
-ghost use Rattle.job_workers.specs.Tasks.{Gains, GetsJoined, HasRoom, IsDone, IsFreshTask, IsLeft, IsSameTask, missed_in, receipts_in};
+ghost use Rattle.job_tasks.specs.Tasks.{Gains, GetsJoined, HasRoom, IsDone, IsFreshTask, IsLeft, IsSameTask, missed_in, receipts_in};
 
 use crate::priority::{Priority, Waiting};
 use crate::tries::retry_in;
-use seq_model::{Job, LastAbort, Record, Value};
+use seq_model::{Job, LastAbort, Memory, Record, Value};
+use std::alloc::Global;
 use tx_engine::{Pause, TxSeat};
 use tx_table::TxTable;
 
@@ -18,6 +19,23 @@ pub struct Task<V, J> {
     pub receipts: Vec<Record<V>>,
     /// The worker, the job's place in its list, and why it has no receipt.
     pub missed: Vec<(u64, u64, LastAbort)>,
+}
+
+impl<V: Value, J: Job<V> + Drop> Task<V, J> {
+    /// A worker's list, with room for what comes of it.
+    pub fn new(alloc: Global, worker: u64, jobs: Vec<J>) -> Result<Task<V, J>, Memory>
+        ensures fresh { IfOk result IsFreshTask }
+        ensures jobs { IfOk result (λ task. (task.worker ≡ worker) × (task.jobs.items ≡ jobs.items)) }
+    {
+        let receipts = Vec::with_capacity(alloc, jobs.len())?;
+        let missed = Vec::with_capacity(alloc, jobs.len())?;
+        Ok(Task {
+            worker,
+            jobs,
+            receipts,
+            missed,
+        })
+    }
 }
 
 impl<V: Value, J: Job<V>> Task<V, J> {

@@ -3,7 +3,7 @@ ghost use Rattle.std.specs.Prelude.{◌≡◌, ◌≤◌, ◌↔◌, IfErr, IfOk
 ghost use Rattle.tx_table.specs.Seated.{opening_of};
 ghost use Rattle.actor_laws.specs.Phases.{Rests};
 ghost use Rattle.tx_engine.specs.Ready.{IsReady, standing};
-ghost use Rattle.job_workers.specs.Tries.{HasReceipt, HasNoReceipt, IsTransient};
+ghost use Rattle.job_tasks.specs.Tries.{HasReceipt, HasNoReceipt, IsTransient};
 
 use crate::priority::{Priority, Waiting};
 use seq_model::{Job, LastAbort, Record, Refusal, Value};

@@ -1,0 +1,2 @@
+pub mod TryLemmas
+pub mod TaskLemmas
