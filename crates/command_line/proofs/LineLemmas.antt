@@ -9,7 +9,7 @@ use Rattle.seq_model.specs.declared.record.Record.{Record}
 use Rattle.vac_model.specs.declared.action.Action.{Action}
 use Rattle.client_sessions.specs.declared.entry.Entry.{Entry}
 use Rattle.seq_model.specs.declared.causes.LastAbort.{LastAbort}
-use Rattle.job_tasks.specs.Tasks.{Outcome, missed_in, receipts_in}
+use Rattle.tx_engine.specs.Tasks.{Outcome, missed_in, receipts_in}
 use Rattle.text_formats.specs.declared.session_print.Line.{Line}
 use Rattle.text_formats.specs.declared.session_print.Line.TheVariants as line
 use Rattle.workers.specs.Serving.{all_missed}

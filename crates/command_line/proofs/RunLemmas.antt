@@ -19,7 +19,7 @@ use Rattle.vac_model.specs.Actions.{IsAllowed}
 use Rattle.vac_model.specs.Holdings.{Holdings}
 use Rattle.client_sessions.specs.declared.entry.Entry.{Entry}
 use Rattle.client_sessions.specs.Holding.{state_of}
-use Rattle.job_tasks.specs.Tasks.{Outcome}
+use Rattle.tx_engine.specs.Tasks.{Outcome}
 use Rattle.workers.specs.declared.served.Served.{Served}
 use Rattle.workers.specs.Serving.{AreAllOutcomes, AreAllowed, AreOwnOutcomes, IsServed}
 use Rattle.text_formats.specs.declared.session_print.Line.{Line}

@@ -3,7 +3,7 @@ use Rattle.std.specs.Prelude.{◌≡◌, ◌<◌, ℕ, List, [], ◌∷◌, Ok, 
 use Rattle.workers.specs.Deals.{every}
 use Rattle.vac_model.specs.declared.action.Action.{Action}
 use Rattle.client_sessions.specs.declared.entry.Entry.{Entry}
-use Rattle.job_tasks.specs.Tasks.{Outcome}
+use Rattle.tx_engine.specs.Tasks.{Outcome}
 use Rattle.text_formats.specs.declared.session_print.Line.{Line}
 use Rattle.text_formats.specs.declared.session_print.Line.TheVariants as line
 use Rattle.session_text.specs.Receipts.{IsLine}

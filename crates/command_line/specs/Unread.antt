@@ -9,7 +9,7 @@ use Rattle.vac_model.specs.Holdings.{Holdings}
 use Rattle.client_sessions.specs.declared.entry.Entry.{Entry}
 use Rattle.client_sessions.specs.Sessions.{session}
 use Rattle.seq_model.specs.declared.causes.LastAbort.{LastAbort}
-use Rattle.job_tasks.specs.Tasks.{Outcome, missed_in, receipts_in}
+use Rattle.tx_engine.specs.Tasks.{Outcome, missed_in, receipts_in}
 use Rattle.text_formats.specs.declared.session_print.Line.{Line}
 use Rattle.session_text.specs.declared.printing.SessionRun.{SessionRun}
 use Rattle.workers.specs.declared.served.Served.{Served}

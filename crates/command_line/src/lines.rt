@@ -3,7 +3,7 @@ ghost use Rattle.std.specs.Prelude.{◌≡◌, ◌+◌, ◌++◌, ◌≤◌, ◌
 ghost use Rattle.workers.specs.Deals.{AreDealtLike, in_lists};
 ghost use Rattle.client_sessions.specs.declared.entry.Entry.{Entry as AnEntry};
 ghost use Rattle.seq_model.specs.declared.causes.LastAbort.{LastAbort as ACause};
-ghost use Rattle.job_tasks.specs.Tasks.{Outcome, missed_in, receipts_in};
+ghost use Rattle.tx_engine.specs.Tasks.{Outcome, missed_in, receipts_in};
 ghost use Rattle.command_line.specs.Lines.{AreLinesOf, IsLineOf};
 ghost use Rattle.command_line.specs.Unread.{AreAllUnread, AreUnread, HasAllUnread, HasNext, HasUnread, IsFirst, IsNext, IsTold};
 

@@ -13,9 +13,9 @@ use Rattle.tx_table.specs.declared.view.Turn.{Turn}
 use Rattle.tx_engine.specs.declared.seats.TxSeat.{TxSeat}
 use Rattle.tx_engine.specs.Ready.{IsReady}
 use Rattle.job_workers.specs.declared.tree.Tree.{Tree}
-use Rattle.job_tasks.specs.Tasks.{Gains, GetsJoined, Took}
+use Rattle.tx_engine.specs.Tasks.{Gains, GetsJoined, Took}
 use Rattle.job_workers.specs.Trees.{AreDone, AreLeft, ComesBack, gained, works}
-use Rattle.job_tasks.proofs.TaskLemmas.{no_gain}
+use Rattle.tx_engine.proofs.TaskLemmas.{no_gain}
 
 module _ {V J : Type 0} (asks : J → List (Reply V) → Ask V → Type 0) (t : TxTable V) (tries : ℕ) (o y : TxSeat V)
     (start tree : Tree V J) where

@@ -25,10 +25,10 @@ use Rattle.seq_model.specs.declared.causes.LastAbort.{LastAbort}
 use Rattle.job_workers.specs.declared.report.Report.{Report}
 use Rattle.job_workers.specs.declared.tree.Tree.{Tree, Taken, Leaf, Both'}
 use Rattle.job_workers.specs.Reports.{AreTaken, IsReportOf, IsTreeOf, Reports, jobs_in, jobs_of, numbered}
-use Rattle.job_tasks.specs.declared.tasks.Task.{Task}
-use Rattle.job_tasks.specs.Tasks.{AreNotStarted, AreTriedBy, GetsJoined, IsSameTask, Took}
+use Rattle.tx_engine.specs.declared.tasks.Task.{Task}
+use Rattle.tx_engine.specs.Tasks.{AreNotStarted, AreTriedBy, GetsJoined, IsSameTask, Took}
 use Rattle.job_workers.specs.Trees.{AreDone, AreLeft, Ran, gained, lists_of, missed_of, works}
-use Rattle.job_tasks.proofs.TaskLemmas.{few_reported, keeps_joined, longer, many_by, many_left, then_joined}
+use Rattle.tx_engine.proofs.TaskLemmas.{few_reported, keeps_joined, longer, many_by, many_left, then_joined}
 
 module _ {J : Type 0} where
   -- ---- the jobs are counted

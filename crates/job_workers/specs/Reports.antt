@@ -19,7 +19,7 @@ use Rattle.job_workers.specs.declared.report.Report.{Report}
 use Rattle.job_workers.specs.declared.tree.Tree.{Tree}
 use Rattle.tx_engine.specs.declared.seats.TxSeat.{TxSeat}
 use Rattle.job_workers.specs.Trees.{IsFresh, leaves, works}
-use Rattle.job_tasks.specs.Tasks.{AreOutcomes, Gains, GetsJoined, Outcome, Took, missed_in, receipts_in}
+use Rattle.tx_engine.specs.Tasks.{AreOutcomes, Gains, GetsJoined, Outcome, Took, missed_in, receipts_in}
 
 module _ {J : Type 0} where
   -- the jobs of each list

@@ -11,7 +11,7 @@ use Rattle.tx_engine.specs.declared.seats.TxSeat.{TxSeat}
 use Rattle.tx_engine.specs.Ready.{IsReady}
 use Rattle.seq_model.specs.declared.causes.LastAbort.{LastAbort}
 use Rattle.job_workers.specs.declared.tree.Tree.{Tree, Taken, Leaf, Both'}
-use Rattle.job_tasks.specs.Tasks.{Gains, GetsJoined, IsDone, IsFreshTask, IsLeft, Took}
+use Rattle.tx_engine.specs.Tasks.{Gains, GetsJoined, IsDone, IsFreshTask, IsLeft, Took}
 
 module _ {V J : Type 0} where
   -- how many lists there are; where one was taken out counts as well

@@ -7,14 +7,13 @@ ghost use Rattle.tx_engine.specs.Ready.{IsReady};
 ghost use Rattle.job_workers.specs.Trees.{AreOthers, CanRun, ComesBack, IsFresh, Ran, WasLeft, leaves};
 
 use crate::tree::Tree;
-use job_tasks::Priority;
 use seq_model::{ACTOR_LIMIT, Job, Value};
 use std::snapshot::Snapshot;
 use std::sync::Wait;
 use std::sync::atomic::{AtomicBool, Ordering};
 use std::thread::{Promise, Threads};
 use std::{mem, thread};
-use tx_engine::{Pause, TxSeat};
+use tx_engine::{Pause, Priority, TxSeat};
 use tx_table::TxTable;
 
 /// A seat, and the lists that were run with it.

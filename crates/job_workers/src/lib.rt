@@ -10,7 +10,7 @@ mod report;
 mod run;
 mod tree;
 
-pub use job_tasks::retry;
+pub use tx_engine::retry;
 pub use report::Report;
 pub use run::{run_workers, run_workers_owned};
 pub use seq_model::LastAbort;

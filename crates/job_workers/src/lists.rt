@@ -4,9 +4,9 @@ ghost use Rattle.job_workers.specs.Reports.{AreTaken};
 ghost use Rattle.job_workers.specs.Trees.{AreOthers, IsFresh, leaves, works};
 
 use crate::tree::Tree;
-use job_tasks::Task;
 use seq_model::{Job, Memory, Value};
 use std::alloc::Global;
+use tx_engine::Task;
 
 /// So many of these lists, the last ones, as a tree of halves. The first of them is this worker's.
 pub fn tree_of<V: Value, J: Job<V> + Drop>(

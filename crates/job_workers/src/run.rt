@@ -11,12 +11,11 @@ use crate::lists::tree_of;
 use crate::report::{Draft, Report};
 use crate::tree::Tree;
 use core::mem::replace_with;
-use job_tasks::Priority;
 use seq_model::{ACTOR_LIMIT, Job, Memory, Value};
 use std::alloc::Global;
 use std::sync::Wait;
 use std::thread::Threads;
-use tx_engine::{Pause, TxSeat};
+use tx_engine::{Pause, Priority, TxSeat};
 use tx_table::TxTable;
 
 /// All that is to be filled: a report with room for what may come of these lists, and the lists as a tree.

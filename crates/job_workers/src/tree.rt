@@ -2,8 +2,8 @@
 ghost use Rattle.std.specs.Prelude.{◌≡◌, ◌≤◌, []};
 ghost use Rattle.job_workers.specs.Trees.{AreLeft, AreOthers, IsFresh, gained, leaves, works};
 
-use job_tasks::Task;
 use seq_model::{ACTOR_LIMIT, Job, Value};
+use tx_engine::Task;
 
 /// The lists of jobs of some workers, halved and halved again.
 #[derive(Drop)]

@@ -20,3 +20,5 @@ pub mod StepLemmas
 pub mod WeightLemmas
 pub mod ShownLemmas
 pub mod AbortedLemmas
+pub mod TryLemmas
+pub mod TaskLemmas

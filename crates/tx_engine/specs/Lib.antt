@@ -7,6 +7,8 @@ pub mod Attempts
 pub mod Seats
 pub mod Holder
 pub mod Tries
+pub mod Retries
+pub mod Tasks
 pub mod Refused
 pub mod Steps
 pub mod Records

@@ -6,7 +6,8 @@
 //!
 //! A *job* is run by an *attempt* ([`attempt`]): a transaction begins at a seat, the calls that the job asks are made, each after the
 //! replies to those before it, and the transaction commits once the job is done. Where the job aborts, or a request is refused, no
-//! transaction is left, and the seat is ready for the next attempt.
+//! transaction is left, and the seat is ready for the next attempt. [`retry`] makes attempts up to a receipt; a [`Task`] is a worker's list
+//! of jobs, with what comes of each, and a [`Priority`] says whose job goes first, where jobs are aborted again and again.
 //!
 //! A table shows a world that events have reached (the rule of `tx_table`), and each seat keeps what that world is to its actor. So what
 //! `replay_log` proves of every such world holds while transactions are open and commits half done ([`laws`]).
@@ -18,16 +19,22 @@ mod commits;
 mod holder;
 pub mod laws;
 mod pause;
+mod priority;
 mod reply_room;
 mod requests;
 mod seats;
 mod shares;
+mod tasks;
+mod tries;
 mod tx;
 mod unheld;
 
 pub use attempts::{Attempt, attempt_with};
 pub use pause::{NoPause, Pause};
+pub use priority::Priority;
 pub use seats::TxSeat;
 pub use seq_model::{Ask, Job};
+pub use tasks::Task;
+pub use tries::retry;
 pub use tx::{Receipt, Tx, begin, begin_read, learn};
 pub use unheld::attempt;

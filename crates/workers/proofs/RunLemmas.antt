@@ -32,7 +32,7 @@ use Rattle.vacation_core.specs.Served.{HaveSame, IsWhole, Receipt, records_in}
 use Rattle.vacation_core.proofs.ServedLemmas.{receipts_are_actions}
 use Rattle.job_workers.specs.declared.report.Report.{Report}
 use Rattle.job_workers.specs.Reports.{HasRun, IsReportOf}
-use Rattle.job_tasks.specs.Tasks.{Outcome, records_of}
+use Rattle.tx_engine.specs.Tasks.{Outcome, records_of}
 use Rattle.workers.specs.Serving.{AreAllowed, AreReportedAs, AreRun, ClosesWith, IsClosedWith, OpensOnTables, RanAndClosed, WereRun}
 use Rattle.workers.specs.Serving.{all_dealt, asks_of}
 use Rattle.workers.proofs.AuditLemmas.{audited_in_order}

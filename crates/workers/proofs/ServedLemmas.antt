@@ -17,9 +17,9 @@ use Rattle.seq_model.specs.declared.causes.LastAbort.{LastAbort}
 use Rattle.seq_model.specs.declared.causes.LastAbort.TheVariants.{NotStarted}
 use Rattle.job_workers.specs.declared.report.Report.{Report}
 use Rattle.job_workers.specs.Reports.{IsReportOf, Reports, numbered}
-use Rattle.job_tasks.specs.Tasks as worked
-use Rattle.job_tasks.specs.Tasks.{AreNotStarted, AreTried, Outcome, Took, missed_in, receipts_in}
-use Rattle.job_tasks.specs.Tries.{HasReceipt}
+use Rattle.tx_engine.specs.Tasks as worked
+use Rattle.tx_engine.specs.Tasks.{AreNotStarted, AreTried, Outcome, Took, missed_in, receipts_in}
+use Rattle.tx_engine.specs.Retries.{HasReceipt}
 use Rattle.tx_table.specs.Seated.{actor, view}
 use Rattle.tx_table.specs.declared.table.TxTable.{TxTable}
 use Rattle.tx_table.specs.declared.view.Turn.{Turn}

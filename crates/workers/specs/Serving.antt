@@ -31,7 +31,7 @@ use Rattle.tx_engine.specs.Ready.{IsReady}
 use Rattle.seq_model.specs.declared.causes.LastAbort.{LastAbort}
 use Rattle.job_workers.specs.declared.report.Report.{Report}
 use Rattle.job_workers.specs.Reports.{HasRun, IsReportOf}
-use Rattle.job_tasks.specs.Tasks.{Outcome, missed_in, receipts_in}
+use Rattle.tx_engine.specs.Tasks.{Outcome, missed_in, receipts_in}
 use Rattle.workers.specs.declared.served.Served.{Served}
 
 -- each action of each list is allowed

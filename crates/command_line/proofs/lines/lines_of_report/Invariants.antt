@@ -1,6 +1,6 @@
 use Rattle.std.proofs.Common.{◌≡◌, ◌+◌, length, List}
 use Rattle.workers.specs.Deals.{in_lists, in_queues}
-use Rattle.job_tasks.specs.Tasks.{Outcome}
+use Rattle.tx_engine.specs.Tasks.{Outcome}
 use Rattle.client_sessions.specs.declared.entry.Entry.{Entry}
 use Rattle.command_line.specs.Unread.{AreAllUnread}
 use Rattle.command_line.proofs.LineLemmas.{IsAllAt}

@@ -1,5 +1,5 @@
 use Rattle.std.proofs.Common.{◌≡◌, ◌+◌, length, List}
-use Rattle.job_tasks.specs.Tasks.{Outcome}
+use Rattle.tx_engine.specs.Tasks.{Outcome}
 use Rattle.client_sessions.specs.declared.entry.Entry.{Entry}
 use Rattle.command_line.specs.Unread.{AreUnread}
 use Rattle.command_line.proofs.LineLemmas.{IsAt, Missed}

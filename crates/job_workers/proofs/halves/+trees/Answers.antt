@@ -2,7 +2,7 @@ use Rattle.std.proofs.Common.{rules, [], ◌∷◌, ◌++◌, ◌∙◌, ap, inl
 use Rattle.tx_table.specs.Seated.{actor, view}
 use Rattle.job_workers.proofs.HalfLemmas.{back_gains, back_ready, back_works, both_joined, first_done, second_done}
 use Rattle.job_workers.proofs.ReportLemmas.{same_works}
-use Rattle.job_tasks.proofs.TaskLemmas.{both_gain}
+use Rattle.tx_engine.proofs.TaskLemmas.{both_gain}
 use Rattle.job_workers.specs.Trees.{IsFresh, works}
 use Rattle.job_workers.proofs.halves.+trees.Goals as goal
 

@@ -1,6 +1,6 @@
 use Rattle.std.proofs.Common.{arith}
 use Rattle.job_workers.proofs.ReportLemmas.{flat_gained, is_report, lists_fit, missed_fit}
-use Rattle.job_tasks.proofs.TaskLemmas.{keeps_gains}
+use Rattle.tx_engine.proofs.TaskLemmas.{keeps_gains}
 use Rattle.job_workers.specs.Trees.{gained}
 use Rattle.job_workers.proofs.run.run_workers_owned.Goals as goal
 

@@ -3,13 +3,15 @@ ghost use Rattle.std.specs.Prelude.{◌≡◌, ◌≤◌, ◌↔◌, IfErr, IfOk
 ghost use Rattle.tx_table.specs.Seated.{opening_of};
 ghost use Rattle.actor_laws.specs.Phases.{Rests};
 ghost use Rattle.tx_engine.specs.Ready.{IsReady, standing};
-ghost use Rattle.job_tasks.specs.Tries.{HasReceipt, HasNoReceipt, IsTransient};
+ghost use Rattle.tx_engine.specs.Retries.{HasReceipt, HasNoReceipt, IsTransient};
 
+use crate::attempts::{Attempt, attempt_with};
+use crate::pause::Pause;
 use crate::priority::{Priority, Waiting};
+use crate::seats::TxSeat;
 use seq_model::{Job, LastAbort, Record, Refusal, Value};
 use std::hint::spin_loop;
 use std::thread::yield_now;
-use tx_engine::{Attempt, Pause, TxSeat, attempt_with};
 use tx_table::TxTable;
 
 /// After so many attempts a worker yields where it spun before.

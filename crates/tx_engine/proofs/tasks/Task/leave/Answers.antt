@@ -1,6 +1,6 @@
 use Rattle.std.proofs.Common.{rules}
-use Rattle.job_tasks.proofs.TaskLemmas.{next_left, none_more, then_same}
-use Rattle.job_tasks.proofs.tasks.Task.leave.Goals as goal
+use Rattle.tx_engine.proofs.TaskLemmas.{next_left, none_more, then_same}
+use Rattle.tx_engine.proofs.tasks.Task.leave.Goals as goal
 
 pub jobs-preserved : goal.jobs-preserved
 jobs-preserved g c =

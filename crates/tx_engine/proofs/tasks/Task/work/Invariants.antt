@@ -1,8 +1,8 @@
 use Rattle.std.proofs.Common.{[]}
 use Rattle.tx_engine.specs.Ready.{IsReady}
-use Rattle.job_tasks.specs.Tasks.{Gains, GetsJoined, HasRoom, IsSameTask}
-use Rattle.job_tasks.proofs.TaskLemmas.{TriedTo}
-use Rattle.job_tasks.proofs.tasks.Task.work.Given as goal
+use Rattle.tx_engine.specs.Tasks.{Gains, GetsJoined, HasRoom, IsSameTask}
+use Rattle.tx_engine.proofs.TaskLemmas.{TriedTo}
+use Rattle.tx_engine.proofs.tasks.Task.work.Given as goal
 
 -- the jobs so far were tried, and the seat has gained their receipts
 abbrev pub invariant-jobs : goal.invariant-jobs

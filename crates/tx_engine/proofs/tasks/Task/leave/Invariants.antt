@@ -1,7 +1,7 @@
 use Rattle.std.proofs.Common.{◌≡◌, []}
-use Rattle.job_tasks.specs.Tasks.{HasRoom, IsSameTask}
-use Rattle.job_tasks.proofs.TaskLemmas.{LeftTo}
-use Rattle.job_tasks.proofs.tasks.Task.leave.Given as goal
+use Rattle.tx_engine.specs.Tasks.{HasRoom, IsSameTask}
+use Rattle.tx_engine.proofs.TaskLemmas.{LeftTo}
+use Rattle.tx_engine.proofs.tasks.Task.leave.Given as goal
 
 abbrev pub invariant-jobs : goal.invariant-jobs
 invariant-jobs g l = record {

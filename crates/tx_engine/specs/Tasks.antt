@@ -12,8 +12,8 @@ use Rattle.actor_laws.specs.Phases.{Rests}
 use Rattle.tx_engine.specs.Ready.{IsReady, standing}
 use Rattle.seq_model.specs.declared.causes.LastAbort.{LastAbort}
 use Rattle.seq_model.specs.declared.causes.LastAbort.TheVariants.{NotStarted}
-use Rattle.job_tasks.specs.declared.tasks.Task.{Task}
-use Rattle.job_tasks.specs.Tries.{HasNoReceipt, HasReceipt}
+use Rattle.tx_engine.specs.declared.tasks.Task.{Task}
+use Rattle.tx_engine.specs.Retries.{HasNoReceipt, HasReceipt}
 
 -- actors, each with the turns that it took
 abbrev pub Took : Type 0 → Type 0

@@ -2,9 +2,9 @@ use Rattle.std.proofs.Common.{◌≡◌, ◌⊎◌}
 use Rattle.tx_table.specs.Seated.{opening_of}
 use Rattle.actor_laws.specs.Phases.{Rests}
 use Rattle.tx_engine.specs.Ready.{IsReady, standing}
-use Rattle.job_tasks.specs.Tries.{HasNoReceipt}
-use Rattle.job_tasks.proofs.TryLemmas.{InVain}
-use Rattle.job_tasks.proofs.tries.retry_in.Given as goal
+use Rattle.tx_engine.specs.Retries.{HasNoReceipt}
+use Rattle.tx_engine.proofs.TryLemmas.{InVain}
+use Rattle.tx_engine.proofs.tries.retry_in.Given as goal
 
 -- all attempts so far were in vain, and the last of them ended so
 abbrev pub invariant-tries : goal.invariant-tries

@@ -22,7 +22,7 @@ use Rattle.tx_engine.specs.declared.attempts.Attempt.{Attempt}
 use Rattle.tx_engine.specs.declared.attempts.Attempt.TheVariants.{Committed, GivenUp}
 use Rattle.seq_model.specs.declared.causes.LastAbort.{LastAbort}
 use Rattle.seq_model.specs.declared.causes.LastAbort.TheVariants as last
-use Rattle.job_tasks.specs.Tries.{AreInVain, ComesAfter, HasNoReceipt, HasReceipt, IsTransient}
+use Rattle.tx_engine.specs.Retries.{AreInVain, ComesAfter, HasNoReceipt, HasReceipt, IsTransient}
 
 module _ {V : Type 0} (asks : List (Reply V) → Ask V → Type 0) (t : TxTable V) where
   -- There is no transaction, and so many were aborted since s, beside the one that was open there.

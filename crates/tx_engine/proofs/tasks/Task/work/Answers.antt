@@ -1,7 +1,7 @@
 use Rattle.std.proofs.Common.{rules, length, ◌≡◌, [], ◌∷◌}
-use Rattle.job_tasks.proofs.TaskLemmas.{all_tried, next_tried, then_gains, then_joined, then_same, tried_gains, tried_joined}
-use Rattle.job_tasks.specs.Tasks.{IsTried, receipts_in}
-use Rattle.job_tasks.proofs.tasks.Task.work.Goals as goal
+use Rattle.tx_engine.proofs.TaskLemmas.{all_tried, next_tried, then_gains, then_joined, then_same, tried_gains, tried_joined}
+use Rattle.tx_engine.specs.Tasks.{IsTried, receipts_in}
+use Rattle.tx_engine.proofs.tasks.Task.work.Goals as goal
 
 pub jobs-preserved : goal.jobs-preserved
 jobs-preserved g c =

@@ -18,9 +18,9 @@ use Rattle.tx_table.specs.declared.view.Turn.{Turn}
 use Rattle.tx_engine.specs.declared.seats.TxSeat.{TxSeat}
 use Rattle.tx_engine.specs.Ready.{IsReady}
 use Rattle.tx_engine.specs.Requests.{KeepsReceipts}
-use Rattle.job_tasks.specs.declared.tasks.Task.{Task}
-use Rattle.job_tasks.specs.Tasks.{AreNotStarted, AreReported, AreTried, AreTriedBy, Gains, GetsJoined, IsDone, IsReported, IsSameTask}
-use Rattle.job_tasks.specs.Tasks.{IsTried, Outcome, Took, missed_in, receipts_in, records_of}
+use Rattle.tx_engine.specs.declared.tasks.Task.{Task}
+use Rattle.tx_engine.specs.Tasks.{AreNotStarted, AreReported, AreTried, AreTriedBy, Gains, GetsJoined, IsDone, IsReported, IsSameTask}
+use Rattle.tx_engine.specs.Tasks.{IsTried, Outcome, Took, missed_in, receipts_in, records_of}
 
 module _ {V : Type 0} where
   receipts_after : (os : List (Outcome V)) (o : Outcome V) → receipts_in (os ++ o ∷ []) ≡ receipts_in os ++ receipts_in (o ∷ [])

@@ -3,9 +3,9 @@ use Rattle.seq_model.specs.declared.refusal.Refusal.{Refusal}
 use Rattle.tx_table.specs.Seated.{opening_of}
 use Rattle.tx_engine.specs.Attempts.{AttemptsTo}
 use Rattle.tx_engine.specs.declared.attempts.Attempt.{Attempt}
-use Rattle.job_tasks.specs.Tries.{IsTransient}
-use Rattle.job_tasks.proofs.TryLemmas.{all_in_vain, gives_up, has_receipt, none_yet, one_more, refused_last}
-use Rattle.job_tasks.proofs.tries.retry_in.Goals as goal
+use Rattle.tx_engine.specs.Retries.{IsTransient}
+use Rattle.tx_engine.proofs.TryLemmas.{all_in_vain, gives_up, has_receipt, none_yet, one_more, refused_last}
+use Rattle.tx_engine.proofs.tries.retry_in.Goals as goal
 
 pub tries-init : goal.tries-init
 tries-init g c = record {

@@ -2,13 +2,14 @@
 ghost use Rattle.std.specs.Prelude.{◌≡◌, ◌<◌, ◌≤◌, ◌+◌, ◌++◌, ◌∷◌, [], IfOk, length};
 ghost use Rattle.tx_table.specs.Seated.{actor, view};
 ghost use Rattle.tx_engine.specs.Ready.{IsReady};
-ghost use Rattle.job_tasks.specs.Tasks.{Gains, GetsJoined, HasRoom, IsDone, IsFreshTask, IsLeft, IsSameTask, missed_in, receipts_in};
+ghost use Rattle.tx_engine.specs.Tasks.{Gains, GetsJoined, HasRoom, IsDone, IsFreshTask, IsLeft, IsSameTask, missed_in, receipts_in};
 
+use crate::pause::Pause;
 use crate::priority::{Priority, Waiting};
+use crate::seats::TxSeat;
 use crate::tries::retry_in;
 use seq_model::{Job, LastAbort, Memory, Record, Value};
 use std::alloc::Global;
-use tx_engine::{Pause, TxSeat};
 use tx_table::TxTable;
 
 /// A worker's number and its jobs, with room for what comes of them.

@@ -1,2 +1,0 @@
-pub mod TryLemmas
-pub mod TaskLemmas
