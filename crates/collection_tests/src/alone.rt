@@ -2,14 +2,14 @@
 ghost use Rattle.std.specs.Prelude.{◌≡◌, ◌<◌, ◌≤◌, ◌^◌, ◌∷◌, [], IfOk, IsTrue, slice_index};
 ghost use Rattle.replay_log.specs.Base.{editions_of, locations_of, shown_of, stripes_of};
 
-use crate::tokens::{changes_of, location_in, split};
+use crate::changes::changes_of;
 use base_bag::BagBase;
 use base_map::MapBase;
 use base_pq::PqBase;
 use base_queue::QueueBase;
 use conflict::{Change, Changes, LocSet};
 use replay_log::{Base, LocationEditions, Log, Touch, Touched};
-use row_parts::{print_base, script_of};
+use row_parts::{location_in, print_all, print_base, script_of, split};
 use seq_model::{Held, Memory, Op, Refusal};
 use std::alloc::Global;
 use std::fmt::Write;
@@ -190,47 +190,27 @@ pub fn answer_two_puts(text: &mut String, row: &str) -> Result<(), Refusal> {
 }
 
 fn print_all_touches(text: &mut String, base: &Base<u64>) -> Result<(), Refusal> {
-    touch(text, base, &Op::Get(3))?;
-    touch(text, base, &Op::Remove(4))?;
-    touch(text, base, &Op::Len)?;
+    for op in [Op::Get(3), Op::Remove(4), Op::Len].as_slice() {
+        print_touch(text, &base.touch(op)?)?;
+    }
     let mut lent = LocationEditions::new(*text.allocator());
-    let touch = base.touch_summed(&Op::Len, &mut lent)?;
-    print_touch(text, &touch)?;
-    Ok(())
-}
-
-fn touch(text: &mut String, base: &Base<u64>, op: &Op<u64>) -> Result<(), Refusal> {
-    let touch = base.touch(op)?;
-    print_touch(text, &touch)?;
+    print_touch(text, &base.touch_summed(&Op::Len, &mut lent)?)?;
     Ok(())
 }
 
 // What was touched, and each location with its edition.
 fn print_touch(text: &mut String, touch: &Touch<u64>) -> Result<(), Memory> {
-    print_touched(text, &touch.held)?;
+    match &touch.held {
+        Touched::Entry(key, Some(value)) => write!(text, "Entry {key} {value}")?,
+        Touched::Entry(key, None) => write!(text, "Entry {key} none")?,
+        Touched::Copies(element, copies) => write!(text, "Copies {element} {copies}")?,
+        Touched::Counts(counts) => print_all(text, "Counts", counts.as_slice())?,
+        Touched::Total(total) => write!(text, "Total {total}")?,
+    }
     text.push_str(" at")?;
     for entry in touch.editions.as_slice() {
         write!(text, " {}:{}", entry.0, entry.1)?;
     }
     text.push_str("; ")?;
-    Ok(())
-}
-
-fn print_touched(text: &mut String, held: &Touched<u64>) -> Result<(), Memory> {
-    match held {
-        Touched::Entry(key, Some(value)) => write!(text, "Entry {key} {value}")?,
-        Touched::Entry(key, None) => write!(text, "Entry {key} none")?,
-        Touched::Copies(element, copies) => write!(text, "Copies {element} {copies}")?,
-        Touched::Counts(counts) => print_counts(text, counts.as_slice())?,
-        Touched::Total(total) => write!(text, "Total {total}")?,
-    }
-    Ok(())
-}
-
-fn print_counts(text: &mut String, counts: &[u64]) -> Result<(), Memory> {
-    text.push_str("Counts")?;
-    for count in counts {
-        write!(text, " {count}")?;
-    }
     Ok(())
 }
