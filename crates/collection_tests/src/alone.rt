@@ -90,17 +90,17 @@ fn is_raisable(base: &Base<u64>, stripes: u32, location: u32) -> bool
     location < locations(base, stripes) && base.edition(location) < HIGH
 }
 
-// Replays the changes, which write these two locations, or one where they are the same.
+// Replays the changes, which write these two locations, or one where they are the same, and prints what they leave.
 fn raise(
-    alloc: Global,
+    text: &mut String,
     base: &mut Base<u64>,
     stripes: u32,
     changes: Changes<u64>,
     written: (u32, u32),
 ) -> Result<(), Refusal>
     requires { stripes_of base.old ≡ stripes }
-    ensures { stripes_of base.new ≡ stripes }
 {
+    let alloc = *text.allocator();
     let (lower, higher) = written;
     base.prepare(changes.as_slice())?;
     if !is_raisable(base, stripes, lower) || !is_raisable(base, stripes, higher) {
@@ -112,7 +112,7 @@ fn raise(
         LocSet::single(alloc, lower)
     };
     base.replay(changes, &written);
-    Ok(())
+    print_raised(text, base, stripes)
 }
 
 /// One location, which stands for two, or two.
@@ -128,16 +128,9 @@ pub fn answer_raised(text: &mut String, row: &str) -> Result<(), Refusal> {
     let (opening, written) = split(place, " at ")?;
     let (kind, stripes) = split(opening, " ")?;
     let (stripes, written) = (location_in(stripes)?, locations_in(written)?);
-    let alloc = *text.allocator();
-    let mut base = new_of(alloc, kind, stripes)?;
-    raise(
-        alloc,
-        &mut base,
-        stripes,
-        changes_of(alloc, changes)?,
-        written,
-    )?;
-    print_raised(text, &base, stripes)
+    let changes = changes_of(*text.allocator(), changes)?;
+    let mut base = new_of(*text.allocator(), kind, stripes)?;
+    raise(text, &mut base, stripes, changes, written)
 }
 
 fn print_raised(text: &mut String, base: &Base<u64>, stripes: u32) -> Result<(), Refusal>
@@ -162,11 +155,11 @@ fn log_of_two_puts(alloc: Global) -> Result<Log<u64>, Memory>
     Ok(log)
 }
 
-fn fold(base: &mut Base<u64>, log: &mut Log<u64>) -> Result<(), Refusal>
-    requires stripes { stripes_of base.old ≡ 2 }
-    requires locations { log.old.locations ≡ 1 ∷ 1 ∷ [] }
+fn fold(alloc: Global, base: &mut Base<u64>) -> Result<(), Refusal>
+    requires { stripes_of base.old ≡ 2 }
     ensures { stripes_of base.new ≡ 2 }
 {
+    let mut log = log_of_two_puts(alloc)?;
     base.prepare(log.changes())?;
     if !is_raisable(base, 2, 1) {
         return Err(Refusal::NoSuch);
@@ -180,8 +173,7 @@ fn fold(base: &mut Base<u64>, log: &mut Log<u64>) -> Result<(), Refusal>
 pub fn answer_two_puts(text: &mut String, row: &str) -> Result<(), Refusal> {
     let alloc = *text.allocator();
     let mut base = new_of(alloc, "map", 2)?;
-    let mut log = log_of_two_puts(alloc)?;
-    fold(&mut base, &mut log)?;
+    fold(alloc, &mut base)?;
     match row {
         "puts logged" => print_editions(text, &base, 2),
         "puts touched" => print_all_touches(text, &base),

@@ -45,7 +45,10 @@ impl Bench {
                 Ok(())
             }
             "copied" => self.copy(*text.allocator())?.make_and_hold(text, others),
-            "beside" => self.answer_beside(text, others),
+            "beside" => {
+                let mut copy = self.copy(*text.allocator())?;
+                self.answer_beside(text, &mut copy, others)
+            }
             "shadowed" => answer_shadowed(text, &self.base, others),
             "remembered" => answer_remembered(text, &self.base, others),
             "conflict" => answer_conflict(text, &self.base, others),
@@ -91,9 +94,13 @@ impl Bench {
     }
 
     // While there is a copy, both are changed.
-    fn answer_beside(&mut self, text: &mut String, calls: &str) -> Result<(), Refusal> {
+    fn answer_beside(
+        &mut self,
+        text: &mut String,
+        copy: &mut Bench,
+        calls: &str,
+    ) -> Result<(), Refusal> {
         let (of_copy, own) = split(calls, " | ")?;
-        let mut copy = self.copy(*text.allocator())?;
         copy.make_all(text, of_copy)?;
         text.push_str("; ")?;
         self.make_and_hold(text, own)?;
@@ -164,15 +171,22 @@ fn answer_shadowed(text: &mut String, base: &Base<u64>, calls: &str) -> Result<(
     let alloc = *text.allocator();
     let script = script_of(alloc, calls)?;
     let mut shadow = Shadow::of_copy(alloc, base.try_copy()?);
-    for line in script.lines.as_slice() {
+    shadow_all(text, &mut shadow, script.lines.as_slice())
+}
+
+fn shadow_all(
+    text: &mut String,
+    shadow: &mut Shadow<u64>,
+    lines: &[EventLine],
+) -> Result<(), Refusal> {
+    for line in lines {
         match line {
-            EventLine::Do(_, Request::Call(asked)) => shadow_call(text, &mut shadow, &asked.op)?,
+            EventLine::Do(_, Request::Call(asked)) => shadow_call(text, shadow, &asked.op)?,
             _ => return Err(Refusal::NoSuch),
         }
     }
     text.push_str("log")?;
-    let log = shadow.log();
-    print_changes(text, log.changes())?;
+    print_changes(text, shadow.log().changes())?;
     Ok(())
 }
 
