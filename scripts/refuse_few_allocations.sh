@@ -3,7 +3,7 @@
 #
 #     scripts/refuse_few_allocations.sh
 #
-# It is the short form of refuse_each_allocation.sh, for every day: four programs are built side by side without a proof, and the sections
+# It is the short form of refuse_each_allocation.sh, for every day: three programs are built side by side without a proof, and the sections
 # below run with the first allocation refused, then with the second, and so on. Each run must print what is stored, or nothing but
 # `Memory`. It takes some three minutes of four processors. RT names the command, `rt` by default.
 set -u
@@ -21,9 +21,7 @@ sections_of() {
         echo "transactions on a map: a script prints its notices records and state"
         echo "collections that interleave: the least taken twice beside an insert between"
         echo "memory refused: a starved commit leaves its number unused"
-        ;;
-    # VacWorld::run, run_in_order: two clients that interleave, and sessions one after another.
-    reservation_tests)
+        # VacWorld::run, run_in_order: two clients that interleave, and sessions one after another.
         echo "two clients book two cars: in one stripe"
         echo "two clients book the last unit: the other one first"
         echo "one after another: a wait is served"
@@ -50,7 +48,7 @@ places_of() {
     done
 }
 
-crates="collection_tests script_tests reservation_tests table_tests"
+crates="collection_tests script_tests table_tests"
 for crate in $crates; do
     # The words are told apart by their spaces.
     # shellcheck disable=SC2046

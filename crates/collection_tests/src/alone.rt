@@ -2,14 +2,14 @@
 ghost use Rattle.std.specs.Prelude.{◌≡◌, ◌<◌, ◌≤◌, ◌^◌, ◌∷◌, [], IfOk, IsTrue, slice_index};
 ghost use Rattle.replay_log.specs.Base.{editions_of, locations_of, shown_of, stripes_of};
 
-use crate::tokens::{changes_of, location_in, split};
+use crate::changes::changes_of;
 use base_bag::BagBase;
 use base_map::MapBase;
 use base_pq::PqBase;
 use base_queue::QueueBase;
 use conflict::{Change, Changes, LocSet};
 use replay_log::{Base, LocationEditions, Log, Touch, Touched};
-use row_parts::{print_base, script_of};
+use row_parts::{location_in, print_all, print_base, script_of, split};
 use seq_model::{Held, Memory, Op, Refusal};
 use std::alloc::Global;
 use std::fmt::Write;
@@ -90,17 +90,17 @@ fn is_raisable(base: &Base<u64>, stripes: u32, location: u32) -> bool
     location < locations(base, stripes) && base.edition(location) < HIGH
 }
 
-// Replays the changes, which write these two locations, or one where they are the same.
+// Replays the changes, which write these two locations, or one where they are the same, and prints what they leave.
 fn raise(
-    alloc: Global,
+    text: &mut String,
     base: &mut Base<u64>,
     stripes: u32,
     changes: Changes<u64>,
     written: (u32, u32),
 ) -> Result<(), Refusal>
     requires { stripes_of base.old ≡ stripes }
-    ensures { stripes_of base.new ≡ stripes }
 {
+    let alloc = *text.allocator();
     let (lower, higher) = written;
     base.prepare(changes.as_slice())?;
     if !is_raisable(base, stripes, lower) || !is_raisable(base, stripes, higher) {
@@ -112,7 +112,7 @@ fn raise(
         LocSet::single(alloc, lower)
     };
     base.replay(changes, &written);
-    Ok(())
+    print_raised(text, base, stripes)
 }
 
 /// One location, which stands for two, or two.
@@ -128,16 +128,9 @@ pub fn answer_raised(text: &mut String, row: &str) -> Result<(), Refusal> {
     let (opening, written) = split(place, " at ")?;
     let (kind, stripes) = split(opening, " ")?;
     let (stripes, written) = (location_in(stripes)?, locations_in(written)?);
-    let alloc = *text.allocator();
-    let mut base = new_of(alloc, kind, stripes)?;
-    raise(
-        alloc,
-        &mut base,
-        stripes,
-        changes_of(alloc, changes)?,
-        written,
-    )?;
-    print_raised(text, &base, stripes)
+    let changes = changes_of(*text.allocator(), changes)?;
+    let mut base = new_of(*text.allocator(), kind, stripes)?;
+    raise(text, &mut base, stripes, changes, written)
 }
 
 fn print_raised(text: &mut String, base: &Base<u64>, stripes: u32) -> Result<(), Refusal>
@@ -162,11 +155,11 @@ fn log_of_two_puts(alloc: Global) -> Result<Log<u64>, Memory>
     Ok(log)
 }
 
-fn fold(base: &mut Base<u64>, log: &mut Log<u64>) -> Result<(), Refusal>
-    requires stripes { stripes_of base.old ≡ 2 }
-    requires locations { log.old.locations ≡ 1 ∷ 1 ∷ [] }
+fn fold(alloc: Global, base: &mut Base<u64>) -> Result<(), Refusal>
+    requires { stripes_of base.old ≡ 2 }
     ensures { stripes_of base.new ≡ 2 }
 {
+    let mut log = log_of_two_puts(alloc)?;
     base.prepare(log.changes())?;
     if !is_raisable(base, 2, 1) {
         return Err(Refusal::NoSuch);
@@ -180,8 +173,7 @@ fn fold(base: &mut Base<u64>, log: &mut Log<u64>) -> Result<(), Refusal>
 pub fn answer_two_puts(text: &mut String, row: &str) -> Result<(), Refusal> {
     let alloc = *text.allocator();
     let mut base = new_of(alloc, "map", 2)?;
-    let mut log = log_of_two_puts(alloc)?;
-    fold(&mut base, &mut log)?;
+    fold(alloc, &mut base)?;
     match row {
         "puts logged" => print_editions(text, &base, 2),
         "puts touched" => print_all_touches(text, &base),
@@ -190,47 +182,27 @@ pub fn answer_two_puts(text: &mut String, row: &str) -> Result<(), Refusal> {
 }
 
 fn print_all_touches(text: &mut String, base: &Base<u64>) -> Result<(), Refusal> {
-    touch(text, base, &Op::Get(3))?;
-    touch(text, base, &Op::Remove(4))?;
-    touch(text, base, &Op::Len)?;
+    for op in [Op::Get(3), Op::Remove(4), Op::Len].as_slice() {
+        print_touch(text, &base.touch(op)?)?;
+    }
     let mut lent = LocationEditions::new(*text.allocator());
-    let touch = base.touch_summed(&Op::Len, &mut lent)?;
-    print_touch(text, &touch)?;
-    Ok(())
-}
-
-fn touch(text: &mut String, base: &Base<u64>, op: &Op<u64>) -> Result<(), Refusal> {
-    let touch = base.touch(op)?;
-    print_touch(text, &touch)?;
+    print_touch(text, &base.touch_summed(&Op::Len, &mut lent)?)?;
     Ok(())
 }
 
 // What was touched, and each location with its edition.
 fn print_touch(text: &mut String, touch: &Touch<u64>) -> Result<(), Memory> {
-    print_touched(text, &touch.held)?;
+    match &touch.held {
+        Touched::Entry(key, Some(value)) => write!(text, "Entry {key} {value}")?,
+        Touched::Entry(key, None) => write!(text, "Entry {key} none")?,
+        Touched::Copies(element, copies) => write!(text, "Copies {element} {copies}")?,
+        Touched::Counts(counts) => print_all(text, "Counts", counts.as_slice())?,
+        Touched::Total(total) => write!(text, "Total {total}")?,
+    }
     text.push_str(" at")?;
     for entry in touch.editions.as_slice() {
         write!(text, " {}:{}", entry.0, entry.1)?;
     }
     text.push_str("; ")?;
-    Ok(())
-}
-
-fn print_touched(text: &mut String, held: &Touched<u64>) -> Result<(), Memory> {
-    match held {
-        Touched::Entry(key, Some(value)) => write!(text, "Entry {key} {value}")?,
-        Touched::Entry(key, None) => write!(text, "Entry {key} none")?,
-        Touched::Copies(element, copies) => write!(text, "Copies {element} {copies}")?,
-        Touched::Counts(counts) => print_counts(text, counts.as_slice())?,
-        Touched::Total(total) => write!(text, "Total {total}")?,
-    }
-    Ok(())
-}
-
-fn print_counts(text: &mut String, counts: &[u64]) -> Result<(), Memory> {
-    text.push_str("Counts")?;
-    for count in counts {
-        write!(text, " {count}")?;
-    }
     Ok(())
 }

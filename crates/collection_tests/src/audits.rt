@@ -1,8 +1,6 @@
 //! Rows of records: audits on one word that is 0 at first, and records in commit order.
-use crate::tokens::{location_in, number_in, split};
-use seq_model::{
-    AuditFault, Call, Items, Memory, Op, Record, Refusal, Reply, State, audit, insert_record,
-};
+use row_parts::{location_in, number_in, split};
+use seq_model::{AuditFault, Call, Items, Op, Record, Refusal, Reply, State, audit, insert_record};
 use std::alloc::Global;
 use std::fmt::Write;
 
@@ -23,21 +21,16 @@ fn call_in(row: &str) -> Result<(Call<u64>, Reply<u64>), Refusal> {
     }
 }
 
-// `NUMBER KIND`.
-fn head_of(head: &str) -> Result<(u64, bool), Refusal> {
-    let (number, kind) = split(head, " ")?;
-    let number = number_in(number)?;
-    match kind {
-        "writer" => Ok((number, true)),
-        "reader" => Ok((number, false)),
-        _ => Err(Refusal::NoSuch),
-    }
-}
-
-// A head, and the calls after a comma each.
+// `NUMBER KIND`, and the calls after a comma each.
 fn record_in(alloc: Global, row: &str) -> Result<Record<u64>, Refusal> {
     let (head, made) = row.split_once(", ").unwrap_or((row, ""));
-    let (number, writes) = head_of(head)?;
+    let (number, kind) = split(head, " ")?;
+    let number = number_in(number)?;
+    let writes = match kind {
+        "writer" => true,
+        "reader" => false,
+        _ => return Err(Refusal::NoSuch),
+    };
     let mut calls = Items::new(alloc);
     if !made.is_empty() {
         for call in made.split(", ") {
@@ -64,39 +57,27 @@ fn word_of(alloc: Global, word: u64) -> Result<State<u64>, Refusal> {
     State::new(words, Vec::new(alloc))
 }
 
-fn fault_of(
-    alloc: Global,
-    records: &[Record<u64>],
-    last: u64,
-) -> Result<Option<AuditFault>, Refusal> {
-    let opening = word_of(alloc, 0)?;
-    let last = word_of(alloc, last)?;
-    match audit(alloc, &opening, records, &last) {
-        Ok(()) => Ok(None),
-        Err(AuditFault::Memory) => Err(Refusal::Memory),
-        Err(fault) => Ok(Some(fault)),
-    }
+/// `LAST: RECORDS`: what an audit answers that leaves the word at the last value.
+pub fn answer_audit(text: &mut String, row: &str) -> Result<(), Refusal> {
+    let alloc = *text.allocator();
+    let (last, records) = split(row, ": ")?;
+    let (opening, last) = (word_of(alloc, 0)?, word_of(alloc, number_in(last)?)?);
+    let records = records_in(alloc, records)?;
+    let audited = audit(alloc, &opening, records.as_slice(), &last);
+    print_audited(text, audited)
 }
 
-fn print_fault(text: &mut String, fault: AuditFault) -> Result<(), Memory> {
+fn print_audited(text: &mut String, audited: Result<(), AuditFault>) -> Result<(), Refusal> {
+    let Err(fault) = audited else {
+        text.push_str("no fault")?;
+        return Ok(());
+    };
     write!(text, "{fault}, ")?;
     match fault {
         AuditFault::DoubleNumber(number) => write!(text, "DoubleNumber {number}")?,
         AuditFault::WrongReply { entry, call } => write!(text, "WrongReply {entry} {call}")?,
         AuditFault::WrongState => text.push_str("WrongState")?,
-        AuditFault::Memory => return Err(Memory),
-    }
-    Ok(())
-}
-
-/// `LAST: RECORDS`: what an audit answers that leaves the word at the last value.
-pub fn answer_audit(text: &mut String, row: &str) -> Result<(), Refusal> {
-    let (last, records) = split(row, ": ")?;
-    let last = number_in(last)?;
-    let records = records_in(*text.allocator(), records)?;
-    match fault_of(*text.allocator(), records.as_slice(), last)? {
-        Some(fault) => print_fault(text, fault)?,
-        None => text.push_str("no fault")?,
+        AuditFault::Memory => return Err(Refusal::Memory),
     }
     Ok(())
 }

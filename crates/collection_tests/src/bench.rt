@@ -1,13 +1,14 @@
 //! A collection and the sequential model beside it, and the calls on them.
 ghost use Rattle.std.specs.Prelude.{◌≡◌, [], IfOk};
 
+use crate::changes::{changes_of, print_changes, print_outcome};
 use crate::memos::answer_remembered;
 use crate::parts::{Footprint, tell_conflict};
-use crate::print::{print_changes, print_outcome};
-use crate::tokens::{changes_of, location_in, split};
 use conflict::{Changes, LocSet};
 use replay_log::{Base, Log};
-use row_parts::{from_index, print_base, print_held, print_reply, script_of, state_of};
+use row_parts::{
+    from_index, location_in, print_base, print_held, print_reply, script_of, split, state_of,
+};
 use seq_model::{Call, Memory, Op, Refusal, Reply, Request, State};
 use shadow::Shadow;
 use std::alloc::Global;
@@ -20,20 +21,14 @@ pub struct Bench {
     state: State<u64>,
 }
 
-fn base_in(alloc: Global, script: &Script) -> Result<Base<u64>, Refusal> {
-    match script.collections.as_slice().first() {
-        Some(collection) => {
-            let held = collection.held.try_copy(alloc)?;
-            Base::open(alloc, collection.stripes, from_index(held, script.clock))
-        }
-        None => Err(Refusal::NoSuch),
-    }
-}
-
 impl Bench {
     /// Opens the script's first collection, a queue from the index that its clock says.
     pub fn open(alloc: Global, script: &Script) -> Result<Bench, Refusal> {
-        let base = base_in(alloc, script)?;
+        let Some(collection) = script.collections.as_slice().first() else {
+            return Err(Refusal::NoSuch);
+        };
+        let held = from_index(collection.held.try_copy(alloc)?, script.clock);
+        let base = Base::open(alloc, collection.stripes, held)?;
         let state = state_of(alloc, script, script.clock)?;
         Ok(Bench { base, state })
     }
@@ -43,9 +38,17 @@ impl Bench {
         let (verb, others) = row.split_once(' ').unwrap_or((row, ""));
         match verb {
             "holds" => print_base(text, &self.base),
-            "model" => self.print_model(text),
-            "copied" => self.answer_copied(text, others),
-            "beside" => self.answer_beside(text, others),
+            "model" => {
+                for held in self.state.held() {
+                    print_held(text, held)?;
+                }
+                Ok(())
+            }
+            "copied" => self.copy(*text.allocator())?.make_and_hold(text, others),
+            "beside" => {
+                let mut copy = self.copy(*text.allocator())?;
+                self.answer_beside(text, &mut copy, others)
+            }
             "shadowed" => answer_shadowed(text, &self.base, others),
             "remembered" => answer_remembered(text, &self.base, others),
             "conflict" => answer_conflict(text, &self.base, others),
@@ -55,13 +58,7 @@ impl Bench {
         }
     }
 
-    fn print_model(&self, text: &mut String) -> Result<(), Refusal> {
-        for held in self.state.held() {
-            print_held(text, held)?;
-        }
-        Ok(())
-    }
-
+    // A call that a script only asks is looked at.
     fn make_all(&mut self, text: &mut String, calls: &str) -> Result<(), Refusal> {
         let script = script_of(*text.allocator(), calls)?;
         let mut first = true;
@@ -70,18 +67,13 @@ impl Bench {
                 text.push_str("; ")?;
             }
             first = false;
-            self.tell(text, line)?;
+            match line {
+                EventLine::Ask(_, Request::Call(asked)) => look(text, &self.base, &asked.op)?,
+                EventLine::Do(_, Request::Call(asked)) => self.make(text, asked)?,
+                _ => return Err(Refusal::NoSuch),
+            }
         }
         Ok(())
-    }
-
-    // A call that a script only asks is looked at.
-    fn tell(&mut self, text: &mut String, line: &EventLine) -> Result<(), Refusal> {
-        match line {
-            EventLine::Ask(_, Request::Call(asked)) => look(text, &self.base, &asked.op),
-            EventLine::Do(_, Request::Call(asked)) => self.make(text, asked),
-            _ => Err(Refusal::NoSuch),
-        }
     }
 
     fn make(&mut self, text: &mut String, asked: &Call<u64>) -> Result<(), Refusal> {
@@ -101,15 +93,14 @@ impl Bench {
         Ok(Bench { base, state })
     }
 
-    fn answer_copied(&self, text: &mut String, calls: &str) -> Result<(), Refusal> {
-        let mut copy = self.copy(*text.allocator())?;
-        copy.make_and_hold(text, calls)
-    }
-
     // While there is a copy, both are changed.
-    fn answer_beside(&mut self, text: &mut String, calls: &str) -> Result<(), Refusal> {
+    fn answer_beside(
+        &mut self,
+        text: &mut String,
+        copy: &mut Bench,
+        calls: &str,
+    ) -> Result<(), Refusal> {
         let (of_copy, own) = split(calls, " | ")?;
-        let mut copy = self.copy(*text.allocator())?;
         copy.make_all(text, of_copy)?;
         text.push_str("; ")?;
         self.make_and_hold(text, own)?;
@@ -180,15 +171,22 @@ fn answer_shadowed(text: &mut String, base: &Base<u64>, calls: &str) -> Result<(
     let alloc = *text.allocator();
     let script = script_of(alloc, calls)?;
     let mut shadow = Shadow::of_copy(alloc, base.try_copy()?);
-    for line in script.lines.as_slice() {
+    shadow_all(text, &mut shadow, script.lines.as_slice())
+}
+
+fn shadow_all(
+    text: &mut String,
+    shadow: &mut Shadow<u64>,
+    lines: &[EventLine],
+) -> Result<(), Refusal> {
+    for line in lines {
         match line {
-            EventLine::Do(_, Request::Call(asked)) => shadow_call(text, &mut shadow, &asked.op)?,
+            EventLine::Do(_, Request::Call(asked)) => shadow_call(text, shadow, &asked.op)?,
             _ => return Err(Refusal::NoSuch),
         }
     }
     text.push_str("log")?;
-    let log = shadow.log();
-    print_changes(text, log.changes())?;
+    print_changes(text, shadow.log().changes())?;
     Ok(())
 }
 

@@ -11,13 +11,12 @@
 mod alone;
 mod audits;
 mod bench;
+mod changes;
 mod memos;
 mod models;
 mod parts;
-mod print;
 mod rows;
 mod sets;
-mod tokens;
 mod words;
 
 use rows::answer_all;
@@ -33,7 +32,11 @@ const MEMORY: u8 = 2;
 fn main(rt: HostRuntime) -> ExitCode {
     let status = match run(&rt) {
         Ok(()) => 0,
-        Err(error) => refuse(&rt, &error),
+        Err(error) if error.kind() == io::ErrorKind::OutOfMemory => {
+            let _ = rt.print("Memory\n");
+            MEMORY
+        }
+        Err(_) => FAILED,
     };
     ExitCode::from(status)
 }
@@ -45,12 +48,4 @@ fn run(rt: &HostRuntime) -> io::Result<()> {
         Ok(text) => rt.print(text.as_str()),
         Err(_) => Err(io::Error::from(io::ErrorKind::OutOfMemory)),
     }
-}
-
-fn refuse(rt: &HostRuntime, error: &io::Error) -> u8 {
-    if error.kind() == io::ErrorKind::OutOfMemory {
-        let _ = rt.print("Memory\n");
-        return MEMORY;
-    }
-    FAILED
 }

@@ -1,5 +1,5 @@
 //! Calls on a memo of the keys that they touch.
-use crate::print::print_changes;
+use crate::changes::print_changes;
 use replay_log::Base;
 use row_parts::{print_reply, script_of};
 use seq_model::{Kind, Op, Refusal, Request};

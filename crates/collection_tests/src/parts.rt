@@ -1,27 +1,17 @@
 //! Rows on what all collections use: sets of locations, editions and the hash map.
-ghost use Rattle.std.specs.Prelude.{◌≡◌, ◌<◌, ◌^◌, IfOk, IsTrue, length, slice_index};
+ghost use Rattle.std.specs.Prelude.{◌≡◌, ◌<◌, ◌^◌, IsTrue, length, slice_index};
 
 use crate::alone::{HIGH, locations_in};
-use crate::print::print_locations;
-use crate::tokens::{Call, call_of, location_in, split};
 use conflict::{Editions, LocSet, Table, conflicts};
-use row_parts::print_held;
+use row_parts::{Call, call_of, location_in, print_held, split};
 use seq_model::{Held, Memory, Refusal};
 use smallvec::SmallVec;
 use std::alloc::Global;
 use std::fmt::Write;
 use text_formats::tokens_of;
 
-fn set_of_many(alloc: Global, tokens: &[&str]) -> Result<LocSet, Refusal> {
-    let mut locations = SmallVec::new(alloc);
-    for token in tokens {
-        locations.push(location_in(token)?)?;
-    }
-    Ok(LocSet::from_locations(locations))
-}
-
-// The set after its name.
-fn set_in(alloc: Global, row: &str) -> Result<LocSet, Refusal> {
+/// The set of the locations that stand after its name.
+pub fn set_in(alloc: Global, row: &str) -> Result<LocSet, Refusal> {
     let Some((_, locations)) = row.split_once(' ') else {
         return Ok(LocSet::empty(alloc));
     };
@@ -29,7 +19,13 @@ fn set_in(alloc: Global, row: &str) -> Result<LocSet, Refusal> {
     match tokens.as_slice() {
         [one] => Ok(LocSet::single(alloc, location_in(one)?)),
         [lower, higher] => pair_of(alloc, location_in(lower)?, location_in(higher)?),
-        many => set_of_many(alloc, many),
+        many => {
+            let mut locations = SmallVec::new(alloc);
+            for token in many {
+                locations.push(location_in(token)?)?;
+            }
+            Ok(LocSet::from_locations(locations))
+        }
     }
 }
 
@@ -39,13 +35,6 @@ fn pair_of(alloc: Global, lower: u32, higher: u32) -> Result<LocSet, Refusal> {
     } else {
         Err(Refusal::NoSuch)
     }
-}
-
-/// `set LOCATIONS`: the set of these locations.
-pub fn answer_set(text: &mut String, row: &str) -> Result<(), Refusal> {
-    let set = set_in(*text.allocator(), row)?;
-    print_locations(text, "holds", &set)?;
-    Ok(())
 }
 
 /// `COUNT has LOCATIONS`: how many locations are below the count, and whether these are.
@@ -137,18 +126,12 @@ fn print_copy(text: &mut String, editions: &Editions, count: u32) -> Result<(), 
     Ok(())
 }
 
-fn editions_of(alloc: Global, count: u32) -> Result<Editions, Memory>
-    ensures { IfOk result (λ editions. length editions ≡ count) }
-{
-    Editions::new(alloc, count)
-}
-
 /// `COUNT raised LOCATIONS`: a copy of so many editions, of which none, one or two are raised.
 pub fn answer_editions(text: &mut String, row: &str) -> Result<(), Refusal> {
     let (count, raised) = split(row, " raised")?;
     let count = location_in(count)?;
     let alloc = *text.allocator();
-    let mut editions = editions_of(alloc, count)?;
+    let mut editions = Editions::new(alloc, count)?;
     if let Some(raised) = raised.strip_prefix(" ") {
         raise(alloc, &mut editions, count, locations_in(raised)?)?;
     }
@@ -180,12 +163,6 @@ fn print_table(text: &mut String, table: &Table<u64>) -> Result<(), Refusal> {
     Ok(())
 }
 
-fn opened_again(alloc: Global, table: &Table<u64>) -> Result<Table<u64>, Memory> {
-    let copy = table.try_copy()?;
-    let entries = copy.to_entries()?;
-    Table::of_entries(alloc, entries)
-}
-
 /// `STEPS`: a table on which `put KEY VALUE`, `remove KEY` and `get KEY` are made; what it holds, and what a table does that is
 /// opened of a copy's entries.
 pub fn answer_hash_map(text: &mut String, row: &str) -> Result<(), Refusal> {
@@ -196,6 +173,6 @@ pub fn answer_hash_map(text: &mut String, row: &str) -> Result<(), Refusal> {
     }
     print_table(text, &table)?;
     text.push_str("; again ")?;
-    let again = opened_again(alloc, &table)?;
+    let again = Table::of_entries(alloc, table.try_copy()?.to_entries()?)?;
     print_table(text, &again)
 }

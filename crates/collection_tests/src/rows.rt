@@ -3,16 +3,16 @@ use crate::alone::{answer_new, answer_of_kind, answer_raised, answer_two_puts};
 use crate::audits::{answer_audit, answer_records};
 use crate::bench::Bench;
 use crate::models::{answer_event, answer_refusal, answer_same, answer_state};
-use crate::parts::{answer_below, answer_editions, answer_hash_map, answer_meet, answer_set};
-use crate::sets::{answer_lock, answer_reads, answer_writes};
-use crate::tokens::split;
+use crate::parts::{answer_below, answer_editions, answer_hash_map, answer_meet, set_in};
+use crate::sets::{answer_lock, call_all};
 use crate::words::{answer_on, tell, words_of};
-use row_parts::script_of;
+use row_parts::{print_all, script_of, split, tell_refusal};
 use seq_model::{Memory, Refusal};
 use std::alloc::Global;
 use std::fmt::Write;
 use step_core::Words;
 use text_formats::number;
+use tx_sets::{ReadSet, WriteSet};
 
 // What was opened last. Rows that open nothing may speak of it.
 #[derive(Drop)]
@@ -72,7 +72,9 @@ pub fn answer_all(alloc: Global, rows: &str) -> Result<String, Memory> {
         text.push_str(row)?;
         if !matches!(row.as_bytes(), [] | [b'#', ..]) {
             count = count.saturating_add(1);
-            answer(&mut text, &mut opened, row)?;
+            text.push_str(" = ")?;
+            let answered = answer_row(&mut text, &mut opened, row);
+            tell_refusal(&mut text, "", answered, "")?;
         }
         text.push('\n')?;
     }
@@ -80,19 +82,8 @@ pub fn answer_all(alloc: Global, rows: &str) -> Result<String, Memory> {
     Ok(text)
 }
 
-fn answer(text: &mut String, opened: &mut Opened, row: &str) -> Result<(), Memory> {
-    text.push_str(" = ")?;
-    match answer_row(text, opened, row) {
-        Ok(()) => Ok(()),
-        Err(Refusal::Memory) => Err(Memory),
-        Err(refusal) => {
-            write!(text, "{refusal}")?;
-            Ok(())
-        }
-    }
-}
-
 fn answer_row(text: &mut String, opened: &mut Opened, row: &str) -> Result<(), Refusal> {
+    let alloc = *text.allocator();
     let (verb, others) = row.split_once(' ').unwrap_or((row, ""));
     match verb {
         "as" => answer_of_kind(text, others),
@@ -105,13 +96,13 @@ fn answer_row(text: &mut String, opened: &mut Opened, row: &str) -> Result<(), R
         "audit" => answer_audit(text, others),
         "records" => answer_records(text, others),
         "refusal" => answer_refusal(text, matches!(opened, Opened::Words(_)), others),
-        "set" => answer_set(text, row),
+        "set" => Ok(print_all(text, "holds", set_in(alloc, row)?.as_slice())?),
         "below" => answer_below(text, others),
         "meet" => answer_meet(text, others),
         "editions" => answer_editions(text, others),
         "lock" => answer_lock(text, others),
-        "reads" => answer_reads(text, others),
-        "writes" => answer_writes(text, others),
+        "reads" => call_all(text, &mut ReadSet::new(alloc), others),
+        "writes" => call_all(text, &mut WriteSet::new(alloc), others),
         "table" => answer_table(text, opened, others),
         "clock" | "map" | "bag" | "pq" | "queue" => answer_opening(text, opened, row),
         _ => match opened {

@@ -1,8 +1,8 @@
 //! Lock words, and the read set and the write set.
-use crate::tokens::{Call, call_of, location};
+use row_parts::{Call, call_of, location};
 use seq_model::Refusal;
 use std::fmt::Write;
-use tx_sets::{AccessSet, ReadSet, SetRefusal, WriteSet};
+use tx_sets::{AccessSet, SetRefusal};
 use vlock_word::LockWord;
 
 /// Answers a row on a lock word.
@@ -25,19 +25,8 @@ pub fn answer_lock(text: &mut String, row: &str) -> Result<(), Refusal> {
     Ok(())
 }
 
-/// Makes the calls on a read set.
-pub fn answer_reads(text: &mut String, calls: &str) -> Result<(), Refusal> {
-    let mut set = ReadSet::new(*text.allocator());
-    call_all(text, &mut set, calls)
-}
-
-/// Makes the calls on a write set.
-pub fn answer_writes(text: &mut String, calls: &str) -> Result<(), Refusal> {
-    let mut set = WriteSet::new(*text.allocator());
-    call_all(text, &mut set, calls)
-}
-
-fn call_all<Role>(
+/// Makes the calls on a set.
+pub fn call_all<Role>(
     text: &mut String,
     set: &mut AccessSet<Role>,
     calls: &str,
@@ -63,8 +52,8 @@ fn answer_call<Role>(
         "reserve" => tell(text, set.reserve(at as usize)),
         "put" => tell(text, set.put(at, call.value)),
         "put_first" => tell(text, put_first(set, at, call.value)),
-        "find" => print_found(text, set.find(at)),
-        "len" => print_found(text, Some(set.len() as u64)),
+        "find" => print_found(text, set.find(at), "none"),
+        "len" => print_found(text, Some(set.len() as u64), "none"),
         "all" => print_entries(text, set.in_order()),
         _ => Err(Refusal::NoSuch),
     }
@@ -86,10 +75,11 @@ fn tell(text: &mut String, answer: Result<(), SetRefusal>) -> Result<(), Refusal
     Ok(())
 }
 
-fn print_found(text: &mut String, found: Option<u64>) -> Result<(), Refusal> {
+/// Prints a number, or the other text where there is none.
+pub fn print_found(text: &mut String, found: Option<u64>, none: &str) -> Result<(), Refusal> {
     match found {
         Some(value) => write!(text, "{value}")?,
-        None => text.push_str("none")?,
+        None => text.push_str(none)?,
     }
     Ok(())
 }

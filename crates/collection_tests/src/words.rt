@@ -1,6 +1,6 @@
 //! Moves of actors on a table of words.
-use crate::print::print_words;
-use crate::tokens::{Call, call_of, location, location_in, number_in};
+use crate::sets::print_found;
+use row_parts::{Call, call_of, location, location_in, number_in, print_all};
 use seq_model::Refusal;
 use std::alloc::Global;
 use std::fmt::Write;
@@ -18,27 +18,15 @@ fn step(words: &mut Words, actor: u32) -> Answer {
     words.step(actor)
 }
 
-fn snapshot(words: &Words, actor: u32) -> Answer {
-    match words.snapshot(actor) {
-        Some(number) => Ok(Some(WordAnswer::Number(number))),
-        None => Ok(None),
-    }
-}
-
-fn add_words(words: &mut Vec<u64>, token: &str) -> Result<(), Refusal> {
-    let (count, word) = token.split_once('*').unwrap_or(("1", token));
-    let word = number_in(word)?;
-    for _ in 0..location_in(count)? {
-        words.push(word)?;
-    }
-    Ok(())
-}
-
 /// The words that a row spells.
 pub fn words_of(alloc: Global, row: &str) -> Result<Vec<u64>, Refusal> {
     let mut words = Vec::new(alloc);
     for token in row.split(' ') {
-        add_words(&mut words, token)?;
+        let (count, word) = token.split_once('*').unwrap_or(("1", token));
+        let word = number_in(word)?;
+        for _ in 0..location_in(count)? {
+            words.push(word)?;
+        }
     }
     Ok(words)
 }
@@ -64,21 +52,16 @@ pub fn answer_on(
     match name {
         "left" => print_left(text, words),
         "calls" => print_calls(text, words.history()),
-        "value" => print_value(text, words.values(), location_in(others)?),
+        "value" => {
+            let at = location_in(others)? as usize;
+            print_found(text, words.values().get(at).copied(), "..")
+        }
         actor => make_all(text, words, location_in(actor)?, others),
     }
 }
 
-fn print_value(text: &mut String, values: &[u64], at: u32) -> Result<(), Refusal> {
-    match values.get(at as usize) {
-        Some(value) => write!(text, "{value}")?,
-        None => text.push_str("..")?,
-    }
-    Ok(())
-}
-
 fn print_left(text: &mut String, words: &Words) -> Result<(), Refusal> {
-    print_words(text, words.values())?;
+    print_all(text, "words", words.values())?;
     for record in words.history() {
         let (number, actor) = (record.number, record.actor);
         let kind = if record.writes { "write" } else { "read" };
@@ -119,7 +102,10 @@ fn made(words: &mut Words, actor: u32, asked: &str) -> Result<Answer, Refusal> {
     let call = call_of(asked)?;
     match call.name {
         "step" => Ok(step(words, actor)),
-        "snapshot" => Ok(snapshot(words, actor)),
+        "snapshot" => Ok(Ok(match words.snapshot(actor) {
+            Some(number) => Some(WordAnswer::Number(number)),
+            None => None,
+        })),
         "read_first" | "write_first" => Ok(touch(words, actor, call, location(call.at)?)),
         _ => Ok(run(words, actor, request(call)?)),
     }

@@ -38,50 +38,40 @@ struct Terminal<'a> {
 }
 
 impl Terminal<'_> {
-    /// Whether the line is to be written now, by whoever asks.
-    fn is_due(&self, since: u64) -> bool {
+    /// The time since the first session or run, where the line is to be written now, by whoever asks.
+    fn due(&self, count: u64) -> Option<Duration> {
+        if !self.is_there || (count != 1 && count % LOOK != 0) {
+            return None;
+        }
+        let time = self.rt.monotonic().unwrap_or(Duration::ZERO);
+        let now = time
+            .as_secs()
+            .saturating_mul(1_000)
+            .saturating_add(u64::from(time.subsec_millis()));
+        if count == 1 {
+            self.begun.store(now, Ordering::SeqCst);
+            return None;
+        }
+        let since = now.saturating_sub(self.begun.load(Ordering::SeqCst));
         let told = self.told.load(Ordering::SeqCst);
-        since.saturating_sub(told) >= APART
+        let is_due = since.saturating_sub(told) >= APART
             && self
                 .told
                 .compare_exchange(told, since, Ordering::SeqCst, Ordering::SeqCst)
-                .is_ok()
-    }
-
-    /// The milliseconds since the first session or run.
-    fn since(&self) -> u64 {
-        now(self.rt).saturating_sub(self.begun.load(Ordering::SeqCst))
-    }
-
-    fn write(&self, count: u64, all: u64) {
-        let since = self.since();
-        if self.is_due(since) {
-            let time = Duration::from_millis(since);
-            let pace = Pace { count, all, time };
-            let _ = write!(self.rt.stderr(), "\r{pace}    ");
-        }
-    }
-
-    fn write_runs(&self, count: u64, most: u64) {
-        let since = self.since();
-        if self.is_due(since) {
-            let time = Duration::from_millis(since);
-            let speed = Speed { count, most, time };
-            let _ = write!(self.rt.stderr(), "\r{speed}    ");
+                .is_ok();
+        if is_due {
+            Some(Duration::from_millis(since))
+        } else {
+            None
         }
     }
 }
 
 impl Progress for Terminal<'_> {
     fn receipts(&self, count: u64, all: u64) {
-        if !self.is_there {
-            return;
-        }
-        if count == 1 {
-            self.begun.store(now(self.rt), Ordering::SeqCst);
-        }
-        if count % LOOK == 0 {
-            self.write(count, all);
+        if let Some(time) = self.due(count) {
+            let pace = Pace { count, all, time };
+            let _ = write!(self.rt.stderr(), "\r{pace}    ");
         }
     }
 
@@ -94,30 +84,20 @@ impl Progress for Terminal<'_> {
 
 impl ExploreProgress for Terminal<'_> {
     fn tried(&self, count: u64, most: u64) {
-        if !self.is_there {
-            return;
-        }
-        if count == 1 {
-            self.begun.store(now(self.rt), Ordering::SeqCst);
-        }
-        if count % LOOK == 0 {
-            self.write_runs(count, most);
+        if let Some(time) = self.due(count) {
+            let speed = Speed { count, most, time };
+            let _ = write!(self.rt.stderr(), "\r{speed}    ");
         }
     }
-}
-
-/// The milliseconds of the clock, or none where it can't be read.
-fn now(rt: &HostRuntime) -> u64 {
-    let time = rt.monotonic().unwrap_or(Duration::ZERO);
-    time.as_secs()
-        .saturating_mul(1_000)
-        .saturating_add(u64::from(time.subsec_millis()))
 }
 
 fn main(rt: HostRuntime) -> ExitCode {
     let status = match words_of(&rt) {
         Ok(words) => run(&rt, &rt, words.as_slice()),
-        Err(error) => refuse(&rt, error),
+        Err(error) if error.kind() == io::ErrorKind::OutOfMemory => {
+            refuse_memory(&mut rt.stderr())
+        }
+        Err(_) => fault(&mut rt.stderr(), REFUSED, "cannot read the words"),
     };
     ExitCode::from(status)
 }
@@ -126,14 +106,6 @@ fn main(rt: HostRuntime) -> ExitCode {
 fn words_of(rt: &HostRuntime) -> io::Result<Vec<String>> {
     let words = env::args(rt)?.skip(1).collect(rt.alloc())?;
     Ok(words)
-}
-
-fn refuse(rt: &HostRuntime, error: io::Error) -> u8 {
-    let mut err = rt.stderr();
-    if error.kind() == io::ErrorKind::OutOfMemory {
-        return refuse_memory(&mut err);
-    }
-    fault(&mut err, REFUSED, "cannot read the words")
 }
 
 // The handle on threads is the runtime, too.

@@ -1,11 +1,15 @@
-//! What programs of rows have in common: the scripts that a row spells, what a script's header opens, and how replies and contents are
-//! printed.
+//! What programs of rows have in common: the numbers, calls and refusals that a row spells, its scripts, what a script's header opens,
+//! and how replies and contents are printed.
 #![tactic(auto)]
 
 mod contents;
 mod replies;
 mod scripts;
+mod spelled;
 
-pub use contents::{print_base, print_held};
-pub use replies::print_reply;
+pub use contents::{print_all, print_base, print_held};
+pub use replies::{parts_of, print_reply};
 pub use scripts::{from_index, script_of, shape_of, state_of};
+pub use spelled::{
+    Call, call_of, location, location_in, number_in, refusal_of, split, tell_refusal,
+};

@@ -1,27 +1,39 @@
-//! Replies as text.
-use seq_model::Reply;
+//! Replies and calls as text.
+use seq_model::{Op, Reply};
 use std::alloc::AllocError;
 use std::fmt::Write;
 
-fn parts_of(reply: &Reply<u64>) -> (&'static str, Option<u64>) {
+/// Prints a reply, as `Value 30`.
+pub fn print_reply(text: &mut String, reply: &Reply<u64>) -> Result<(), AllocError> {
     match reply {
-        Reply::Done => ("Done", None),
-        Reply::Full => ("Full", None),
-        Reply::Nothing => ("Nothing", None),
-        Reply::Value(value) => ("Value", Some(*value)),
-        Reply::Found(element) => ("Found", Some(*element)),
-        Reply::Number(number) => ("Number", Some(*number)),
-        Reply::Yes => ("Yes", None),
-        Reply::No => ("No", None),
+        Reply::Done => text.push_str("Done"),
+        Reply::Full => text.push_str("Full"),
+        Reply::Nothing => text.push_str("Nothing"),
+        Reply::Value(value) => write!(text, "Value {value}"),
+        Reply::Found(element) => write!(text, "Found {element}"),
+        Reply::Number(number) => write!(text, "Number {number}"),
+        Reply::Yes => text.push_str("Yes"),
+        Reply::No => text.push_str("No"),
     }
 }
 
-/// Prints a reply, as `Value 30`.
-pub fn print_reply(text: &mut String, reply: &Reply<u64>) -> Result<(), AllocError> {
-    let (name, number) = parts_of(reply);
-    text.push_str(name)?;
-    match number {
-        Some(number) => write!(text, " {number}"),
-        None => Ok(()),
+/// The name of a call, and its numbers.
+pub fn parts_of(op: &Op<u64>) -> (&'static str, Option<u64>, Option<u64>) {
+    match op {
+        Op::Read => ("Read", None, None),
+        Op::Write(value) => ("Write", Some(*value), None),
+        Op::Get(key) => ("Get", Some(*key), None),
+        Op::Put(key, value) => ("Put", Some(*key), Some(*value)),
+        Op::Remove(key) => ("Remove", Some(*key), None),
+        Op::Len => ("Len", None, None),
+        Op::Count(element) => ("Count", Some(*element), None),
+        Op::Add(element) => ("Add", Some(*element), None),
+        Op::Take(element) => ("Take", Some(*element), None),
+        Op::Least => ("Least", None, None),
+        Op::Insert(element) => ("Insert", Some(*element), None),
+        Op::TakeLeast => ("TakeLeast", None, None),
+        Op::Enqueue(item) => ("Enqueue", Some(*item), None),
+        Op::Dequeue => ("Dequeue", None, None),
+        Op::Peek => ("Peek", None, None),
     }
 }

@@ -58,13 +58,19 @@ pub fn print_beside_all(text: &mut String, script: &str) -> Result<(), RunFault>
     Ok(())
 }
 
+// How many outcomes were found, and how many of them the other has.
 fn print_found(
     text: &mut String,
     name: &str,
     found: &Exploration,
     other: &Exploration,
 ) -> Result<(), Memory> {
-    let shared = shared_with(found, other);
+    let mut shared = 0u64;
+    for outcome in found.outcomes.as_slice() {
+        if other.place_of(outcome.key.as_slice()).is_some() {
+            shared = shared.saturating_add(1);
+        }
+    }
     let outcomes = found.outcomes.len();
     let interleavings = found.interleavings;
     let complete = if found.is_complete { "yes" } else { "no" };
@@ -73,15 +79,4 @@ fn print_found(
         "{name}: outcomes {outcomes} shared {shared} interleavings {interleavings} complete {complete}"
     )?;
     Ok(())
-}
-
-// How many of the outcomes the other has.
-fn shared_with(found: &Exploration, other: &Exploration) -> u64 {
-    let mut shared = 0u64;
-    for outcome in found.outcomes.as_slice() {
-        if other.place_of(outcome.key.as_slice()).is_some() {
-            shared = shared.saturating_add(1);
-        }
-    }
-    shared
 }

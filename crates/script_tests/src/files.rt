@@ -28,17 +28,12 @@ pub fn ending_of(text: &str) -> (&str, End) {
 pub fn bytes_of(alloc: Global, text: &str) -> Result<Vec<u8>, AllocError> {
     let mut bytes = Vec::new(alloc);
     for line in text.split_inclusive('\n') {
-        push_line(&mut bytes, line)?;
+        let (times, line) = times_of(line).unwrap_or((1, line));
+        for _time in 0..times {
+            push_spelt(&mut bytes, line)?;
+        }
     }
     Ok(bytes)
-}
-
-fn push_line(bytes: &mut Vec<u8>, line: &str) -> Result<(), AllocError> {
-    let (times, line) = times_of(line).unwrap_or((1, line));
-    for _time in 0..times {
-        push_spelt(bytes, line)?;
-    }
-    Ok(())
 }
 
 fn times_of(line: &str) -> Option<(u64, &str)> {

@@ -1,11 +1,10 @@
 //! A trace that is laid out by hand, and what is printed of it.
-use crate::notices::{narrow, notice_of};
-use row_parts::state_of;
-use seq_model::{Call, Items, Notice, Op, Record, Refusal, Reply, State};
+use row_parts::{Call as Spelled, call_of, location_in, number_in, refusal_of, split, state_of};
+use seq_model::{Answer, Call, Items, Notice, Op, Record, Refusal, Reply, State};
 use session_text::{ScriptRun, print_trace};
 use std::alloc::Global;
 use step_world::Trace;
-use text_formats::{number, parse_steps};
+use text_formats::parse_steps;
 
 /// Prints the trace of these lines:
 ///
@@ -16,20 +15,20 @@ use text_formats::{number, parse_steps};
 pub fn print_laid_out(text: &mut String, laid_out: &str) -> Result<(), Refusal> {
     let alloc = *text.allocator();
     let (header, lines) = laid_out.split_once("--\n").unwrap_or(("", laid_out));
-    let mut run = opened(alloc, header)?;
+    let trace = Trace {
+        records: Items::new(alloc),
+        aborted: Items::new(alloc),
+        state: header_of(alloc, header)?,
+        half: Items::new(alloc),
+    };
+    let mut run = run_of(alloc, trace)?;
     add_all(&mut run, alloc, lines)?;
     print_run(text, &run)
 }
 
 /// Prints a trace, with nothing printed before it.
 pub fn print_trace_alone(text: &mut String, trace: Trace<u64>) -> Result<(), Refusal> {
-    let alloc = *text.allocator();
-    let opening = header_of(alloc, "")?;
-    let run = ScriptRun {
-        notices: Items::new(alloc),
-        opening,
-        trace,
-    };
+    let run = run_of(*text.allocator(), trace)?;
     print_run(text, &run)
 }
 
@@ -39,18 +38,12 @@ fn print_run(text: &mut String, run: &ScriptRun) -> Result<(), Refusal> {
     Ok(())
 }
 
-fn opened(alloc: Global, header: &str) -> Result<ScriptRun, Refusal> {
+fn run_of(alloc: Global, trace: Trace<u64>) -> Result<ScriptRun, Refusal> {
     let opening = header_of(alloc, "")?;
-    let state = header_of(alloc, header)?;
     Ok(ScriptRun {
         notices: Items::new(alloc),
         opening,
-        trace: Trace {
-            records: Items::new(alloc),
-            aborted: Items::new(alloc),
-            state,
-            half: Items::new(alloc),
-        },
+        trace,
     })
 }
 
@@ -72,40 +65,37 @@ fn add_all(run: &mut ScriptRun, alloc: Global, lines: &str) -> Result<(), Refusa
     Ok(())
 }
 
-fn number_in(token: &str) -> Result<u64, Refusal> {
-    match number(token) {
-        Some(number) => Ok(number),
-        None => Err(Refusal::NoSuch),
+fn notice_in(actor: &str, told: &str) -> Result<Notice<u64>, Refusal> {
+    let (actor, told) = (location_in(actor)?, call_of(told)?);
+    match answer_of(told) {
+        Some(answer) => Ok(Notice::Answered(actor, answer)),
+        None => Ok(Notice::Refused(actor, refusal_of(told)?)),
     }
 }
 
-fn notice_in(actor: &str, told: &str) -> Result<Notice<u64>, Refusal> {
-    let Some(actor) = narrow(actor) else {
-        return Err(Refusal::NoSuch);
-    };
-    match notice_of(actor, told) {
-        Some(notice) => Ok(notice),
-        None => Err(Refusal::NoSuch),
+fn answer_of(told: Spelled<'_>) -> Option<Answer<u64>> {
+    match told.name {
+        "Begun" => Some(Answer::Begun(told.at)),
+        "Committed" => Some(Answer::Committed(told.at)),
+        "Aborted" => Some(Answer::Aborted),
+        "Done" => Some(Answer::Replied(Reply::Done)),
+        "Full" => Some(Answer::Replied(Reply::Full)),
+        "Nothing" => Some(Answer::Replied(Reply::Nothing)),
+        "Value" => Some(Answer::Replied(Reply::Value(told.at))),
+        "Found" => Some(Answer::Replied(Reply::Found(told.at))),
+        "Number" => Some(Answer::Replied(Reply::Number(told.at))),
+        "Yes" => Some(Answer::Replied(Reply::Yes)),
+        "No" => Some(Answer::Replied(Reply::No)),
+        _ => None,
     }
 }
 
 // `4 write actor 64 calls 1`: the number, whether it wrote, the actor and how many calls.
-fn parts_of(record: &str) -> Option<(u64, bool, u32, u64)> {
-    let (head, calls) = record.split_once(" calls ")?;
-    let (head, actor) = head.split_once(" actor ")?;
-    let (number_of, kind) = head.split_once(' ')?;
-    Some((
-        number(number_of)?,
-        kind == "write",
-        narrow(actor)?,
-        number(calls)?,
-    ))
-}
-
 fn record_in(alloc: Global, record: &str) -> Result<(u32, Record<u64>), Refusal> {
-    let Some((number, writes, actor, count)) = parts_of(record) else {
-        return Err(Refusal::NoSuch);
-    };
+    let (head, count) = split(record, " calls ")?;
+    let (head, actor) = split(head, " actor ")?;
+    let (number, kind) = split(head, " ")?;
+    let (number, actor, count) = (number_in(number)?, location_in(actor)?, number_in(count)?);
     let mut calls = Items::new(alloc);
     for word in 0..count {
         let op = Op::Write(word);
@@ -113,7 +103,7 @@ fn record_in(alloc: Global, record: &str) -> Result<(u32, Record<u64>), Refusal>
     }
     let record = Record {
         number,
-        writes,
+        writes: kind == "write",
         calls,
     };
     Ok((actor, record))

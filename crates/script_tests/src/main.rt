@@ -1,5 +1,5 @@
 //! Tests of the program: whole runs over step scripts, session files and drawn sessions, from the text to what is printed; and of the
-//! texts that no run spells.
+//! texts that no run spells. And of reservations by their own calls: row by row on the tables, and sessions on a running world.
 //!
 //! They are sections of the file `stdin`, each closed by `----`: a name, and after it the text. Each is printed by its name, with
 //! what came of it, and at the end how many there are; what all must print stands in the file `stdout`. So the crate is proved once,
@@ -10,8 +10,8 @@
 mod explorations;
 mod files;
 mod laid_out;
-mod notices;
 mod reading;
+mod reservations;
 mod sections;
 mod times;
 mod worlds;
@@ -30,7 +30,11 @@ const FAILED: u8 = 1;
 fn main(rt: HostRuntime) -> ExitCode {
     let status = match run(&rt, &rt) {
         Ok(()) => DONE,
-        Err(error) => refuse(&rt, &error),
+        Err(error) if error.kind() == io::ErrorKind::OutOfMemory => {
+            let _ = rt.print("Memory\n");
+            MEMORY
+        }
+        Err(_) => FAILED,
     };
     ExitCode::from(status)
 }
@@ -38,14 +42,8 @@ fn main(rt: HostRuntime) -> ExitCode {
 // All is run, by this handle on threads, before anything is printed.
 fn run<H: Threads + Wait + Clock + Sync>(threads: &H, rt: &HostRuntime) -> io::Result<()> {
     let sections = io::read_to_string(rt.alloc(), rt.stdin())?;
-    let text = run_all(threads, rt.alloc(), sections.as_str())?;
-    rt.print(text.as_str())
-}
-
-fn refuse(rt: &HostRuntime, error: &io::Error) -> u8 {
-    if error.kind() == io::ErrorKind::OutOfMemory {
-        let _ = rt.print("Memory\n");
-        return MEMORY;
+    match run_all(threads, rt.alloc(), sections.as_str()) {
+        Ok(text) => rt.print(text.as_str()),
+        Err(_) => Err(io::Error::from(io::ErrorKind::OutOfMemory)),
     }
-    FAILED
 }

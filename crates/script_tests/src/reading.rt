@@ -1,6 +1,6 @@
 //! A script, as it was read.
-use row_parts::print_held;
-use seq_model::{Memory, Op, Refusal, Request};
+use row_parts::{parts_of, print_all, print_held};
+use seq_model::{Memory, Refusal, Request};
 use std::alloc::AllocError;
 use std::fmt::Write;
 use text_formats::{EventLine, Script, parse_steps};
@@ -13,7 +13,7 @@ pub fn print_script(text: &mut String, lines: &str) -> Result<(), Refusal> {
 }
 
 fn print_read(text: &mut String, script: &Script) -> Result<(), Memory> {
-    print_words(text, script.words.as_slice())?;
+    print_all(text, "words", script.words.as_slice())?;
     writeln!(text, "\nclock {}", script.clock)?;
     for collection in script.collections.as_slice() {
         write!(text, "{} stripes, ", collection.stripes)?;
@@ -23,14 +23,6 @@ fn print_read(text: &mut String, script: &Script) -> Result<(), Memory> {
     for line in script.lines.as_slice() {
         print_line(text, line)?;
         text.push('\n')?;
-    }
-    Ok(())
-}
-
-fn print_words(text: &mut String, words: &[u64]) -> Result<(), AllocError> {
-    text.push_str("words")?;
-    for number in words {
-        write!(text, " {number}")?;
     }
     Ok(())
 }
@@ -52,21 +44,15 @@ fn print_line(text: &mut String, line: &EventLine) -> Result<(), AllocError> {
 }
 
 fn print_request(text: &mut String, request: &Request<u64>) -> Result<(), AllocError> {
-    match request {
-        Request::Begin => text.push_str("Begin"),
-        Request::BeginRead => text.push_str("BeginRead"),
-        Request::Commit => text.push_str("Commit"),
-        Request::Abort => text.push_str("Abort"),
-        Request::Call(call) => {
-            write!(text, "of {}: ", call.target)?;
-            print_op(text, &call.op)
-        }
-    }
-}
-
-fn print_op(text: &mut String, op: &Op<u64>) -> Result<(), AllocError> {
-    let (name, first, second) = parts_of(op);
-    text.push_str(name)?;
+    let call = match request {
+        Request::Begin => return text.push_str("Begin"),
+        Request::BeginRead => return text.push_str("BeginRead"),
+        Request::Commit => return text.push_str("Commit"),
+        Request::Abort => return text.push_str("Abort"),
+        Request::Call(call) => call,
+    };
+    let (name, first, second) = parts_of(&call.op);
+    write!(text, "of {}: {name}", call.target)?;
     if let Some(first) = first {
         write!(text, " {first}")?;
     }
@@ -74,25 +60,4 @@ fn print_op(text: &mut String, op: &Op<u64>) -> Result<(), AllocError> {
         write!(text, " {second}")?;
     }
     Ok(())
-}
-
-// Its name and its numbers.
-fn parts_of(op: &Op<u64>) -> (&'static str, Option<u64>, Option<u64>) {
-    match op {
-        Op::Read => ("Read", None, None),
-        Op::Write(value) => ("Write", Some(*value), None),
-        Op::Get(key) => ("Get", Some(*key), None),
-        Op::Put(key, value) => ("Put", Some(*key), Some(*value)),
-        Op::Remove(key) => ("Remove", Some(*key), None),
-        Op::Len => ("Len", None, None),
-        Op::Count(element) => ("Count", Some(*element), None),
-        Op::Add(element) => ("Add", Some(*element), None),
-        Op::Take(element) => ("Take", Some(*element), None),
-        Op::Least => ("Least", None, None),
-        Op::Insert(element) => ("Insert", Some(*element), None),
-        Op::TakeLeast => ("TakeLeast", None, None),
-        Op::Enqueue(item) => ("Enqueue", Some(*item), None),
-        Op::Dequeue => ("Dequeue", None, None),
-        Op::Peek => ("Peek", None, None),
-    }
 }

@@ -3,6 +3,7 @@ use crate::explorations::{print_beside_all, print_replayed};
 use crate::files::{Input, Output, bytes_of, ending_of};
 use crate::laid_out::print_laid_out;
 use crate::reading::print_script;
+use crate::reservations::{answer_section, opening_of};
 use crate::times::{print_missed, print_paces};
 use crate::worlds::print_worlds;
 use command_line::{DONE, MEMORY, file_of, run_tool};
@@ -23,18 +24,9 @@ const TIMES: u64 = 99;
 /// How many lines of an end are shown.
 const LAST: usize = 3;
 
-/// What is shown of what a run printed.
-#[derive(Clone, Copy)]
-enum Shown {
-    All,
-    /// All, but how many sessions were missed.
-    Raced,
-    /// The last lines.
-    End,
-}
-
-/// The sections, each by its name and what came of it. What is made of one stands at the end of its name.
+/// The sections, each by its name and what came of it. What is made of one stands at the end of its name, or in its first line.
 ///
+/// - A text whose first line is `rows`, `64 stripes` or `in order, 64 stripes` is of reservations ([`crate::reservations`]).
 /// - After ` | ` stand the words by which the program is run over the text, and `step -` where nothing stands there. With ` > full` it
 ///   writes to what takes nothing; with ` > end` only the last three lines are shown; with ` > races`, where workers race for the same
 ///   items, how many sessions were missed isn't shown. What it printed is shown, a line that came more than 99 times with its number; then
@@ -53,13 +45,14 @@ pub fn run_all<H: Threads + Wait + Clock + Sync>(
     rt: &H,
     alloc: Global,
     sections: &str,
-) -> Result<String, AllocError> {
+) -> Result<String, Memory> {
     let mut text = String::new(alloc);
     let mut count = 0u64;
     for section in sections.split("----\n") {
         if let Some((name, file)) = section.split_once('\n') {
             writeln!(text, "# {name}")?;
-            run_section(rt, &mut text, name, file)?;
+            let run = run_section(rt, &mut text, name, file);
+            tell(&mut text, run)?;
             count = count.saturating_add(1);
         }
     }
@@ -72,51 +65,33 @@ fn run_section<H: Threads + Wait + Clock + Sync>(
     text: &mut String,
     name: &str,
     file: &str,
-) -> Result<(), AllocError> {
+) -> Result<(), RunFault> {
     let (_, kind) = name.split_once(" = ").unwrap_or((name, ""));
     match kind {
-        "script" => {
-            let outcome = print_script(text, file);
-            told(text, outcome)
-        }
-        "world" => {
-            let outcome = print_worlds(text, file);
-            told(text, outcome)
-        }
-        "trace" => {
-            let outcome = print_laid_out(text, file);
-            told(text, outcome)
-        }
-        "replayed" => {
-            let outcome = print_replayed(text, file);
-            told_fault(text, outcome)
-        }
-        "schedules" => {
-            let outcome = print_beside_all(text, file);
-            told_fault(text, outcome)
-        }
-        "files" => print_files(text, file),
-        "times" => print_missed(text),
-        "paces" => print_paces(text),
-        _ => run_words(rt, text, name, file),
+        "script" => Ok(print_script(text, file)?),
+        "world" => Ok(print_worlds(text, file)?),
+        "trace" => Ok(print_laid_out(text, file)?),
+        "replayed" => print_replayed(text, file),
+        "schedules" => print_beside_all(text, file),
+        "files" => Ok(print_files(text, file)?),
+        "times" => Ok(print_missed(text)?),
+        "paces" => Ok(print_paces(text)?),
+        _ => match opening_of(file) {
+            Some((opening, rows)) => Ok(answer_section(text, opening, rows)?),
+            None => Ok(run_words(rt, text, name, file)?),
+        },
     }
 }
 
-// A refusal is printed, but for that of memory.
-fn told(text: &mut String, outcome: Result<(), Refusal>) -> Result<(), AllocError> {
-    match outcome {
-        Ok(()) => Ok(()),
-        Err(Refusal::Memory) => Err(AllocError),
-        Err(refusal) => writeln!(text, "refused: {refusal}"),
+// A refusal and a fault are printed, but for that of memory.
+fn tell(text: &mut String, run: Result<(), RunFault>) -> Result<(), Memory> {
+    match run {
+        Ok(()) => {}
+        Err(RunFault::Refused(Refusal::Memory)) => return Err(Memory),
+        Err(RunFault::Refused(refusal)) => writeln!(text, "refused: {refusal}")?,
+        Err(fault) => writeln!(text, "fault: {fault}")?,
     }
-}
-
-fn told_fault(text: &mut String, outcome: Result<(), RunFault>) -> Result<(), AllocError> {
-    match outcome {
-        Ok(()) => Ok(()),
-        Err(RunFault::Refused(refusal)) => told(text, Err(refusal)),
-        Err(fault) => writeln!(text, "fault: {fault}"),
-    }
+    Ok(())
 }
 
 fn words_of(alloc: Global, asked: &str) -> Result<Vec<String>, AllocError> {
@@ -127,7 +102,7 @@ fn words_of(alloc: Global, asked: &str) -> Result<Vec<String>, AllocError> {
     Ok(words)
 }
 
-fn print_files(text: &mut String, lines: &str) -> Result<(), AllocError> {
+fn print_files(text: &mut String, lines: &str) -> Result<(), Memory> {
     for line in lines.lines() {
         write!(text, "{line}: ")?;
         print_file(text, line)?;
@@ -137,14 +112,14 @@ fn print_files(text: &mut String, lines: &str) -> Result<(), AllocError> {
 }
 
 // The words' fault is printed by what runs them.
-fn print_file(text: &mut String, asked: &str) -> Result<(), AllocError> {
+fn print_file(text: &mut String, asked: &str) -> Result<(), Memory> {
     let alloc = *text.allocator();
     let words = words_of(alloc, asked)?;
-    match file_of(alloc, words.as_slice()) {
-        Ok(Some(file)) => text.push_str(file.as_str()),
-        Ok(None) => text.push_str("no file"),
-        Err(Memory) => Err(AllocError),
+    match file_of(alloc, words.as_slice())? {
+        Some(file) => text.push_str(file.as_str())?,
+        None => text.push_str("no file")?,
     }
+    Ok(())
 }
 
 fn run_words<H: Threads + Wait + Clock + Sync>(
@@ -152,38 +127,20 @@ fn run_words<H: Threads + Wait + Clock + Sync>(
     text: &mut String,
     name: &str,
     file: &str,
-) -> Result<(), AllocError> {
+) -> Result<(), Memory> {
     let alloc = *text.allocator();
     let (_, asked) = name.split_once(" |").unwrap_or((name, "step -"));
-    let (asked, is_full) = without(asked, " > full");
-    let (asked, shown) = shown_of(asked);
+    let (asked, shown) = asked.split_once(" > ").unwrap_or((asked, ""));
     let (file, end) = ending_of(file);
     let words = words_of(alloc, asked)?;
     let bytes = bytes_of(alloc, file)?;
-    let mut out = output(alloc, is_full)?;
+    let mut out = output(alloc, shown == "full")?;
     let mut input = Input {
         rest: bytes.as_slice(),
         end,
     };
-    run_over(rt, text, words.as_slice(), &mut input, &mut out, shown)
-}
-
-fn shown_of(asked: &str) -> (&str, Shown) {
-    if let (asked, true) = without(asked, " > races") {
-        return (asked, Shown::Raced);
-    }
-    match without(asked, " > end") {
-        (asked, true) => (asked, Shown::End),
-        (asked, false) => (asked, Shown::All),
-    }
-}
-
-// The words without this ending, and whether they have it.
-fn without<'a>(asked: &'a str, ending: &str) -> (&'a str, bool) {
-    match asked.strip_suffix(ending) {
-        Some(asked) => (asked, true),
-        None => (asked, false),
-    }
+    run_over(rt, text, words.as_slice(), &mut input, &mut out, shown)?;
+    Ok(())
 }
 
 fn output(alloc: Global, is_full: bool) -> Result<Output, AllocError> {
@@ -197,7 +154,7 @@ fn run_over<H: Threads + Wait + Clock + Sync>(
     words: &[String],
     input: &mut Input<'_>,
     out: &mut Output,
-    shown: Shown,
+    shown: &str,
 ) -> Result<(), AllocError> {
     let alloc = *text.allocator();
     let mut err = output(alloc, false)?;
@@ -205,16 +162,13 @@ fn run_over<H: Threads + Wait + Clock + Sync>(
     if status == MEMORY && out.bytes.is_empty() {
         return Err(AllocError);
     }
-    print_output(text, text_of(out.bytes.as_slice()), shown)?;
-    print_end(text, status, err.bytes.as_slice())
-}
-
-fn print_output(text: &mut String, lines: &str, shown: Shown) -> Result<(), AllocError> {
+    let lines = text_of(out.bytes.as_slice());
     match shown {
-        Shown::All => print_lines(text, lines),
-        Shown::Raced => print_raced(text, lines),
-        Shown::End => print_last(text, lines),
+        "races" => print_raced(text, lines)?,
+        "end" => print_last(text, lines)?,
+        _ => print_lines(text, lines)?,
     }
+    print_end(text, status, err.bytes.as_slice())
 }
 
 fn print_last(text: &mut String, lines: &str) -> Result<(), AllocError> {

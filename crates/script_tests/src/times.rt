@@ -6,18 +6,12 @@ use std::fmt::Write;
 use std::time::Duration;
 
 /// In prose, and as comma-separated values.
-pub(crate) fn print_missed(text: &mut String) -> Result<(), AllocError> {
+pub(crate) fn print_missed(text: &mut String) -> Result<(), Memory> {
     let alloc = *text.allocator();
     let times = times_of(alloc)?;
-    push(text, print_times(alloc, &times))?;
-    push(text, print_times_as_values(alloc, &times))
-}
-
-fn push(text: &mut String, told: Result<String, Memory>) -> Result<(), AllocError> {
-    match told {
-        Ok(told) => text.push_str(told.as_str()),
-        Err(Memory) => Err(AllocError),
-    }
+    text.push_str(print_times(alloc, &times)?.as_str())?;
+    text.push_str(print_times_as_values(alloc, &times)?.as_str())?;
+    Ok(())
 }
 
 /// Of six sessions three have a receipt, each after one attempt, one was missed after five, and no attempt was made of two.
@@ -34,24 +28,26 @@ fn times_of(alloc: Global) -> Result<Times, AllocError> {
 }
 
 /// How far runs of sessions have come: none, one, the first of many, and all; and an exploration.
-pub(crate) fn print_paces(text: &mut String) -> Result<(), AllocError> {
-    print_pace(text, 0, 10, 0)?;
-    print_pace(text, 1, 3, 1_000)?;
-    print_pace(text, 4_096, 100_000, 2_500)?;
-    print_pace(text, 3, 3, 700)?;
+pub(crate) fn print_paces(text: &mut String) -> Result<(), Memory> {
+    let runs: [(u64, u64, u64); 4] = [
+        (0, 10, 0),
+        (1, 3, 1_000),
+        (4_096, 100_000, 2_500),
+        (3, 3, 700),
+    ];
+    for (count, all, millis) in runs.as_slice() {
+        let pace = Pace {
+            count: *count,
+            all: *all,
+            time: Duration::from_millis(*millis),
+        };
+        writeln!(text, "{pace}")?;
+    }
     let speed = Speed {
         count: 12_034,
         most: 100_000,
         time: Duration::from_millis(1_167),
     };
-    writeln!(text, "{speed}")
-}
-
-fn print_pace(text: &mut String, count: u64, all: u64, millis: u64) -> Result<(), AllocError> {
-    let pace = Pace {
-        count,
-        all,
-        time: Duration::from_millis(millis),
-    };
-    writeln!(text, "{pace}")
+    writeln!(text, "{speed}")?;
+    Ok(())
 }

@@ -45,28 +45,22 @@ fn fed(alloc: Global, script: &Script) -> Result<World<u64>, Refusal> {
     Ok(world)
 }
 
+// How many steps the other lines take shows in a run alone.
 fn events_of(alloc: Global, script: &Script) -> Result<Vec<Event<u64>>, Memory> {
     let mut events = Vec::new(alloc);
     for line in script.lines.as_slice() {
-        push_events(&mut events, line)?;
+        match line {
+            EventLine::Ask(actor, request) => {
+                events.push(Event::Ask(*actor, request.try_copy()?))?;
+            }
+            EventLine::Steps(actor, count) => {
+                for _step in 0..*count {
+                    events.push(Event::Step(*actor))?;
+                }
+            }
+            EventLine::Starve(actor) => events.push(Event::Starve(*actor))?,
+            EventLine::Do(_, _) | EventLine::Alternate(_, _) => {}
+        }
     }
     Ok(events)
-}
-
-// How many steps the other lines take shows in a run alone.
-fn push_events(events: &mut Vec<Event<u64>>, line: &EventLine) -> Result<(), Memory> {
-    match line {
-        EventLine::Ask(actor, request) => events.push(Event::Ask(*actor, request.try_copy()?))?,
-        EventLine::Steps(actor, count) => push_steps(events, *actor, *count)?,
-        EventLine::Starve(actor) => events.push(Event::Starve(*actor))?,
-        EventLine::Do(_, _) | EventLine::Alternate(_, _) => {}
-    }
-    Ok(())
-}
-
-fn push_steps(events: &mut Vec<Event<u64>>, actor: u32, count: u64) -> Result<(), Memory> {
-    for _step in 0..count {
-        events.push(Event::Step(actor))?;
-    }
-    Ok(())
 }

@@ -1,8 +1,9 @@
 //! Session files, and the actions that they say.
-use crate::prints::{print_lines, say};
+use super::prints::print_lines;
+use row_parts::number_in;
 use seq_model::Refusal;
 use std::alloc::Global;
-use text_formats::{Line, number, parse_sessions};
+use text_formats::{Line, parse_sessions};
 use vac_model::{Action, ActionRefusal, ActionReply, Tables};
 
 /// The numbers of a row.
@@ -12,10 +13,7 @@ pub fn numbers_of(alloc: Global, row: &str) -> Result<Vec<u64>, Refusal> {
         return Ok(numbers);
     }
     for token in row.split(' ') {
-        match number(token) {
-            Some(number) => numbers.push(number)?,
-            None => return Err(Refusal::NoSuch),
-        }
+        numbers.push(number_in(token)?)?;
     }
     Ok(numbers)
 }
@@ -54,7 +52,8 @@ pub fn answer_file(text: &mut String, file: &str) -> Result<(), Refusal> {
     let alloc = *text.allocator();
     let bytes = bytes_of(alloc, file)?;
     drop(parsed(alloc, bytes.as_slice())?);
-    say(text, "read")
+    text.push_str(" read")?;
+    Ok(())
 }
 
 /// Makes the sessions of a file, which commit with these numbers: what is printed.

@@ -1,10 +1,11 @@
 //! The rows, and who answers each.
-use crate::draws::{answer_drawn, opened_by_draws};
-use crate::events::action_in;
-use crate::files::{act, answer_file, answer_printed, numbers_of};
-use crate::limits::{answer_built, answer_copy, answer_places};
-use crate::parts::{of_parts, print_rebuilt};
-use crate::prints::{print_left, print_missed, print_reply, say};
+use super::draws::{answer_drawn, opened_by_draws};
+use super::events::action_in;
+use super::files::{act, answer_file, answer_printed, numbers_of};
+use super::limits::{answer_built, answer_copy, answer_places};
+use super::parts::{of_parts, rebuilt};
+use super::prints::{print_left, print_missed, print_reply};
+use row_parts::tell_refusal;
 use seq_model::{Memory, Refusal};
 use std::alloc::Global;
 use std::fmt::Write;
@@ -34,37 +35,31 @@ pub fn answer_rows(text: &mut String, rows: &str) -> Result<(), Memory> {
     for row in rows.lines() {
         text.push_str(row)?;
         if !matches!(row.as_bytes(), [] | [b'#', ..]) {
-            answer(text, &mut tables, row)?;
+            text.push_str(" =")?;
+            let answered = answer_row(text, &mut tables, row);
+            tell_refusal(text, " ", answered, "")?;
         }
         text.push('\n')?;
     }
     Ok(())
 }
 
-fn answer(text: &mut String, tables: &mut Tables, row: &str) -> Result<(), Memory> {
-    text.push_str(" =")?;
-    match answer_row(text, tables, row) {
-        Ok(()) => Ok(()),
-        Err(Refusal::Memory) => Err(Memory),
-        Err(refusal) => {
-            write!(text, " {refusal}")?;
-            Ok(())
-        }
-    }
-}
-
 fn answer_row(text: &mut String, tables: &mut Tables, row: &str) -> Result<(), Refusal> {
+    let alloc = *text.allocator();
     let (head, file) = row.split_once(": ").unwrap_or((row, ""));
     let (name, others) = head.split_once(' ').unwrap_or((head, ""));
     match name {
         "left" => print_left(text, tables),
-        "rebuilt" => print_rebuilt(text, tables),
-        "refusals" => print_refusals(text),
+        "rebuilt" => print_left(text, &rebuilt(alloc, tables)?),
+        "refusals" => {
+            let (long, memory) = (ActionRefusal::TooLong, ActionRefusal::Memory);
+            Ok(write!(text, " {long} {memory}")?)
+        }
         "missed" => print_missed(text),
         "file" => answer_file(text, file),
         "reserve" | "delete" | "update" | "item" | "bill" => answer_action(text, tables, row),
         _ => {
-            let numbers = numbers_of(*text.allocator(), others)?;
+            let numbers = numbers_of(alloc, others)?;
             answer_numbers(text, tables, name, numbers.as_slice(), file)
         }
     }
@@ -85,7 +80,7 @@ fn answer_numbers(
         "drawn" => answer_drawn(text, numbers),
         _ => {
             *tables = opened(*text.allocator(), name, numbers)?;
-            say(text, "opened")
+            Ok(text.push_str(" opened")?)
         }
     }
 }
@@ -109,10 +104,4 @@ fn answer_action(text: &mut String, tables: &mut Tables, row: &str) -> Result<()
     let action = action_in(*text.allocator(), row)?;
     let reply = act(tables, &action)?;
     print_reply(text, tables, reply)
-}
-
-fn print_refusals(text: &mut String) -> Result<(), Refusal> {
-    let (long, memory) = (ActionRefusal::TooLong, ActionRefusal::Memory);
-    write!(text, " {long} {memory}")?;
-    Ok(())
 }

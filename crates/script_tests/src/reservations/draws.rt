@@ -1,23 +1,23 @@
 //! Sessions and tables that are drawn from a seed.
-use crate::events::narrow;
-use crate::prints::name_of;
+use super::prints::name_of;
+use row_parts::location;
 use seq_model::Refusal;
 use std::alloc::Global;
 use std::fmt::Write;
 use text_formats::{Options, generate, opening};
-use vac_model::{Action, Ask, Change, Tables};
+use vac_model::{Action, Change, Tables};
 
 fn options_of(numbers: &[u64]) -> Result<Options, Refusal> {
     let [clients, queries, queried, relations, transactions, user] = numbers else {
         return Err(Refusal::NoSuch);
     };
     Ok(Options {
-        clients: narrow(*clients)?,
-        queries: narrow(*queries)?,
-        percent_queried: narrow(*queried)?,
-        relations: narrow(*relations)?,
-        transactions: narrow(*transactions)?,
-        percent_user: narrow(*user)?,
+        clients: location(*clients)?,
+        queries: location(*queries)?,
+        percent_queried: location(*queried)?,
+        relations: location(*relations)?,
+        transactions: location(*transactions)?,
+        percent_user: location(*user)?,
     })
 }
 
@@ -51,20 +51,15 @@ fn print_action(text: &mut String, action: &Action) -> Result<(), Refusal> {
     match action {
         Action::Reserve(customer, units, asks) => {
             write!(text, "reserve {customer} {units}")?;
-            print_asks(text, asks.as_slice())?;
+            for ask in asks.as_slice() {
+                let (kind, id) = (name_of(ask.kind), ask.id);
+                write!(text, " {kind} {id}")?;
+            }
         }
         Action::Delete(customer) => write!(text, "delete {customer}")?,
         Action::Update(changes) => print_changes(text, changes.as_slice())?,
         Action::QueryItem(_, id) => write!(text, "item {id}")?,
         Action::QueryBill(customer) => write!(text, "bill {customer}")?,
-    }
-    Ok(())
-}
-
-fn print_asks(text: &mut String, asks: &[Ask]) -> Result<(), Refusal> {
-    for ask in asks {
-        let (kind, id) = (name_of(ask.kind), ask.id);
-        write!(text, " {kind} {id}")?;
     }
     Ok(())
 }

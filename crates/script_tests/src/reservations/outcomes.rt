@@ -1,28 +1,14 @@
 //! What came of sessions, as text.
-use crate::prints::print_sessions;
+use super::prints::lines_of;
 use client_sessions::tables_of;
 use seq_model::{Items, Refusal};
 use std::fmt::Write;
 use text_formats::Line;
 use vac_model::{ActionReply, Tables};
-use vacation_core::{Ordered, VacTrace};
+use vacation_core::Ordered;
 
-fn kind_of(writes: bool) -> &'static str {
-    if writes { "write" } else { "read" }
-}
-
-/// What came of sessions that interleaved.
-pub fn print_trace(text: &mut String, trace: VacTrace) -> Result<(), Refusal> {
-    let VacTrace {
-        done,
-        aborted,
-        tables,
-        half,
-    } = trace;
-    print_parts(text, done, aborted.as_slice(), half.as_slice(), &tables)
-}
-
-fn print_parts(
+/// What came of sessions that interleaved: those that committed, those that ended without, the commits that are half done, and the tables.
+pub fn print_trace(
     text: &mut String,
     done: Items<(u32, u64, bool, ActionReply)>,
     aborted: &[(u32, Refusal)],
@@ -32,9 +18,11 @@ fn print_parts(
     if is_wanting(aborted) {
         return Err(Refusal::Memory);
     }
+    let alloc = *text.allocator();
     let lines = print_done(text, done)?;
     print_ended(text, aborted, half)?;
-    print_sessions(text, lines.as_slice(), tables)
+    text.push_str(lines_of(alloc, lines.as_slice(), tables)?.as_str())?;
+    Ok(())
 }
 
 // Whether a session ended as memory ran out where no row starved it.
@@ -60,7 +48,7 @@ fn print_done(
 ) -> Result<Vec<Line>, Refusal> {
     let mut lines = Vec::with_capacity(*text.allocator(), done.len())?;
     for (client, number, writes, reply) in done.into_vec() {
-        let kind = kind_of(writes);
+        let kind = if writes { "write" } else { "read" };
         writeln!(text, "{client} committed {number}, {kind}")?;
         lines.push(Line::Done(number, reply))?;
     }
@@ -82,10 +70,12 @@ fn print_ended(text: &mut String, aborted: &[(u32, Refusal)], half: &[u64]) -> R
 pub fn print_ordered(text: &mut String, ordered: &Ordered) -> Result<(), Refusal> {
     for receipt in ordered.receipts.as_slice() {
         let number = receipt.number;
-        let kind = kind_of(receipt.writes);
+        let kind = if receipt.writes { "write" } else { "read" };
         let calls = receipt.calls.len();
         writeln!(text, "committed {number}, {kind}, calls {calls}")?;
     }
-    let tables = tables_of(*text.allocator(), &ordered.state)?;
-    print_sessions(text, &[], &tables)
+    let alloc = *text.allocator();
+    let tables = tables_of(alloc, &ordered.state)?;
+    text.push_str(lines_of(alloc, &[], &tables)?.as_str())?;
+    Ok(())
 }

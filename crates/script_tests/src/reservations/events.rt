@@ -2,36 +2,20 @@
 ghost use Rattle.std.specs.Prelude.{IfOk};
 ghost use Rattle.vac_model.specs.Balanced.{IsBalanced};
 
+use row_parts::{location_in, split};
 use seq_model::{Items, Refusal};
 use std::alloc::Global;
-use text_formats::{number, parse_sessions};
+use text_formats::parse_sessions;
 use vac_model::{Action, Tables};
 use vacation_core::VacEvent;
 
 /// How a row begins that says which item there is.
 const ITEM: &str = "have ";
 
-/// A number of at most 32 bits.
-pub fn narrow(wide: u64) -> Result<u32, Refusal> {
-    match u32::try_from(wide) {
-        Ok(found) => Ok(found),
-        Err(_) => Err(Refusal::TooLong),
-    }
-}
-
-fn number_in(digits: &str) -> Result<u32, Refusal> {
-    match number(digits) {
-        Some(found) => narrow(found),
-        None => Err(Refusal::NoSuch),
-    }
-}
-
 /// `64 stripes`
 pub fn stripes_in(row: &str) -> Result<u32, Refusal> {
-    match row.strip_suffix(" stripes") {
-        Some(digits) => number_in(digits),
-        None => Err(Refusal::NoSuch),
-    }
+    let (digits, _) = split(row, " stripes")?;
+    location_in(digits)
 }
 
 /// The tables of the items that the rows say.
@@ -86,19 +70,17 @@ pub fn events_in(alloc: Global, rows: &str) -> Result<Vec<VacEvent>, Refusal> {
 }
 
 fn add(alloc: Global, events: &mut Vec<VacEvent>, row: &str) -> Result<(), Refusal> {
-    let Some((digits, words)) = row.split_once(' ') else {
-        return Err(Refusal::NoSuch);
-    };
-    let client = number_in(digits)?;
+    let (digits, words) = split(row, " ")?;
+    let client = location_in(digits)?;
     let (verb, others) = words.split_once(' ').unwrap_or((words, ""));
     match verb {
         "starts" => events.push(VacEvent::Start(client, action_in(alloc, others)?))?,
         "starves" => events.push(VacEvent::Starve(client))?,
         "steps" => add_steps(events, client, None, others)?,
-        "and" => match others.split_once(" step ") {
-            Some((second, times)) => add_steps(events, client, Some(number_in(second)?), times)?,
-            None => return Err(Refusal::NoSuch),
-        },
+        "and" => {
+            let (second, times) = split(others, " step ")?;
+            add_steps(events, client, Some(location_in(second)?), times)?;
+        }
         _ => return Err(Refusal::NoSuch),
     }
     Ok(())
@@ -111,7 +93,7 @@ fn add_steps(
     second: Option<u32>,
     times: &str,
 ) -> Result<(), Refusal> {
-    for _ in 0..number_in(times)? {
+    for _ in 0..location_in(times)? {
         events.push(VacEvent::Step(first))?;
         if let Some(second) = second {
             events.push(VacEvent::Step(second))?;

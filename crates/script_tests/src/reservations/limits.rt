@@ -1,6 +1,6 @@
 //! Actions and customers that are made of numbers.
-use crate::files::act;
-use crate::prints::{print_reply, say};
+use super::files::act;
+use super::prints::print_reply;
 use seq_model::{Items, Memory, Refusal, Value};
 use std::alloc::Global;
 use vac_model::{
@@ -104,12 +104,10 @@ pub fn answer_copy(text: &mut String, numbers: &[u64]) -> Result<(), Refusal> {
     add_places(&mut who, *bookings, 0)?;
     let mut copy = who.try_copy()?;
     add_places(&mut copy, *more, 0)?;
-    say(
-        text,
-        if who.same(&copy) {
-            "the same"
-        } else {
-            "another"
-        },
-    )
+    text.push_str(if who.same(&copy) {
+        " the same"
+    } else {
+        " another"
+    })?;
+    Ok(())
 }

@@ -1,34 +1,22 @@
 //! What actions answer and what tables hold, as text.
 use seq_model::{LastAbort, Refusal};
+use std::alloc::Global;
 use std::fmt::Write;
-use text_formats::Line;
+use text_formats::{Line, print_sessions};
 use vac_model::{ActionReply, Kind, Tables, is_balanced_by_tally};
 
-/// Prints an answer in the line of its row.
-pub fn say(text: &mut String, answer: &str) -> Result<(), Refusal> {
-    text.push(' ')?;
-    text.push_str(answer)?;
-    Ok(())
-}
-
-fn lines_of(text: &String, lines: &[Line], tables: &Tables) -> Result<String, Refusal> {
-    let printed = text_formats::print_sessions(*text.allocator(), lines, tables)?;
+/// What is printed of sessions, and of what the tables hold.
+pub fn lines_of(alloc: Global, lines: &[Line], tables: &Tables) -> Result<String, Refusal> {
+    let printed = print_sessions(alloc, lines, tables)?;
     match String::from_utf8(printed) {
         Ok(printed) => Ok(printed),
         Err(_) => Err(Refusal::NoSuch),
     }
 }
 
-/// Prints what came of sessions, and what the tables hold.
-pub fn print_sessions(text: &mut String, lines: &[Line], tables: &Tables) -> Result<(), Refusal> {
-    let printed = lines_of(text, lines, tables)?;
-    text.push_str(printed.as_str())?;
-    Ok(())
-}
-
 /// Prints what came of sessions after the line of the row, the last line without its line feed.
 pub fn print_lines(text: &mut String, lines: &[Line], tables: &Tables) -> Result<(), Refusal> {
-    let printed = lines_of(text, lines, tables)?;
+    let printed = lines_of(*text.allocator(), lines, tables)?;
     text.push('\n')?;
     text.push_str(printed.strip_suffix('\n').unwrap_or(""))?;
     Ok(())
@@ -54,9 +42,11 @@ pub fn print_missed(text: &mut String) -> Result<(), Refusal> {
 /// Prints the reply as a session's, without the numbers before it.
 pub fn print_reply(text: &mut String, tables: &Tables, reply: ActionReply) -> Result<(), Refusal> {
     let lines = [Line::Done(0, reply)];
-    let printed = lines_of(text, &lines, tables)?;
+    let printed = lines_of(*text.allocator(), &lines, tables)?;
     let (line, _) = printed.split_once('\n').unwrap_or(("", ""));
-    say(text, line.strip_prefix("1 0: ").unwrap_or(line))
+    text.push(' ')?;
+    text.push_str(line.strip_prefix("1 0: ").unwrap_or(line))?;
+    Ok(())
 }
 
 /// Prints what the tables hold, and the tickets.

@@ -1,5 +1,4 @@
 //! Tables and their parts.
-use crate::prints::print_left;
 use seq_model::{Entries, Memory, QueueItems, Refusal, Value};
 use std::alloc::Global;
 use std::collections::btree_map::Iter;
@@ -7,8 +6,18 @@ use vac_model::{Each, Item, Kind, Queue, Tables};
 
 /// Tables with so many units of car 1, or without it for 0, these tickets in the queue of cars, and this next ticket.
 pub fn of_parts(alloc: Global, units: u64, tickets: &[u64], next: u64) -> Result<Tables, Refusal> {
+    let mut cars = Entries::new(alloc);
+    if units > 0 {
+        let item = Item {
+            total: units,
+            used: 0,
+            free: units,
+            price: 4,
+        };
+        cars.insert(1, item)?;
+    }
     let items = Each {
-        car: cars_of(alloc, units)?,
+        car: cars,
         flight: Entries::new(alloc),
         room: Entries::new(alloc),
     };
@@ -20,20 +29,6 @@ pub fn of_parts(alloc: Global, units: u64, tickets: &[u64], next: u64) -> Result
     };
     let (customers, tickets) = (Entries::new(alloc), Entries::new(alloc));
     Ok(Tables::of_maps(alloc, items, customers, tickets, waiting, next))
-}
-
-fn cars_of(alloc: Global, units: u64) -> Result<Entries<Item>, Memory> {
-    let mut cars = Entries::new(alloc);
-    if units > 0 {
-        let item = Item {
-            total: units,
-            used: 0,
-            free: units,
-            price: 4,
-        };
-        cars.insert(1, item)?;
-    }
-    Ok(cars)
 }
 
 fn copy_of<V: Value>(alloc: Global, entries: Iter<'_, u64, V>) -> Result<Entries<V>, Memory> {
@@ -67,18 +62,12 @@ fn copy_of_lines(tables: &Tables) -> Result<Each<Queue>, Memory> {
     })
 }
 
-// Tables of the parts that these tables' readers give.
-fn rebuilt(alloc: Global, tables: &Tables) -> Result<Tables, Memory> {
+/// Tables of the parts that these tables' readers give.
+pub fn rebuilt(alloc: Global, tables: &Tables) -> Result<Tables, Memory> {
     let items = copy_of_items(alloc, tables)?;
     let customers = copy_of(alloc, tables.customers())?;
     let tickets = copy_of(alloc, tables.tickets())?;
     let waiting = copy_of_lines(tables)?;
     let next = tables.next_ticket();
     Ok(Tables::of_maps(alloc, items, customers, tickets, waiting, next))
-}
-
-/// Prints what tables of these tables' parts hold.
-pub fn print_rebuilt(text: &mut String, tables: &Tables) -> Result<(), Refusal> {
-    let again = rebuilt(*text.allocator(), tables)?;
-    print_left(text, &again)
 }
