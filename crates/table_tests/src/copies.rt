@@ -4,6 +4,7 @@
 //! Transactions put values into a map and get them. In the first run the first copy of a value is refused, in the next run the second one,
 //! and so on up to a run to whose end none is.
 mod borrowers;
+mod jobs;
 mod races;
 mod rations;
 mod seats;
@@ -12,7 +13,6 @@ mod waits;
 mod worlds;
 
 use seq_model::Refusal;
-use std::alloc::Global;
 use std::sync::Wait;
 use std::thread::Threads;
 use tables::{Work, on_table};
@@ -20,77 +20,67 @@ use tables::{Work, on_table};
 /// A run makes fewer copies than so many.
 const COPIES: u64 = 1_000;
 
+/// Where a copy is refused.
+#[derive(Clone, Copy)]
+enum Place {
+    Seat,
+    Workers(usize),
+    World,
+}
+
 /// The runs in this place, `at a seat`, `of two workers`, `of four workers`, `in a world` or `in a commit`, and what came of them.
 pub fn answer_copies<R: Threads + Wait + Sync>(
     rt: &R,
     text: &mut String,
     place: &str,
 ) -> Result<(), Refusal> {
-    let answer = match place {
-        "at a seat" => refuse_at_seats(rt, text)?,
-        "of two workers" => refuse_in_threads(rt, text, 2)?,
-        "of four workers" => refuse_in_threads(rt, text, 4)?,
-        "in a world" => refuse_in_worlds(*text.allocator())?,
-        "in a commit" => hold_commit(rt, text)?,
+    match place {
+        "at a seat" => refuse_each(rt, text, Place::Seat)?,
+        "of two workers" => refuse_each(rt, text, Place::Workers(2))?,
+        "of four workers" => refuse_each(rt, text, Place::Workers(4))?,
+        "in a world" => refuse_each(rt, text, Place::World)?,
+        "in a commit" => {
+            let _ = on_table(rt, text, Work::Held)?;
+        }
         _ => return Err(Refusal::NoSuch),
-    };
-    text.push_str(answer)?;
+    }
+    text.push_str(told(place))?;
     Ok(())
 }
 
-fn refuse_at_seats<R: Threads + Wait + Sync>(
+// At least one copy is refused.
+fn refuse_each<R: Threads + Wait + Sync>(
     rt: &R,
     text: &mut String,
-) -> Result<&'static str, Refusal> {
-    for place in 0..COPIES {
-        if !on_table(rt, text, Work::Refused(place))? {
-            is_some(place)?;
-            return Ok(
-                "at a seat: each refused copy is an allocation that fails, and the seat commits after it\n",
-            );
+    place: Place,
+) -> Result<(), Refusal> {
+    for copy in 0..COPIES {
+        let is_refused = match place {
+            Place::Seat => on_table(rt, text, Work::Refused(copy))?,
+            Place::Workers(workers) => on_table(rt, text, Work::Raced(copy, workers))?,
+            Place::World => worlds::is_refused(*text.allocator(), copy)?,
+        };
+        if !is_refused && copy > 0 {
+            return Ok(());
+        }
+        if !is_refused {
+            return Err(Refusal::NoSuch);
         }
     }
     Err(Refusal::TooLong)
 }
 
-fn refuse_in_threads<R: Threads + Wait + Sync>(
-    rt: &R,
-    text: &mut String,
-    workers: u64,
-) -> Result<&'static str, Refusal> {
-    for place in 0..COPIES {
-        if !on_table(rt, text, Work::Raced(place, workers))? {
-            is_some(place)?;
-            return Ok(
-                "of workers: for each refused copy one of them misses its job, and the seat commits after it\n",
-            );
+fn told(place: &str) -> &'static str {
+    match place {
+        "at a seat" => {
+            "at a seat: each refused copy is an allocation that fails, and the seat commits after it\n"
+        }
+        "in a world" => {
+            "in a world: each refused copy is an allocation that fails, from then on\n"
+        }
+        "in a commit" => "in a commit: the other worker is refused, and commits after it\n",
+        _ => {
+            "of workers: for each refused copy one of them misses its job, and the seat commits after it\n"
         }
     }
-    Err(Refusal::TooLong)
-}
-
-fn refuse_in_worlds(alloc: Global) -> Result<&'static str, Refusal> {
-    for place in 0..COPIES {
-        if !worlds::is_refused(alloc, place)? {
-            is_some(place)?;
-            return Ok("in a world: each refused copy is an allocation that fails, from then on\n");
-        }
-    }
-    Err(Refusal::TooLong)
-}
-
-fn hold_commit<R: Threads + Wait + Sync>(
-    rt: &R,
-    text: &mut String,
-) -> Result<&'static str, Refusal> {
-    let _ = on_table(rt, text, Work::Held)?;
-    Ok("in a commit: the other worker is refused, and commits after it\n")
-}
-
-// So many copies were refused, one in each run.
-fn is_some(count: u64) -> Result<(), Refusal> {
-    if count == 0 {
-        return Err(Refusal::NoSuch);
-    }
-    Ok(())
 }

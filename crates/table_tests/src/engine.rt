@@ -1,9 +1,9 @@
 //! Seats, transactions and attempts: rows at two seats of 32 shares each.
 //!
 //! They are answered in turn; after the row `at once` those of each seat in a thread of its own, and after `row by row` likewise, but
-//! each row once all above it are answered. After `four at once` and `four row by row` each of the two seats is split into two, so that
-//! there are four, in as many threads. Where threads answer, the rows of the first seat stand before those of the second, and so on. What
-//! is refused is answered by the refusal.
+//! each row once all above it are answered. After `four at once` and `four row by row` there are four seats, in as many threads; each gets
+//! half of the shares of the one before it. Where threads answer, the rows of the first seat stand before those of the second, and so on.
+//! What is refused is answered by the refusal.
 //!
 //! - `1 do begin`, `2 do call 0 get 5`: a request at a seat, like one of a script, and what it is answered.
 //! - `1 attempts 1 do read 0; 1 do write 0 1`: an attempt of the job that asks these calls, and then is done. `1 gives up`: of one

@@ -32,7 +32,9 @@ const MEMORY: u8 = 2;
 fn main(rt: HostRuntime) -> ExitCode {
     let status = match io::read_to_string(rt.alloc(), rt.stdin()) {
         Ok(sections) => tell(&rt, answer_all(&rt, rt.alloc(), sections.as_str())),
-        Err(error) if error.kind() == io::ErrorKind::OutOfMemory => want(&rt),
+        Err(error) if error.kind() == io::ErrorKind::OutOfMemory => {
+            tell(&rt, Err(Refusal::Memory))
+        }
         Err(_) => FAILED,
     };
     ExitCode::from(status)
@@ -42,15 +44,13 @@ fn tell(rt: &HostRuntime, answers: Result<String, Refusal>) -> u8 {
     match answers {
         Ok(text) if rt.print(text.as_str()).is_ok() => 0,
         Ok(_) => FAILED,
-        Err(Refusal::Memory) => want(rt),
+        Err(Refusal::Memory) => {
+            let _ = rt.print("Memory\n");
+            MEMORY
+        }
         Err(refusal) => {
             let _ = println!(rt; "failed: {refusal}");
             FAILED
         }
     }
-}
-
-fn want(rt: &HostRuntime) -> u8 {
-    let _ = rt.print("Memory\n");
-    MEMORY
 }

@@ -28,34 +28,16 @@ pub fn answer_all<R: Threads + Wait + Sync>(
     sections: &str,
 ) -> Result<String, Refusal> {
     let mut text = String::new(alloc);
-    answer_each(rt, &mut text, sections)?;
-    let count = count_of(sections);
-    writeln!(text, "sections {count}")?;
-    Ok(text)
-}
-
-fn count_of(sections: &str) -> u64 {
     let mut count = 0u64;
     for section in sections.split("----\n") {
-        if section.contains('\n') {
-            count = count.saturating_add(1);
-        }
-    }
-    count
-}
-
-fn answer_each<R: Threads + Wait + Sync>(
-    rt: &R,
-    text: &mut String,
-    sections: &str,
-) -> Result<(), Refusal> {
-    for section in sections.split("----\n") {
         if let Some((name, rows)) = section.split_once('\n') {
+            count = count.saturating_add(1);
             writeln!(text, "# {name}")?;
-            answer_section(rt, text, rows)?;
+            answer_section(rt, &mut text, rows)?;
         }
     }
-    Ok(())
+    writeln!(text, "sections {count}")?;
+    Ok(text)
 }
 
 fn answer_section<R: Threads + Wait + Sync>(
@@ -67,10 +49,10 @@ fn answer_section<R: Threads + Wait + Sync>(
         return Err(Refusal::NoSuch);
     };
     writeln!(text, "{header}")?;
-    match header.split_once(' ') {
-        Some(("sessions", options)) => answer_sessions(rt, text, options, rows),
-        Some(("copies", place)) => answer_copies(rt, text, place),
-        Some((kind, words)) => answer_table(rt, text, kind, words, rows),
-        None => Err(Refusal::NoSuch),
+    let (kind, words) = header.split_once(' ').unwrap_or((header, ""));
+    match kind {
+        "sessions" => answer_sessions(rt, text, words, rows),
+        "copies" => answer_copies(rt, text, words),
+        _ => answer_table(rt, text, kind, words, rows),
     }
 }

@@ -5,7 +5,6 @@
 //! and all after it have their receipts. `0`: none is held. What comes of them is the receipts of each worker, what the
 //! tables hold, as it is printed after a session file, and what the audit of all receipts says. Where a session runs out of memory the
 //! audit is to be Ok, too; then that is answered as `Memory`.
-mod printed;
 mod served;
 
 use seq_model::Refusal;
@@ -31,26 +30,14 @@ fn options_of(words: &str) -> Option<Options> {
     let (workers, words) = words.split_once(' ')?;
     let (stripes, limits) = words.split_once(' ')?;
     let (tries, meet) = limits.split_once(' ')?;
+    let (workers, stripes) = (number(workers)?, number(stripes)?);
+    if workers > 64 || stripes > u64::from(u32::MAX) {
+        return None;
+    }
     Some(Options {
-        workers: workers_of(number(workers)?)?,
-        stripes: stripes_of(number(stripes)?)?,
+        workers: workers as usize,
+        stripes: stripes as u32,
         tries: number(tries)?,
         meet: number(meet)?,
     })
-}
-
-fn workers_of(workers: u64) -> Option<usize> {
-    if workers <= 64 {
-        Some(workers as usize)
-    } else {
-        None
-    }
-}
-
-fn stripes_of(stripes: u64) -> Option<u32> {
-    if stripes <= u32::MAX as u64 {
-        Some(stripes as u32)
-    } else {
-        None
-    }
 }

@@ -3,16 +3,16 @@ ghost use Rattle.std.specs.Prelude.{◌≡◌};
 ghost use Rattle.tx_table.specs.Seated.{view};
 ghost use Rattle.tx_engine.specs.Ready.{IsReady};
 
-use crate::pairs::run_pair;
-use crate::shared::{Page, close_told, end_page, open, opening_of, say_places};
+use crate::pairs::run_seats;
+use crate::shared::{Page, Told, close, open, say_left, say_places};
 use crate::worker::lists::{Limits, limits_of};
-use crate::worker::retries::retry_rows;
+use crate::worker::retries::{commit_after, retry_rows};
 use crate::worker::runs::run_lists;
-use row_parts::script_of;
-use seq_model::{Refusal, State};
+use row_parts::{script_of, shape_of, state_of};
+use seq_model::{Refusal, Shape, State};
 use std::sync::Wait;
 use std::thread::Threads;
-use text_formats::{Script, number};
+use text_formats::number;
 use tx_engine::TxSeat;
 use tx_table::TxTable;
 
@@ -28,12 +28,18 @@ enum Kind {
 }
 
 impl Kind {
-    /// The clock, unless it depends on how the workers stood in each other's way.
-    fn told(self, clock: u64) -> Option<u64> {
-        match self {
-            Kind::Workers(limits) if limits.is_crowd => None,
-            _ => Some(clock),
+    fn of(word: &str, limits: &str) -> Option<Kind> {
+        match word {
+            "seats" => Some(Kind::Seats),
+            "workers" => Some(Kind::Workers(limits_of(limits)?)),
+            "retries" => Some(Kind::Retries(number(limits)?)),
+            _ => None,
         }
+    }
+
+    /// Whether the clock depends on how the workers stood in each other's way.
+    fn is_crowd(self) -> bool {
+        matches!(self, Kind::Workers(limits) if limits.is_crowd)
     }
 }
 
@@ -45,121 +51,67 @@ pub fn answer_table<R: Threads + Wait + Sync>(
     words: &str,
     rows: &str,
 ) -> Result<(), Refusal> {
-    let (limits, table) = match words.split_once(" on ") {
-        Some((limits, table)) => (limits, table),
-        None => ("", words),
+    let (limits, header) = words.split_once(" on ").unwrap_or(("", words));
+    let Some(kind) = Kind::of(kind, limits) else {
+        return Err(Refusal::NoSuch);
     };
-    match kind_of(kind, limits) {
-        Some(kind) => answer_header(rt, text, kind, table, rows),
-        None => Err(Refusal::NoSuch),
-    }
-}
-
-fn kind_of(word: &str, limits: &str) -> Option<Kind> {
-    match word {
-        "seats" => Some(Kind::Seats),
-        "workers" => Some(Kind::Workers(limits_of(limits)?)),
-        "retries" => Some(Kind::Retries(number(limits)?)),
-        _ => None,
-    }
-}
-
-fn answer_header<R: Threads + Wait + Sync>(
-    rt: &R,
-    text: &mut String,
-    kind: Kind,
-    header: &str,
-    rows: &str,
-) -> Result<(), Refusal> {
-    let script = script_of(*text.allocator(), header)?;
-    let answered = answer_script(rt, text, kind, &script, rows);
+    let alloc = *text.allocator();
+    let script = script_of(alloc, header)?;
+    let shape = shape_of(alloc, &script)?;
+    let opening = state_of(alloc, &script, 0)?;
     drop(script);
-    answered
+    let mut page = Page::<u64>::new(alloc)?;
+    let (clock, mut last) = run_opening(rt, &mut page, kind, &shape, &opening, rows)?;
+    let clock = if kind.is_crowd() { None } else { Some(clock) };
+    page.end(text, &opening, clock, &mut last, rows)
 }
 
-fn answer_script<R: Threads + Wait + Sync>(
+fn run_opening<R: Threads + Wait + Sync, V: Told + Send + Sync>(
     rt: &R,
-    text: &mut String,
+    page: &mut Page<V>,
     kind: Kind,
-    script: &Script,
+    shape: &Shape,
+    opening: &State<V>,
     rows: &str,
-) -> Result<(), Refusal> {
-    let opening = opening_of(*text.allocator(), script)?;
-    let answered = answer_opening(rt, text, kind, script, &opening, rows);
-    drop(opening);
-    answered
-}
-
-fn answer_opening<R: Threads + Wait + Sync>(
-    rt: &R,
-    text: &mut String,
-    kind: Kind,
-    script: &Script,
-    opening: &State<u64>,
-    rows: &str,
-) -> Result<(), Refusal> {
-    let mut page = Page::new(*text.allocator())?;
-    let answered = answer_page(rt, text, &mut page, kind, script, opening, rows);
-    drop(page);
-    answered
-}
-
-fn answer_page<R: Threads + Wait + Sync>(
-    rt: &R,
-    text: &mut String,
-    page: &mut Page,
-    kind: Kind,
-    script: &Script,
-    opening: &State<u64>,
-    rows: &str,
-) -> Result<(), Refusal> {
-    let (clock, last) = run_script(rt, page, kind, script, opening, rows)?;
-    end_page(text, page, opening, kind.told(clock), last, rows)
-}
-
-fn run_script<R: Threads + Wait + Sync>(
-    rt: &R,
-    page: &mut Page,
-    kind: Kind,
-    script: &Script,
-    opening: &State<u64>,
-    rows: &str,
-) -> Result<(u64, State<u64>), Refusal> {
-    let (table, seat) = open(page.alloc(), script, opening)?;
-    run_table(rt, page, kind, table, seat, rows)
-}
-
-fn run_table<R: Threads + Wait + Sync>(
-    rt: &R,
-    page: &mut Page,
-    kind: Kind,
-    table: TxTable<u64>,
-    seat: TxSeat<u64>,
-    rows: &str,
-) -> Result<(u64, State<u64>), Refusal>
-    requires ready { IsReady table seat }
-    requires shares { (view seat.seat).shares ≡ 64 }
-{
-    let seat = run_seat(rt, page, kind, &table, seat, rows);
+) -> Result<(u64, State<V>), Refusal> {
+    let (table, mut seat) = open(page.alloc(), shape, opening)?;
+    let is_refused = run_seat(rt, page, kind, &table, &mut seat, rows);
+    commit_after(page, &table, &mut seat, is_refused);
     say_places(page, &table, rows);
-    close_told(page, table, seat, rows)
+    let closed = close(table, seat)?;
+    say_left(page, &closed, rows);
+    let clock = closed.clock();
+    Ok((clock, closed.state()?))
 }
 
-fn run_seat<R: Threads + Wait + Sync>(
+// Whether jobs ran out of memory that were to have none.
+fn run_seat<R: Threads + Wait + Sync, V: Told + Send + Sync>(
     rt: &R,
-    page: &mut Page,
+    page: &mut Page<V>,
     kind: Kind,
-    table: &TxTable<u64>,
-    seat: TxSeat<u64>,
+    table: &TxTable<V>,
+    seat: &mut TxSeat<V>,
     rows: &str,
-) -> TxSeat<u64>
-    requires ready { IsReady table.now seat }
-    requires shares { (view seat.seat).shares ≡ 64 }
-    ensures ready { IsReady table.now result }
+) -> bool
+    requires ready { IsReady table.now seat.old }
+    requires shares { (view seat.old.seat).shares ≡ 64 }
+    ensures ready { IsReady table.now seat.new }
 {
     match kind {
-        Kind::Seats => run_pair(rt, page, table, seat, rows),
-        Kind::Workers(limits) => run_lists(rt, page, limits, table, seat, rows),
-        Kind::Retries(tries) => retry_rows(page, tries, table, seat, rows),
+        Kind::Seats => {
+            run_seats(rt, page, table, seat, rows);
+            false
+        }
+        Kind::Workers(limits) => match run_lists(rt, page, limits, table, seat, rows) {
+            Ok(is_refused) => is_refused,
+            Err(refusal) => {
+                page.fail(refusal);
+                false
+            }
+        },
+        Kind::Retries(tries) => {
+            retry_rows(page, tries, table, seat, rows);
+            false
+        }
     }
 }

@@ -21,14 +21,6 @@ pub struct Placed<V> {
     pub call: Call<V>,
 }
 
-/// Whose seat makes the calls of a row, below how many others it stands, and how they are made.
-#[derive(Clone, Copy)]
-pub struct Caller {
-    pub worker: u64,
-    pub above: u64,
-    pub style: Style,
-}
-
 /// A call, and what it is answered.
 pub fn ask<V: Value>(tx: &mut Tx<'_, V>, style: Style, call: &Call<V>) -> Result<Reply<V>, Refusal>
     requires ready { IsReady tx.old.table.now tx.old.seat.now }

@@ -2,11 +2,12 @@
 ghost use Rattle.std.specs.Prelude.{◌≡◌, ℕ, IfOk};
 
 use crate::shared::{Meeting, Order};
-use seq_model::{Call, Entries, Held, Memory, Op, Refusal, State, Value};
+use seq_model::{Call, Entries, Held, Items, Memory, Op, Refusal, Shape, State, Value};
 use std::alloc::Global;
 use std::marker::Model;
 use std::sync::Arc;
 use std::sync::atomic::{AtomicBool, AtomicU64, Ordering};
+use tx_engine::Pause;
 
 /// The place of a copy that no run makes.
 const NEVER: u64 = u64::MAX;
@@ -59,11 +60,6 @@ impl Ration {
         self.copies.has_refused.load(Ordering::SeqCst)
     }
 
-    /// The next drop of a value is a step, and then waits until there are so many.
-    pub fn hold(&self, steps: u64) {
-        self.copies.waits.store(steps, Ordering::SeqCst);
-    }
-
     /// The steps of workers.
     pub fn steps(&self) -> &Meeting {
         &self.copies.steps
@@ -96,30 +92,37 @@ impl Ration {
         let _ = map.insert(5, self.value(50)?)?;
         State::new(vec![in alloc; 0u64]?, vec![in alloc; Held::Map(map)]?)
     }
+}
 
-    // Where a value that is dropped is held, it is a step, and waits for others.
-    fn wait(&self) {
-        let steps = self.copies.waits.swap(0, Ordering::SeqCst);
-        if steps > 0 {
-            self.steps().end_step();
-            self.steps().wait_for_row(steps);
+// The first worker's commit is held: the next drop of a value is a step, and then waits until there are three. So is a refusal, and a
+// receipt.
+impl Pause for Ration {
+    fn before_commit(&self, worker: u64) {
+        if worker == 1 {
+            self.copies.waits.store(3, Ordering::SeqCst);
         }
     }
 
-    fn take(&self) -> Result<(), Memory> {
-        let made = self.copies.made.fetch_add(1, Ordering::SeqCst);
-        if made == self.copies.refused.load(Ordering::SeqCst) {
-            self.copies.has_refused.store(true, Ordering::SeqCst);
-            return Err(Memory);
+    fn after_receipt(&self, _worker: u64, _number: u64) {
+        self.steps().end_row(0);
+    }
+
+    fn after_refusal(&self, _worker: u64, cause: Refusal) {
+        if matches!(cause, Refusal::Memory) {
+            self.steps().leave();
         }
-        Ok(())
+        self.steps().end_row(0);
     }
 }
 
 impl Drop for Rationed {
     fn drop(self) {
-        self.ration.wait();
         let Rationed { number: _, ration } = self;
+        let steps = ration.copies.waits.swap(0, Ordering::SeqCst);
+        if steps > 0 {
+            ration.steps().end_row(0);
+            ration.steps().wait_for_row(steps);
+        }
         drop(ration);
     }
 }
@@ -132,7 +135,12 @@ impl Model for Rationed {
 
 impl Value for Rationed {
     fn try_copy(&self) -> Result<Rationed, Memory> {
-        self.ration.take()?;
+        let copies = &self.ration.copies;
+        let made = copies.made.fetch_add(1, Ordering::SeqCst);
+        if made == copies.refused.load(Ordering::SeqCst) {
+            copies.has_refused.store(true, Ordering::SeqCst);
+            return Err(Memory);
+        }
         self.ration.value(self.number)
     }
 
@@ -147,4 +155,12 @@ pub fn get(key: u64) -> Call<Rationed> {
         target: 0,
         op: Op::Get(key),
     }
+}
+
+/// One stripe for the one collection, at clock 0.
+pub fn one_stripe(alloc: Global) -> Result<Shape, Memory> {
+    Ok(Shape {
+        stripes: Items::from_vec(vec![in alloc; 1u32]?),
+        clock: 0,
+    })
 }

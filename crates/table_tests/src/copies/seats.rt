@@ -12,36 +12,6 @@ use tx_table::TxTable;
 /// commits; the same seat commits the next one.
 pub fn refuse(
     table: &TxTable<Rationed>,
-    mut seat: TxSeat<Rationed>,
-    ration: &Ration,
-    place: u64,
-    receipts: &mut Vec<Record<Rationed>>,
-) -> (TxSeat<Rationed>, Made)
-    requires ready { IsReady table.now seat }
-    ensures ready { IsReady table.now result.0 }
-{
-    let made = make_both(table, &mut seat, ration, place, receipts);
-    (seat, made)
-}
-
-fn make_both(
-    table: &TxTable<Rationed>,
-    seat: &mut TxSeat<Rationed>,
-    ration: &Ration,
-    place: u64,
-    receipts: &mut Vec<Record<Rationed>>,
-) -> Made
-    requires ready { IsReady table.now seat.old }
-    ensures ready { IsReady table.now seat.new }
-{
-    let was_refused = make_first(table, seat, ration, place, receipts)?;
-    let second = commit_puts(table, seat, ration)?;
-    receipts.push(second)?;
-    Ok(was_refused)
-}
-
-fn make_first(
-    table: &TxTable<Rationed>,
     seat: &mut TxSeat<Rationed>,
     ration: &Ration,
     place: u64,
@@ -54,6 +24,7 @@ fn make_first(
     let first = commit_puts(table, seat, ration);
     let was_refused = ration.lift();
     keep(receipts, first, was_refused)?;
+    receipts.push(commit_puts(table, seat, ration)?)?;
     Ok(was_refused)
 }
 

@@ -1,15 +1,14 @@
 //! A table of such values, from its opening to the audit of its receipts.
-ghost use Rattle.std.specs.Prelude.{◌≡◌, IfOk};
+ghost use Rattle.std.specs.Prelude.{◌≡◌};
 ghost use Rattle.tx_table.specs.Seated.{view};
 ghost use Rattle.tx_engine.specs.Ready.{IsReady};
 
 use super::races::race;
-use super::rations::{Ration, Rationed};
+use super::rations::{Ration, Rationed, one_stripe};
 use super::seats::refuse;
 use super::waits::hold;
-use crate::shared::{audit_receipts, close};
-use seq_model::{Items, Record, Refusal, Shape, State};
-use std::alloc::Global;
+use crate::shared::{audit_receipts, close, open};
+use seq_model::{Record, Refusal, State};
 use std::sync::Wait;
 use std::thread::Threads;
 use tx_engine::TxSeat;
@@ -27,49 +26,20 @@ pub enum Work {
     /// The copy at this place is refused, of all that are made at a seat.
     Refused(u64),
     /// The copy at this place is refused, of all that so many workers make, two or four.
-    Raced(u64, u64),
+    Raced(u64, usize),
     /// A worker's commit is held.
     Held,
 }
 
 /// A table on which this work is done, and what came of it. What the table holds is what the receipts leave; `NotIdle` where it isn't so.
 pub fn on_table<R: Threads + Wait + Sync>(rt: &R, text: &mut String, work: Work) -> Made {
-    let ration = Ration::new(*text.allocator())?;
-    on_ration(rt, text, &ration, work)
-}
-
-fn on_ration<R: Threads + Wait + Sync>(
-    rt: &R,
-    text: &mut String,
-    ration: &Ration,
-    work: Work,
-) -> Made {
-    let opening = ration.opening(*text.allocator())?;
-    on_opening(rt, text, ration, &opening, work)
-}
-
-fn on_opening<R: Threads + Wait + Sync>(
-    rt: &R,
-    text: &mut String,
-    ration: &Ration,
-    opening: &State<Rationed>,
-    work: Work,
-) -> Made {
+    let alloc = *text.allocator();
+    let ration = Ration::new(alloc)?;
+    let opening = ration.opening(alloc)?;
     // With room for all receipts before the table opens, so that none of them is lost.
-    let mut receipts = Vec::with_capacity(*text.allocator(), RECEIPTS)?;
-    run_and_audit(rt, text, ration, opening, work, &mut receipts)
-}
-
-fn run_and_audit<R: Threads + Wait + Sync>(
-    rt: &R,
-    text: &mut String,
-    ration: &Ration,
-    opening: &State<Rationed>,
-    work: Work,
-    receipts: &mut Vec<Record<Rationed>>,
-) -> Made {
-    let (made, last) = run(rt, text, ration, opening, work, receipts)?;
-    audit_receipts(*text.allocator(), opening, receipts.as_slice(), &last)?;
+    let mut receipts = Vec::with_capacity(alloc, RECEIPTS)?;
+    let (made, last) = run(rt, text, &ration, &opening, work, &mut receipts)?;
+    audit_receipts(alloc, &opening, receipts.as_slice(), &last)?;
     made
 }
 
@@ -81,40 +51,12 @@ fn run<R: Threads + Wait + Sync>(
     work: Work,
     receipts: &mut Vec<Record<Rationed>>,
 ) -> Result<(Made, State<Rationed>), Refusal> {
-    let (table, seat) = open(*text.allocator(), opening)?;
-    run_table(rt, text, ration, table, seat, work, receipts)
-}
-
-fn open(
-    alloc: Global,
-    opening: &State<Rationed>,
-) -> Result<(TxTable<Rationed>, TxSeat<Rationed>), Refusal>
-    ensures ready { IfOk result (λ opened. IsReady opened.0 opened.1) }
-    ensures shares { IfOk result (λ opened. (view opened.1.seat).shares ≡ 64) }
-{
-    let shape = Shape {
-        stripes: Items::from_vec(vec![in alloc; 1u32]?),
-        clock: 0,
-    };
-    let state = opening.try_copy(alloc)?;
-    TxSeat::open(alloc, &shape, state)
-}
-
-fn run_table<R: Threads + Wait + Sync>(
-    rt: &R,
-    text: &mut String,
-    ration: &Ration,
-    table: TxTable<Rationed>,
-    seat: TxSeat<Rationed>,
-    work: Work,
-    receipts: &mut Vec<Record<Rationed>>,
-) -> Result<(Made, State<Rationed>), Refusal>
-    requires ready { IsReady table seat }
-    requires shares { (view seat.seat).shares ≡ 64 }
-{
-    let (seat, made) = work_at(rt, text, ration, &table, seat, work, receipts);
-    let (_, last) = close(table, seat)?;
-    Ok((made, last))
+    let alloc = *text.allocator();
+    let shape = one_stripe(alloc)?;
+    let (table, mut seat) = open(alloc, &shape, opening)?;
+    let made = work_at(rt, text, ration, &table, &mut seat, work, receipts);
+    let closed = close(table, seat)?;
+    Ok((made, closed.state()?))
 }
 
 fn work_at<R: Threads + Wait + Sync>(
@@ -122,26 +64,20 @@ fn work_at<R: Threads + Wait + Sync>(
     text: &mut String,
     ration: &Ration,
     table: &TxTable<Rationed>,
-    seat: TxSeat<Rationed>,
+    seat: &mut TxSeat<Rationed>,
     work: Work,
     receipts: &mut Vec<Record<Rationed>>,
-) -> (TxSeat<Rationed>, Made)
-    requires ready { IsReady table.now seat }
-    requires shares { (view seat.seat).shares ≡ 64 }
-    ensures ready { IsReady table.now result.0 }
+) -> Made
+    requires ready { IsReady table.now seat.old }
+    requires shares { (view seat.old.seat).shares ≡ 64 }
+    ensures ready { IsReady table.now seat.new }
 {
+    let alloc = *text.allocator();
     match work {
         Work::Refused(place) => refuse(table, seat, ration, place, receipts),
-        Work::Raced(place, workers) => race(
-            rt,
-            *text.allocator(),
-            ration,
-            table,
-            seat,
-            place,
-            workers,
-            receipts,
-        ),
+        Work::Raced(place, workers) => {
+            race(rt, alloc, ration, table, seat, place, workers, receipts)
+        }
         Work::Held => hold(rt, text, ration, table, seat, receipts),
     }
 }

@@ -1,9 +1,9 @@
 //! A transaction in a running world, one of whose copies is refused.
-use super::rations::{Ration, Rationed, get};
+use super::rations::{Ration, Rationed, get, one_stripe};
 use crate::shared::audit_receipts;
-use seq_model::{Event, Items, Memory, Notice, Record, Refusal, Request, Shape, State};
+use seq_model::{Event, Notice, Refusal, Request};
 use std::alloc::Global;
-use step_world::{Trace, World};
+use step_world::World;
 
 /// No request of the transaction has so many steps.
 const STEPS: u64 = 1_000;
@@ -13,52 +13,18 @@ const STEPS: u64 = 1_000;
 pub fn is_refused(alloc: Global, place: u64) -> Result<bool, Refusal> {
     let ration = Ration::new(alloc)?;
     let opening = ration.opening(alloc)?;
-    refuse(alloc, &ration, &opening, place)
-}
-
-fn refuse(
-    alloc: Global,
-    ration: &Ration,
-    opening: &State<Rationed>,
-    place: u64,
-) -> Result<bool, Refusal> {
-    match open(alloc, opening) {
-        Ok(world) => run(alloc, ration, opening, place, world),
-        Err(refusal) => Err(refusal),
+    let shape = one_stripe(alloc)?;
+    let mut world = World::open(alloc, &shape, opening.try_copy(alloc)?)?;
+    if put_all(&mut world, &ration, place)? {
+        return Ok(true);
     }
-}
-
-fn run(
-    alloc: Global,
-    ration: &Ration,
-    opening: &State<Rationed>,
-    place: u64,
-    mut world: World<Rationed>,
-) -> Result<bool, Refusal> {
-    match put_all(&mut world, ration, place) {
-        Ok(false) => audit_world(alloc, opening, world),
-        refused => refused,
-    }
-}
-
-// No copy was refused, and what the world holds is what its records leave.
-fn audit_world(
-    alloc: Global,
-    opening: &State<Rationed>,
-    world: World<Rationed>,
-) -> Result<bool, Refusal> {
     let trace = world.into_trace()?;
-    audit_trace(alloc, opening, trace)?;
+    let mut receipts = Vec::new(alloc);
+    for (_, record) in trace.records.into_vec() {
+        receipts.push(record)?;
+    }
+    audit_receipts(alloc, &opening, receipts.as_slice(), &trace.state)?;
     Ok(false)
-}
-
-fn open(alloc: Global, opening: &State<Rationed>) -> Result<World<Rationed>, Refusal> {
-    let shape = Shape {
-        stripes: Items::from_vec(vec![in alloc; 1u32]?),
-        clock: 0,
-    };
-    let state = opening.try_copy(alloc)?;
-    World::open(alloc, &shape, state)
 }
 
 // Whether a copy was refused, and the world failed by that.
@@ -68,70 +34,35 @@ fn put_all(world: &mut World<Rationed>, ration: &Ration, place: u64) -> Result<b
     let was_refused = ration.lift();
     match committed {
         Ok(()) if !was_refused => Ok(false),
-        Err(Refusal::Memory) if was_refused => has_failed(world),
+        Err(Refusal::Memory) if was_refused => {
+            if world.feed(Event::Step(1)).is_ok() || world.trace().is_ok() {
+                return Err(Refusal::NotIdle);
+            }
+            Ok(true)
+        }
         Err(refusal) => Err(refusal),
         Ok(()) => Err(Refusal::NotIdle),
     }
 }
 
-fn has_failed(world: &mut World<Rationed>) -> Result<bool, Refusal> {
-    let is_fed = world.feed(Event::Step(1)).is_ok();
-    let is_traced = world.trace().is_ok();
-    if is_fed || is_traced {
-        return Err(Refusal::NotIdle);
-    }
-    Ok(true)
-}
-
-fn audit_trace(
-    alloc: Global,
-    opening: &State<Rationed>,
-    trace: Trace<Rationed>,
-) -> Result<(), Refusal> {
-    let receipts = receipts_of(alloc, trace.records)?;
-    audit_receipts(alloc, opening, receipts.as_slice(), &trace.state)
-}
-
-fn receipts_of(
-    alloc: Global,
-    records: Items<(u32, Record<Rationed>)>,
-) -> Result<Vec<Record<Rationed>>, Memory> {
-    let mut receipts = Vec::new(alloc);
-    for (_, record) in records.into_vec() {
-        receipts.push(record)?;
-    }
-    Ok(receipts)
-}
-
 fn commit_puts(world: &mut World<Rationed>, ration: &Ration) -> Result<(), Refusal> {
     ask(world, Request::Begin)?;
-    put_and_get(world, ration, 5)?;
-    put_and_get(world, ration, 6)?;
+    for key in 5..7u64 {
+        ask(world, Request::Call(ration.put(key)?))?;
+        ask(world, Request::Call(get(key)))?;
+    }
     ask(world, Request::Commit)
-}
-
-fn put_and_get(world: &mut World<Rationed>, ration: &Ration, key: u64) -> Result<(), Refusal> {
-    ask(world, Request::Call(ration.put(key)?))?;
-    ask(world, Request::Call(get(key)))
 }
 
 // A request, and steps up to where it is answered.
 fn ask(world: &mut World<Rationed>, request: Request<Rationed>) -> Result<(), Refusal> {
-    if is_answered(world, Event::Ask(1, request))? {
-        return Ok(());
-    }
+    let mut event = Event::Ask(1, request);
     for _ in 0..STEPS {
-        if is_answered(world, Event::Step(1))? {
-            return Ok(());
+        match world.feed(event)? {
+            Notice::Quiet => event = Event::Step(1),
+            Notice::Answered(_, _) => return Ok(()),
+            Notice::Refused(_, refusal) => return Err(refusal),
         }
     }
     Err(Refusal::NotIdle)
-}
-
-fn is_answered(world: &mut World<Rationed>, event: Event<Rationed>) -> Result<bool, Refusal> {
-    match world.feed(event)? {
-        Notice::Quiet => Ok(false),
-        Notice::Answered(_, _) => Ok(true),
-        Notice::Refused(_, refusal) => Err(refusal),
-    }
 }

@@ -1,24 +1,35 @@
-//! The rows of two seats, all in turn; or those of each in a thread of its own, also where each of them was split into two.
+//! The rows of two seats in turn; or those of each seat in a thread of its own.
+ghost use Rattle.std.specs.Prelude.{IfSome};
+ghost use Rattle.std.specs.Thread.{IsSend, IsSync};
 ghost use Rattle.tx_engine.specs.Ready.{IsReady};
 
-use super::rows::{answer_own, answer_rows};
-use crate::shared::{Meeting, Order, Page, commit_after};
-use seq_model::{Memory, Refusal};
-use std::alloc::Global;
+use super::rows::answer_at;
+use crate::shared::{Meeting, Order, Page, Stand, Told};
+use crate::worker::retries::commit_after;
+use seq_model::Refusal;
 use std::thread::{Threads, join_mut};
 use tx_engine::TxSeat;
 use tx_table::TxTable;
 
-/// How many shares a seat keeps that is one of four.
-const QUARTER: u64 = 16;
+/// Where a row of the first seat stands that waits for none.
+const FIRST: Stand = Stand {
+    worker: 1,
+    above: 0,
+};
+
+/// Likewise of the second seat.
+const SECOND: Stand = Stand {
+    worker: 2,
+    above: 0,
+};
 
 /// The rows one after another, by seats without transactions.
 #[tactic(auto, using(crate::proofs::FitLemmas::rests_fit))]
-pub fn in_turn(
-    page: &mut Page,
-    table: &TxTable<u64>,
-    first: &mut TxSeat<u64>,
-    second: &mut TxSeat<u64>,
+pub fn in_turn<V: Told>(
+    page: &mut Page<V>,
+    table: &TxTable<V>,
+    first: &mut TxSeat<V>,
+    second: &mut TxSeat<V>,
     rows: &str,
 )
     requires first { IsReady table.now first.old }
@@ -28,125 +39,118 @@ pub fn in_turn(
 {
     first.abort(table);
     second.abort(table);
-    answer_rows(page, table, first, second, rows);
-}
-
-/// The rows of each seat in a thread of its own. Those of the first seat are answered before those of the second on the page.
-pub fn at_once<R: Threads>(
-    rt: &R,
-    page: &mut Page,
-    table: &TxTable<u64>,
-    first: &mut TxSeat<u64>,
-    second: &mut TxSeat<u64>,
-    order: Order,
-    rows: &str,
-)
-    requires first { IsReady table.now first.old }
-    requires second { IsReady table.now second.old }
-    ensures first { IsReady table.now first.new }
-    ensures second { IsReady table.now second.new }
-{
-    let meeting = Meeting::new(2, order);
-    pair_at_once(rt, page, table, first, second, 1, &meeting, rows);
+    let meeting = Meeting::new(2, Order::LastIsFirst);
+    'rows: for row in rows.lines() {
+        answer_at(page, table, first, FIRST, &meeting, row);
+        answer_at(page, table, second, SECOND, &meeting, row);
+    }
     page.hear_meeting(meeting);
 }
 
-/// Likewise of four seats, two of which are split off.
-pub fn four_at_once<R: Threads + Sync>(
+/// The rows of this seat and of so many others, which are split off, each in a thread of its own. On the page those of the first seat stand
+/// before those of the second, and so on.
+pub fn at_once<R: Threads + Sync, V: Told + Send + Sync>(
     rt: &R,
-    page: &mut Page,
-    table: &TxTable<u64>,
-    first: &mut TxSeat<u64>,
-    second: &mut TxSeat<u64>,
+    page: &mut Page<V>,
+    table: &TxTable<V>,
+    seat: &mut TxSeat<V>,
+    others: u64,
     order: Order,
     rows: &str,
 )
-    requires first { IsReady table.now first.old }
-    requires second { IsReady table.now second.old }
-    ensures first { IsReady table.now first.new }
-    ensures second { IsReady table.now second.new }
+    requires ready { IsReady table.now seat.old }
+    ensures ready { IsReady table.now seat.new }
 {
-    let meeting = Meeting::new(4, order);
-    halves_at_once(rt, page, table, first, second, &meeting, rows);
+    let meeting = Meeting::new(others.saturating_add(1), order);
+    answer_seats(rt, page, table, seat, 1, others, &meeting, rows);
     page.hear_meeting(meeting);
 }
 
-// The worker is the first of two.
-fn pair_at_once<R: Threads>(
+// The worker is the first of these seats.
+#[cycle(seats)]
+fn answer_seats<R: Threads + Sync, V: Told + Send + Sync>(
     rt: &R,
-    page: &mut Page,
-    table: &TxTable<u64>,
-    first: &mut TxSeat<u64>,
-    second: &mut TxSeat<u64>,
+    page: &mut Page<V>,
+    table: &TxTable<V>,
+    seat: &mut TxSeat<V>,
     worker: u64,
+    others: u64,
     meeting: &Meeting,
     rows: &str,
 )
-    requires first { IsReady table.now first.old }
-    requires second { IsReady table.now second.old }
-    ensures first { IsReady table.now first.new }
-    ensures second { IsReady table.now second.new }
+    requires ready { IsReady table.now seat.old }
+    ensures ready { IsReady table.now seat.new }
 {
-    match two_pages(page.alloc()) {
-        Ok((mut left, mut right)) => {
-            in_threads(
-                rt, table, &mut left, first, &mut right, second, worker, meeting, rows,
-            );
-            page.append(left);
-            page.append(right);
-        }
-        Err(_) => leave_wanting(page, meeting),
+    if others == 0 {
+        answer_seat(page, table, seat, worker, meeting, rows);
+        return;
+    }
+    if let Some((mut page_below, mut other)) = split_off(page, table, seat, meeting) {
+        let next = worker.saturating_add(1);
+        let rest = others - 1;
+        let below = &mut page_below;
+        let second = &mut other;
+        join_mut(
+            rt,
+            &mut ||
+                requires ready { IsReady table.now seat.now }
+                ensures ready { IsReady table.entry.now seat.exit.now }
+            { answer_seat(page, table, seat, worker, meeting, rows) },
+            &mut ||
+                requires sync { IsSync R.row × IsSend V.row × IsSync V.row }
+                requires ready { IsReady table.now second.now }
+                ensures ready { IsReady table.entry.now second.exit.now }
+            { answer_seats(rt, below, table, second, next, rest, meeting, rows) },
+        );
+        join_again(page, table, seat, page_below, other);
     }
 }
 
-fn halves_at_once<R: Threads + Sync>(
-    rt: &R,
-    page: &mut Page,
-    table: &TxTable<u64>,
-    first: &mut TxSeat<u64>,
-    second: &mut TxSeat<u64>,
+// A seat with half of the shares, and a page for its rows. Where there is none, no seat is to wait for it.
+fn split_off<V: Told>(
+    page: &mut Page<V>,
+    table: &TxTable<V>,
+    seat: &mut TxSeat<V>,
     meeting: &Meeting,
-    rows: &str,
-)
-    requires first { IsReady table.now first.old }
-    requires second { IsReady table.now second.old }
-    ensures first { IsReady table.now first.new }
-    ensures second { IsReady table.now second.new }
+) -> Option<(Page<V>, TxSeat<V>)>
+    requires ready { IsReady table.now seat.old }
+    ensures ready { IsReady table.now seat.new }
+    ensures other { IfSome result (λ split. IsReady table.now split.1) }
 {
-    match two_pages(page.alloc()) {
-        Ok((mut left, mut right)) => {
-            halves_in_threads(
-                rt, table, &mut left, first, &mut right, second, meeting, rows,
-            );
-            page.append(left);
-            page.append(right);
+    let shares = seat.shares() / 2;
+    match Page::new(page.alloc()) {
+        Ok(below) if shares > 0 => Some((below, seat.split(table, shares))),
+        _ => {
+            page.fail(Refusal::Memory);
+            meeting.leave();
+            None
         }
-        Err(_) => leave_wanting(page, meeting),
     }
 }
 
-fn leave_wanting(page: &mut Page, meeting: &Meeting) {
-    page.fail(Refusal::Memory);
-    meeting.leave();
-}
-
-fn two_pages(alloc: Global) -> Result<(Page, Page), Memory> {
-    let left = Page::new(alloc)?;
-    match Page::new(alloc) {
-        Ok(right) => Ok((left, right)),
-        Err(memory) => {
-            drop(left);
-            Err(memory)
-        }
-    }
+// Where an allocation failed, the other seat commits a write before it is joined.
+fn join_again<V: Told>(
+    page: &mut Page<V>,
+    table: &TxTable<V>,
+    seat: &mut TxSeat<V>,
+    below: Page<V>,
+    mut other: TxSeat<V>,
+)
+    requires ready { IsReady table.now seat.old }
+    requires other { IsReady table.now other }
+    ensures ready { IsReady table.now seat.new }
+{
+    page.append(below);
+    commit_after(page, table, &mut other, false);
+    seat.join(table, other);
 }
 
 // No other seat is to wait for one that answers no more rows.
 #[tactic(auto, using(crate::proofs::FitLemmas::rests_fit))]
-fn answer_seat(
-    page: &mut Page,
-    table: &TxTable<u64>,
-    seat: &mut TxSeat<u64>,
+fn answer_seat<V: Told>(
+    page: &mut Page<V>,
+    table: &TxTable<V>,
+    seat: &mut TxSeat<V>,
     worker: u64,
     meeting: &Meeting,
     rows: &str,
@@ -155,108 +159,12 @@ fn answer_seat(
     ensures ready { IsReady table.now seat.new }
 {
     seat.abort(table);
-    answer_own(page, table, seat, worker, meeting, rows);
+    let mut above = 0u64;
+    'rows: for row in rows.lines() {
+        answer_at(page, table, seat, Stand { worker, above }, meeting, row);
+        above = above.saturating_add(1);
+    }
     if page.wants_memory() {
         meeting.leave();
     }
-}
-
-fn in_threads<R: Threads>(
-    rt: &R,
-    table: &TxTable<u64>,
-    left: &mut Page,
-    first: &mut TxSeat<u64>,
-    right: &mut Page,
-    second: &mut TxSeat<u64>,
-    worker: u64,
-    meeting: &Meeting,
-    rows: &str,
-)
-    requires first { IsReady table.now first.old }
-    requires second { IsReady table.now second.old }
-    ensures first { IsReady table.now first.new }
-    ensures second { IsReady table.now second.new }
-{
-    let next = worker.saturating_add(1);
-    join_mut(
-        rt,
-        &mut ||
-            requires ready { IsReady table.now first.now }
-            ensures ready { IsReady table.entry.now first.exit.now }
-        { answer_seat(left, table, first, worker, meeting, rows) },
-        &mut ||
-            requires ready { IsReady table.now second.now }
-            ensures ready { IsReady table.entry.now second.exit.now }
-        { answer_seat(right, table, second, next, meeting, rows) },
-    );
-}
-
-fn halves_in_threads<R: Threads + Sync>(
-    rt: &R,
-    table: &TxTable<u64>,
-    left: &mut Page,
-    first: &mut TxSeat<u64>,
-    right: &mut Page,
-    second: &mut TxSeat<u64>,
-    meeting: &Meeting,
-    rows: &str,
-)
-    requires first { IsReady table.now first.old }
-    requires second { IsReady table.now second.old }
-    ensures first { IsReady table.now first.new }
-    ensures second { IsReady table.now second.new }
-{
-    join_mut(
-        rt,
-        &mut ||
-            requires ready { IsReady table.now first.now }
-            ensures ready { IsReady table.entry.now first.exit.now }
-        { answer_half(rt, left, table, first, 1, meeting, rows) },
-        &mut ||
-            requires ready { IsReady table.now second.now }
-            ensures ready { IsReady table.entry.now second.exit.now }
-        { answer_half(rt, right, table, second, 3, meeting, rows) },
-    );
-}
-
-// Two of four seats, of which the worker is the first.
-fn answer_half<R: Threads>(
-    rt: &R,
-    page: &mut Page,
-    table: &TxTable<u64>,
-    seat: &mut TxSeat<u64>,
-    worker: u64,
-    meeting: &Meeting,
-    rows: &str,
-)
-    requires ready { IsReady table.now seat.old }
-    ensures ready { IsReady table.now seat.new }
-{
-    if seat.shares() <= QUARTER {
-        page.fail(Refusal::NoSuch);
-        return;
-    }
-    let mut other = seat.split(table, QUARTER);
-    answer_quarters(rt, page, table, seat, &mut other, worker, meeting, rows);
-    seat.join(table, other);
-}
-
-// Where an allocation failed, the seat that was split off commits a write before it is joined again.
-fn answer_quarters<R: Threads>(
-    rt: &R,
-    page: &mut Page,
-    table: &TxTable<u64>,
-    seat: &mut TxSeat<u64>,
-    other: &mut TxSeat<u64>,
-    worker: u64,
-    meeting: &Meeting,
-    rows: &str,
-)
-    requires seat { IsReady table.now seat.old }
-    requires other { IsReady table.now other.old }
-    ensures seat { IsReady table.now seat.new }
-    ensures other { IsReady table.now other.new }
-{
-    pair_at_once(rt, page, table, seat, other, worker, meeting, rows);
-    commit_after(page, table, other);
 }

@@ -2,14 +2,14 @@
 ghost use Rattle.std.specs.Prelude.{◌≤◌, length};
 ghost use Rattle.vac_model.specs.Balanced.{IsBalanced};
 
-use super::printed::{is_refused, print_served};
-use crate::shared::{Meeting, Order, audit_receipts};
+use crate::shared::{Meeting, Order, audit_receipts, keep_all};
+use crate::worker::reports::{memory_missed, print_own};
 use client_sessions::{Entry, state_of};
-use seq_model::{Items, Record, Refusal, State};
+use seq_model::{Refusal, State};
 use std::alloc::Global;
 use std::sync::Wait;
 use std::thread::Threads;
-use text_formats::parse_sessions;
+use text_formats::{parse_sessions, print_sessions};
 use vac_model::{Action, Tables};
 use workers::{Report, Served, deal, serve};
 
@@ -32,53 +32,12 @@ pub fn serve_sessions<R: Threads + Wait + Sync>(
     if options.workers == 0 {
         return Err(Refusal::NoSuch);
     }
-    match parse_sessions(*text.allocator(), file.as_bytes()) {
-        Ok((tables, actions)) => serve_tables(rt, text, options, tables, actions),
-        Err(refusal) => Err(refusal),
-    }
-}
-
-fn serve_tables<R: Threads + Wait + Sync>(
-    rt: &R,
-    text: &mut String,
-    options: Options,
-    tables: Tables,
-    actions: Vec<Action>,
-) -> Result<(), Refusal>
-    requires workers { 1 ≤ options.workers }
-    requires balanced { IsBalanced tables }
-{
-    match state_of(*text.allocator(), &tables) {
-        Ok(opening) => {
-            let answered = serve_opening(rt, text, options, &opening, tables, actions);
-            drop(opening);
-            answered
-        }
-        Err(_) => {
-            drop(tables);
-            drop(actions);
-            Err(Refusal::Memory)
-        }
-    }
-}
-
-fn serve_opening<R: Threads + Wait + Sync>(
-    rt: &R,
-    text: &mut String,
-    options: Options,
-    opening: &State<Entry>,
-    tables: Tables,
-    actions: Vec<Action>,
-) -> Result<(), Refusal>
-    requires workers { 1 ≤ options.workers }
-    requires balanced { IsBalanced tables }
-{
+    let alloc = *text.allocator();
+    let (tables, actions) = parse_sessions(alloc, file.as_bytes())?;
+    let opening = state_of(alloc, &tables)?;
     let meeting = Meeting::new(options.meet, Order::LastIsFirst);
-    let served = serve_actions(rt, *text.allocator(), tables, options, actions, &meeting);
-    let is_held_in_vain = meeting.is_missed();
-    drop(meeting);
-    match served {
-        Ok(served) => answer_served(text, opening, served, is_held_in_vain),
+    match serve_actions(rt, alloc, tables, options, actions, &meeting) {
+        Ok(served) => answer_served(text, &opening, served, meeting.is_missed()),
         Err(Refusal::TooLong) => Ok(text.push_str("TooLong\n")?),
         Err(refusal) => Err(refusal),
     }
@@ -95,29 +54,9 @@ fn serve_actions<R: Threads + Wait + Sync>(
     requires workers { 1 ≤ options.workers }
     requires balanced { IsBalanced tables }
 {
-    match deal(alloc, actions, options.workers) {
-        Ok(lists) => serve_lists(rt, alloc, tables, options, lists, meeting),
-        Err(_) => {
-            drop(tables);
-            Err(Refusal::Memory)
-        }
-    }
-}
-
-fn serve_lists<R: Threads + Wait + Sync>(
-    rt: &R,
-    alloc: Global,
-    tables: Tables,
-    options: Options,
-    lists: Vec<Vec<Action>>,
-    meeting: &Meeting,
-) -> Result<Served, Refusal>
-    requires { IsBalanced tables }
-{
+    let lists = deal(alloc, actions, options.workers)?;
     let count = lists.len();
     if count == 0 || count > 64 || options.tries == 0 {
-        drop(tables);
-        drop(lists);
         return Err(Refusal::NoSuch);
     }
     serve(
@@ -142,24 +81,21 @@ fn answer_served(
         tables,
         state,
     } = served;
+    let alloc = *text.allocator();
     let printed = print_served(text, &report, &tables);
+    let Report { receipts, missed } = report;
+    let wanting = memory_missed(missed.as_slice());
+    let mut all = Vec::new(alloc);
+    let kept = keep_all(&mut all, receipts);
+    let audited = audit_receipts(alloc, opening, all.as_slice(), &state);
+    drop(all);
+    drop(missed);
     drop(tables);
-    let is_wanted = is_refused(&report);
-    let audited = audit_report(*text.allocator(), opening, report, &state);
     drop(state);
-    end(text, printed, audited, is_wanted, is_held_in_vain)
-}
-
-// Where an allocation failed for a worker, others are held in vain.
-fn end(
-    text: &mut String,
-    printed: Result<(), Refusal>,
-    audited: Result<(), Refusal>,
-    is_wanted: bool,
-    is_held_in_vain: bool,
-) -> Result<(), Refusal> {
+    kept?;
     audited?;
-    if is_wanted {
+    // Where an allocation failed for a worker, others are held in vain.
+    if wanting > 0 {
         return Err(Refusal::Memory);
     }
     printed?;
@@ -170,31 +106,17 @@ fn end(
     Ok(())
 }
 
-fn audit_report(
-    alloc: Global,
-    opening: &State<Entry>,
-    report: Report<Entry>,
-    last: &State<Entry>,
-) -> Result<(), Refusal> {
-    let Report { receipts, missed } = report;
-    drop(missed);
-    let mut all = Vec::new(alloc);
-    let audited = if have_room(&mut all, receipts) {
-        audit_receipts(alloc, opening, all.as_slice(), last)
-    } else {
-        Err(Refusal::Memory)
-    };
-    drop(all);
-    audited
-}
-
-// All receipts are gathered; whether there was room.
-fn have_room(all: &mut Vec<Record<Entry>>, lists: Items<Items<Record<Entry>>>) -> bool {
-    let mut is_held = true;
-    for list in lists.into_vec() {
-        let mut list = list.into_vec();
-        is_held = all.append(&mut list).is_ok() && is_held;
-        drop(list);
+// The receipts of each worker, and what the tables hold, as it stands after a session file without sessions.
+fn print_served(text: &mut String, report: &Report<Entry>, tables: &Tables) -> Result<(), Refusal> {
+    let mut worker = 1u64;
+    for list in report.receipts.as_slice() {
+        print_own(text, Some(worker), list.as_slice())?;
+        worker = worker.saturating_add(1);
     }
-    is_held
+    let bytes = print_sessions(*text.allocator(), &[], tables)?;
+    match std::str::from_utf8(bytes.as_slice()) {
+        Ok(lines) => text.push_str(lines)?,
+        Err(_) => return Err(Refusal::NoSuch),
+    }
+    Ok(())
 }

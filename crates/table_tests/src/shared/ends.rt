@@ -1,53 +1,31 @@
 //! How a table ends.
+ghost use Rattle.std.specs.Prelude.{All, IfOk};
+ghost use Rattle.seq_model.specs.Calls.{IsWithinLimits};
+ghost use Rattle.tx_table.specs.Ends.{held_in};
 ghost use Rattle.tx_engine.specs.Ready.{IsReady};
 
+use super::answers::Answer;
 use super::pages::Page;
-use super::places::say_left;
-use row_parts::{print_reply, script_of};
-use seq_model::{AuditFault, Call, Memory, Record, Refusal, Reply, Request, State, Value, audit};
+use super::told::Told;
+use row_parts::script_of;
+use seq_model::{AuditFault, Items, Memory, Record, Refusal, Request, State, Value, audit};
 use std::alloc::Global;
-use std::fmt::Write;
 use text_formats::EventLine;
 use tx_engine::TxSeat;
-use tx_table::TxTable;
+use tx_table::{Closed, TxTable};
 
 /// How many shares a seat has into which all were joined.
 const ALL_SHARES: u64 = 64;
 
-/// The seat closes the table: the clock, and what the table holds. `NoSuch` where the seat has not all shares.
-pub fn close<V: Value>(table: TxTable<V>, seat: TxSeat<V>) -> Result<(u64, State<V>), Refusal>
+/// The seat closes the table. `NoSuch` where the seat has not all shares.
+pub fn close<V: Value>(table: TxTable<V>, seat: TxSeat<V>) -> Result<Closed<V>, Refusal>
     requires ready { IsReady table seat }
+    ensures within { IfOk result (λ closed. All IsWithinLimits (held_in closed)) }
 {
     if seat.shares() != ALL_SHARES {
-        drop(seat);
-        drop(table);
         return Err(Refusal::NoSuch);
     }
-    let closed = seat.close(table)?;
-    let clock = closed.clock();
-    let last = closed.state()?;
-    Ok((clock, last))
-}
-
-/// Likewise; each row `left 0` is answered by what the closed table has there.
-pub fn close_told(
-    page: &mut Page,
-    table: TxTable<u64>,
-    seat: TxSeat<u64>,
-    rows: &str,
-) -> Result<(u64, State<u64>), Refusal>
-    requires ready { IsReady table seat }
-{
-    if seat.shares() != ALL_SHARES {
-        drop(seat);
-        drop(table);
-        return Err(Refusal::NoSuch);
-    }
-    let closed = seat.close(table)?;
-    say_left(page, &closed, rows);
-    let clock = closed.clock();
-    let last = closed.state()?;
-    Ok((clock, last))
+    Ok(seat.close(table)?)
 }
 
 /// What the receipts leave, one after another, is what is there at last; else `NotIdle`.
@@ -64,65 +42,39 @@ pub fn audit_receipts<V: Value>(
     }
 }
 
-/// A receipt: its number, whether it has written, and how many calls it has.
-pub fn print_receipt<V>(text: &mut String, receipt: &Record<V>) -> Result<(), Memory> {
-    let number = receipt.number;
-    let kind = if receipt.writes { "write" } else { "read" };
-    let calls = receipt.calls.len();
-    write!(text, "committed {number}, {kind}, calls {calls}")?;
+/// The receipts of all workers join these.
+pub fn keep_all<V: Value>(
+    receipts: &mut Vec<Record<V>>,
+    lists: Items<Items<Record<V>>>,
+) -> Result<(), Memory> {
+    for list in lists.into_vec() {
+        receipts.append(&mut list.into_vec())?;
+    }
     Ok(())
 }
 
-/// The clock of a table that was closed, where it is to be printed, and each row `closed 1 do CALL` with its answer on the state that the
-/// table held.
-pub fn print_closed(
-    text: &mut String,
-    clock: Option<u64>,
-    last: &mut State<u64>,
-    rows: &str,
-) -> Result<(), Refusal> {
-    match clock {
-        Some(clock) => writeln!(text, "closed: clock {clock}, audit ok")?,
-        None => text.push_str("closed: audit ok\n")?,
-    }
+/// Answers each row `closed 1 do CALL` on the state that a closed table held.
+pub fn print_closed<V: Told>(page: &mut Page<V>, last: &mut State<V>, rows: &str) {
     for row in rows.lines() {
         if let Some(call) = row.strip_prefix("closed ") {
-            answer_call(text, last, row, call)?;
+            page.begin_row(row);
+            let answered = answer_call(page.alloc(), last, call);
+            page.hear(answered);
+            page.end_row();
         }
     }
-    Ok(())
 }
 
-fn answer_call(
-    text: &mut String,
-    last: &mut State<u64>,
-    row: &str,
+fn answer_call<V: Told>(
+    alloc: Global,
+    last: &mut State<V>,
     call: &str,
-) -> Result<(), Refusal> {
-    let script = script_of(*text.allocator(), call)?;
-    let answered = match script.lines.as_slice().first() {
-        Some(EventLine::Do(_, Request::Call(call))) => make_call(text, last, row, call),
+) -> Result<Answer<V>, Refusal> {
+    let script = script_of(alloc, call)?;
+    match script.lines.as_slice().first() {
+        Some(EventLine::Do(_, Request::Call(call))) => {
+            Ok(Answer::Replied(last.apply(&V::call_of(call)?)?))
+        }
         _ => Err(Refusal::NoSuch),
-    };
-    drop(script);
-    answered
-}
-
-fn make_call(
-    text: &mut String,
-    last: &mut State<u64>,
-    row: &str,
-    call: &Call<u64>,
-) -> Result<(), Refusal> {
-    let reply = last.apply(call)?;
-    let printed = print_answer(text, row, &reply);
-    drop(reply);
-    Ok(printed?)
-}
-
-fn print_answer(text: &mut String, row: &str, reply: &Reply<u64>) -> Result<(), Memory> {
-    write!(text, "{row} = ")?;
-    print_reply(text, reply)?;
-    text.push('\n')?;
-    Ok(())
+    }
 }

@@ -1,4 +1,5 @@
 //! Jobs that a row spells.
+use super::told::Told;
 use row_parts::script_of;
 use seq_model::{Ask, Job, Memory, Refusal, Reply, Request};
 use std::alloc::Global;
@@ -15,36 +16,27 @@ pub enum Listed {
     WantsMemory,
 }
 
-impl Job<u64> for Listed {
+impl<V: Told> Job<V> for Listed {
     ghost use Rattle.std.specs.Prelude.{⊤};
 
     ghost asks = { λ _ _ _. ⊤ };
 
-    fn ask(&self, replies: &[Reply<u64>]) -> Result<Ask<u64>, Memory> {
-        match self {
-            Listed::Asks(script) => next_call(script.lines.as_slice().get(replies.len())),
-            Listed::GivesUp => Ok(Ask::GiveUp),
-            Listed::WantsMemory => Err(Memory),
+    fn ask(&self, replies: &[Reply<V>]) -> Result<Ask<V>, Memory> {
+        let script = match self {
+            Listed::Asks(script) => script,
+            Listed::GivesUp => return Ok(Ask::GiveUp),
+            Listed::WantsMemory => return Err(Memory),
+        };
+        match script.lines.as_slice().get(replies.len()) {
+            Some(EventLine::Do(_, Request::Call(call))) => Ok(Ask::Call(V::call_of(call)?)),
+            _ => Ok(Ask::Done),
         }
-    }
-}
-
-fn next_call(line: Option<&EventLine>) -> Result<Ask<u64>, Memory> {
-    match line {
-        Some(EventLine::Do(_, Request::Call(call))) => Ok(Ask::Call(call.try_copy()?)),
-        _ => Ok(Ask::Done),
     }
 }
 
 /// `runs 1 do read 0; 1 do write 0 1`, `attempts ..` or `meets ..`, `gives up`, or `wants memory`.
 pub fn job_of(alloc: Global, words: &str) -> Result<Listed, Refusal> {
-    match words.split_once(' ') {
-        Some((verb, calls)) => job_by(alloc, verb, calls),
-        None => Err(Refusal::NoSuch),
-    }
-}
-
-fn job_by(alloc: Global, verb: &str, calls: &str) -> Result<Listed, Refusal> {
+    let (verb, calls) = words.split_once(' ').unwrap_or((words, ""));
     match verb {
         "runs" | "attempts" | "meets" => Ok(Listed::Asks(script_of(alloc, calls)?)),
         "gives" => Ok(Listed::GivesUp),

@@ -18,6 +18,13 @@ pub enum Order {
     RowByRow,
 }
 
+/// Where a row stands: whose it is, and below how many others.
+#[derive(Clone, Copy)]
+pub struct Stand {
+    pub worker: u64,
+    pub above: u64,
+}
+
 /// So many workers that are held before their commits until all stand there, and then as their order says. None is held once one of
 /// them has left.
 #[derive(Drop)]
@@ -56,15 +63,15 @@ impl Meeting {
         self.is_missed.load(Ordering::SeqCst)
     }
 
-    /// Holds a worker until all others have a receipt; whether they have.
-    pub fn waits_for_receipts(&self) -> bool {
-        self.is_reached(&self.received, self.all.saturating_sub(1))
+    /// Holds a worker until all others have a receipt.
+    pub fn wait_for_receipts(&self) {
+        self.wait(&self.received, self.all.saturating_sub(1));
     }
 
     /// Holds a worker before the row that stands below so many others, where rows go one by one.
     pub fn wait_for_row(&self, above: u64) {
-        if matches!(self.order, Order::RowByRow) && !self.is_reached(&self.admitted, above) {
-            self.is_missed.store(true, Ordering::SeqCst);
+        if matches!(self.order, Order::RowByRow) {
+            self.wait(&self.admitted, above);
         }
     }
 
@@ -77,52 +84,43 @@ impl Meeting {
         }
     }
 
-    /// Something is done that stands for a row, and was not let pass.
-    pub fn end_step(&self) {
-        self.end_row(0);
-    }
-
     /// A row that is under way lets the one pass that stands below so many others, and is held until that is answered. It was not let pass
     /// itself.
     pub fn let_by(&self, above: u64) {
         self.admitted.store(above, Ordering::SeqCst);
-        if !matches!(self.order, Order::RowByRow) || !self.is_reached(&self.answered, above) {
+        if matches!(self.order, Order::RowByRow) {
+            self.wait(&self.answered, above);
+        } else {
             self.is_missed.store(true, Ordering::SeqCst);
         }
     }
 
-    // How many receipts this worker is to wait for.
-    fn behind(&self, worker: u64) -> u64 {
-        match self.order {
-            Order::FirstIsLast if worker > 1 => 0,
-            _ => self.all.saturating_sub(worker),
-        }
-    }
-
-    // What a worker did before it left is seen by the load after that.
-    fn is_reached(&self, count: &AtomicU64, least: u64) -> bool {
+    // Holds a worker until this count has come so far, or one of them has left. What that one did before it left is seen by the load after
+    // that.
+    fn wait(&self, count: &AtomicU64, least: u64) {
         for _ in 0..TURNS {
             let has_left = self.has_left.load(Ordering::SeqCst);
             if least <= count.load(Ordering::SeqCst) {
-                return true;
+                return;
             }
             if has_left {
-                return false;
+                break;
             }
             yield_now();
         }
-        false
+        self.is_missed.store(true, Ordering::SeqCst);
     }
 }
 
 impl Pause for Meeting {
     fn before_commit(&self, worker: u64) {
         self.standing.fetch_add(1, Ordering::SeqCst);
-        let is_met = self.is_reached(&self.standing, self.all)
-            && self.is_reached(&self.received, self.behind(worker));
-        if !is_met {
-            self.is_missed.store(true, Ordering::SeqCst);
-        }
+        self.wait(&self.standing, self.all);
+        let behind = match self.order {
+            Order::FirstIsLast if worker > 1 => 0,
+            _ => self.all.saturating_sub(worker),
+        };
+        self.wait(&self.received, behind);
     }
 
     fn after_receipt(&self, _worker: u64, _number: u64) {

@@ -1,34 +1,31 @@
 //! Where a table has its words and collections, and what the collections are once it is closed.
 ghost use Rattle.std.specs.Prelude.{◌≡◌, ◌<◌};
 
+use super::answers::Answer;
 use super::pages::Page;
-use row_parts::print_base;
+use super::told::Told;
 use seq_model::Refusal;
 use text_formats::number;
-use tx_table::{Block, Closed, TxTable};
+use tx_table::{Closed, TxTable};
 
 /// Answers each row `the words`, how many there are, and `the block 0`, where this collection is stored.
-pub fn say_places(page: &mut Page, table: &TxTable<u64>, rows: &str) {
+pub fn say_places<V: Told>(page: &mut Page<V>, table: &TxTable<V>, rows: &str) {
     for row in rows.lines() {
         if let Some(asked) = row.strip_prefix("the ") {
             page.begin_row(row);
-            say_place(page, table, asked);
+            page.hear(Ok(place_of(table, asked)));
             page.end_row();
         }
     }
 }
 
-fn say_place(page: &mut Page, table: &TxTable<u64>, asked: &str) {
+fn place_of<V: Told>(table: &TxTable<V>, asked: &str) -> Answer<V> {
     match asked.strip_prefix("block ") {
-        Some(digits) => say_block(page, table.block(collection_of(digits))),
-        None => page.say_number("", table.words() as u64),
-    }
-}
-
-fn say_block(page: &mut Page, block: Option<Block>) {
-    match block {
-        Some(block) => page.say_block(block),
-        None => page.say("none"),
+        Some(digits) => match table.block(collection_of(digits)) {
+            Some(block) => Answer::Stored(block),
+            None => Answer::Said("none"),
+        },
+        None => Answer::Number(table.words() as u64),
     }
 }
 
@@ -41,23 +38,27 @@ fn collection_of(digits: &str) -> u32 {
 }
 
 /// Answers each row `left 0`, what this collection holds.
-pub fn say_left(page: &mut Page, closed: &Closed<u64>, rows: &str) {
+pub fn say_left<V: Told>(page: &mut Page<V>, closed: &Closed<V>, rows: &str) {
     for row in rows.lines() {
         if let Some(digits) = row.strip_prefix("left ") {
             page.begin_row(row);
-            say_collection(page, closed, collection_of(digits));
+            let printed = print_left(&mut page.text, closed, collection_of(digits));
+            if let Err(refusal) = printed {
+                page.hear(Err(refusal));
+            }
             page.end_row();
         }
     }
 }
 
-fn say_collection(page: &mut Page, closed: &Closed<u64>, collection: u32) {
+fn print_left<V: Told>(
+    text: &mut String,
+    closed: &Closed<V>,
+    collection: u32,
+) -> Result<(), Refusal> {
     if (collection as usize) < closed.collections() {
-        let base = closed.collection(collection);
-        if let Err(refusal) = print_base(&mut page.text, base) {
-            page.fail(refusal);
-        }
+        V::print_base(text, closed.collection(collection))
     } else {
-        page.refuse(Refusal::NoSuch);
+        Err(Refusal::NoSuch)
     }
 }

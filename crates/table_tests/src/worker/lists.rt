@@ -1,6 +1,6 @@
 //! The lists of jobs that rows spell.
 use crate::shared::{Listed, Order, job_of};
-use seq_model::{Memory, Refusal};
+use seq_model::Refusal;
 use std::alloc::Global;
 use text_formats::number;
 
@@ -33,48 +33,26 @@ pub fn limits_of(words: &str) -> Option<Limits> {
 /// The list of each worker, which stand in the order of the workers.
 pub fn lists_of(alloc: Global, rows: &str) -> Result<Vec<Vec<Listed>>, Refusal> {
     let mut lists = Vec::new(alloc);
-    match add_rows(&mut lists, rows) {
-        Ok(()) => Ok(lists),
-        Err(refusal) => {
-            drop(lists);
-            Err(refusal)
-        }
-    }
-}
-
-fn add_rows(lists: &mut Vec<Vec<Listed>>, rows: &str) -> Result<(), Refusal> {
     for row in rows.lines() {
-        if let Some((worker, words)) = row.split_once(' ') {
-            add_row(lists, worker, words)?;
+        let (worker, words) = row.split_once(' ').unwrap_or(("", row));
+        if let Some(worker) = number(worker) {
+            add_row(&mut lists, worker, words)?;
         }
     }
-    Ok(())
+    Ok(lists)
 }
 
 // A job of the last worker, or of the next one, who may have none.
-fn add_row(lists: &mut Vec<Vec<Listed>>, worker: &str, words: &str) -> Result<(), Refusal> {
-    let Some(worker) = number(worker) else {
-        return Ok(());
-    };
+fn add_row(lists: &mut Vec<Vec<Listed>>, worker: u64, words: &str) -> Result<(), Refusal> {
+    let alloc = *lists.allocator();
     if lists.len() as u64 != worker {
-        add_list(lists)?;
+        lists.push(Vec::new(alloc))?;
     }
     if words != "rests" {
-        add_job(lists, words)?;
-    }
-    Ok(())
-}
-
-fn add_list(lists: &mut Vec<Vec<Listed>>) -> Result<(), Memory> {
-    let list = Vec::new(*lists.allocator());
-    lists.push(list)?;
-    Ok(())
-}
-
-fn add_job(lists: &mut Vec<Vec<Listed>>, words: &str) -> Result<(), Refusal> {
-    let alloc = *lists.allocator();
-    if let Some(list) = lists.last_mut() {
-        list.push(job_of(alloc, words)?)?;
+        let job = job_of(alloc, words)?;
+        if let Some(list) = lists.last_mut() {
+            list.push(job)?;
+        }
     }
     Ok(())
 }

@@ -1,108 +1,93 @@
 //! Attempts of a job at one seat, up to a receipt.
-ghost use Rattle.std.specs.Prelude.{◌≤◌};
 ghost use Rattle.tx_engine.specs.Ready.{IsReady};
 
-use crate::shared::{Listed, Page, commit_after, job_of};
+use crate::shared::{Answer, Page, Told, job_of};
 use seq_model::Refusal;
+use std::alloc::Global;
 use tx_engine::TxSeat;
-use tx_table::TxTable;
+use tx_table::{Kind, TxTable};
 use workers::{LastAbort, NoPause, retry};
 
-/// The jobs of these rows, one after another, each in up to so many attempts; the run fails where there are none. Where an allocation
-/// failed, the seat commits a write after it.
-pub fn retry_rows(
-    page: &mut Page,
-    tries: u64,
-    table: &TxTable<u64>,
-    mut seat: TxSeat<u64>,
-    rows: &str,
-) -> TxSeat<u64>
-    requires ready { IsReady table.now seat }
-    ensures ready { IsReady table.now result }
-{
-    if tries == 0 {
-        page.fail(Refusal::NoSuch);
-        return seat;
-    }
-    run_seat(page, tries, table, &mut seat, rows);
-    seat
-}
+/// So often a write is tried that others stand in the way of.
+const TRIES: u64 = 1_000_000;
 
-fn run_seat(page: &mut Page, tries: u64, table: &TxTable<u64>, seat: &mut TxSeat<u64>, rows: &str)
-    requires some { 1 ≤ tries }
-    requires ready { IsReady table.now seat.old }
-    ensures ready { IsReady table.now seat.new }
-{
-    answer_rows(page, tries, table, seat, rows);
-    commit_after(page, table, seat);
-}
-
-fn answer_rows(
-    page: &mut Page,
+/// The jobs of these rows, one after another, each in up to so many attempts.
+pub fn retry_rows<V: Told>(
+    page: &mut Page<V>,
     tries: u64,
-    table: &TxTable<u64>,
-    seat: &mut TxSeat<u64>,
+    table: &TxTable<V>,
+    seat: &mut TxSeat<V>,
     rows: &str,
 )
-    requires some { 1 ≤ tries }
     requires ready { IsReady table.now seat.old }
     ensures ready { IsReady table.now seat.new }
 {
     'rows: for row in rows.lines() {
-        answer_row(page, tries, table, seat, row);
-    }
-}
-
-fn answer_row(page: &mut Page, tries: u64, table: &TxTable<u64>, seat: &mut TxSeat<u64>, row: &str)
-    requires some { 1 ≤ tries }
-    requires ready { IsReady table.now seat.old }
-    ensures ready { IsReady table.now seat.new }
-{
-    match row.split_once(' ') {
-        Some(("1", words)) => {
+        if let Some(words) = row.strip_prefix("1 ") {
             page.begin_row(row);
-            answer_words(page, tries, table, seat, words);
+            let answered = retry_words(page.alloc(), tries, table, seat, words);
+            page.hear(answered);
             page.end_row();
         }
-        _ => {}
     }
 }
 
-fn answer_words(
-    page: &mut Page,
+fn retry_words<V: Told>(
+    alloc: Global,
     tries: u64,
-    table: &TxTable<u64>,
-    seat: &mut TxSeat<u64>,
+    table: &TxTable<V>,
+    seat: &mut TxSeat<V>,
     words: &str,
-)
-    requires some { 1 ≤ tries }
+) -> Result<Answer<V>, Refusal>
     requires ready { IsReady table.now seat.old }
     ensures ready { IsReady table.now seat.new }
 {
-    match job_of(page.alloc(), words) {
-        Ok(job) => {
-            retry_job(page, tries, table, seat, &job);
-            drop(job);
-        }
-        Err(refusal) => page.fail(refusal),
+    if tries == 0 {
+        return Err(Refusal::NoSuch);
+    }
+    let job = job_of(alloc, words)?;
+    match retry(table, seat, &job, tries, 1, &NoPause) {
+        Ok(receipt) => Ok(Answer::Committed(receipt)),
+        Err(LastAbort::Refused(refusal)) => Err(refusal),
+        Err(LastAbort::GivenUp) => Ok(Answer::Said("given up")),
+        Err(LastAbort::NotStarted) => Ok(Answer::Said("not started")),
     }
 }
 
-fn retry_job(
-    page: &mut Page,
-    tries: u64,
-    table: &TxTable<u64>,
-    seat: &mut TxSeat<u64>,
-    job: &Listed,
+/// Where an allocation failed, here or in a job that was to have no memory, the seat commits a write after it; but not at the limit of the
+/// clock. Other seats may be at work.
+pub fn commit_after<V: Told>(
+    page: &mut Page<V>,
+    table: &TxTable<V>,
+    seat: &mut TxSeat<V>,
+    is_refused: bool,
 )
-    requires some { 1 ≤ tries }
     requires ready { IsReady table.now seat.old }
     ensures ready { IsReady table.now seat.new }
 {
-    match retry(table, seat, job, tries, 1, &NoPause) {
-        Ok(receipt) => page.keep(receipt),
-        Err(LastAbort::Refused(refusal)) => page.refuse(refusal),
-        Err(LastAbort::GivenUp) => page.say("given up"),
-        Err(LastAbort::NotStarted) => page.say("not started"),
+    if is_refused || page.wants_memory() {
+        page.begin_row("after");
+        match retry_words(page.alloc(), TRIES, table, seat, write_of(table)) {
+            Ok(answer) => page.hear(Ok(answer)),
+            Err(Refusal::Exhausted { clock: _ }) => {}
+            Err(refusal) => page.fail(refusal),
+        }
+        page.end_row();
+    }
+}
+
+// A write on the first word, or else on the first collection, whatever its kind.
+fn write_of<V: Told>(table: &TxTable<V>) -> &'static str {
+    if table.words() > 0 {
+        return "runs 1 do write 0 77";
+    }
+    match table.block(0) {
+        Some(block) => match block.kind {
+            Kind::Map => "runs 1 do call 0 put 5 77",
+            Kind::Bag => "runs 1 do call 0 add 5",
+            Kind::Pq => "runs 1 do call 0 insert 5",
+            Kind::Queue => "runs 1 do call 0 enqueue 5",
+        },
+        None => "gives up",
     }
 }

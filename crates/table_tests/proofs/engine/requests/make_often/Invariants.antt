@@ -2,4 +2,4 @@ use Rattle.table_tests.specs.Fit.{IsFit}
 use Rattle.table_tests.proofs.engine.requests.make_often.Given as goal
 
 abbrev pub invariant-times : goal.invariant-times
-invariant-times l = IsFit l.table l.seat
+invariant-times g l = IsFit l.table l.seat

@@ -1,5 +1,0 @@
-use Rattle.table_tests.specs.Fit.{IsFit}
-use Rattle.table_tests.proofs.engine.rows.answer_rows.Given as goal
-
-abbrev pub invariant-rows : goal.invariant-rows
-invariant-rows l = IsFit l.table l.first × IsFit l.table l.second
