@@ -7,7 +7,7 @@ use step_core::{WordAnswer, WordRecord};
 use step_world::{Ended, Trace};
 use tx_engine::{Attempt, Receipt};
 use vac_model::{Action, ActionReply, Ask, Booking, Change, Item, Kind};
-use vacation_core::{Entry, Ordered, VacEvent, VacTrace};
+use vacation_core::{Entry, Ordered, VacTrace};
 use workers::{LastAbort, Served};
 
 pub const REFUSALS: &[Refusal] = &[
@@ -137,11 +137,6 @@ pub const ACTION_REPLIES: [ActionReply; 4] = [
     ActionReply::Found(ITEM),
     ActionReply::Bill(50),
     ActionReply::Absent,
-];
-
-pub const EVENTS_OF_SESSIONS: [VacEvent; 2] = [
-    VacEvent::Start(1, Action::QueryBill(7)),
-    VacEvent::Step(1),
 ];
 
 /// The lines of sessions with a receipt and without.

@@ -1,9 +1,10 @@
 //! Jobs at one seat, and workers that run lists of jobs.
-ghost use Rattle.std.specs.Prelude.{◌≡◌, ◌≤◌, IfOk, length};
+ghost use Rattle.std.specs.Prelude.{◌≡◌, IfOk, length};
 ghost use Rattle.tx_table.specs.Seated.{view};
 ghost use Rattle.tx_engine.specs.Ready.{IsReady};
 
 use crate::rows::ensure;
+use crate::seats::ALL;
 use seq_model::{Call, Memory, Op, Refusal, Reply, Value};
 use std::alloc::Global;
 use std::sync::Wait;
@@ -57,7 +58,7 @@ pub fn call_jobs<R: Threads + Wait + Sync, V: Value + Send + Sync>(
     requires ready { IsReady table.now seat.old }
     ensures ready { IsReady table.now seat.new }
 {
-    if seat.shares() < 2 {
+    if seat.shares() != ALL {
         return Err(Refusal::NoSuch);
     }
     let report = run(rt, table, seat, lists(alloc)?);
@@ -84,7 +85,7 @@ fn run<R: Threads + Wait + Sync, V: Value + Send + Sync, J: Job<V> + Drop + Send
     lists: Vec<Vec<J>>,
 ) -> Result<Report<V>, Memory>
     requires ready { IsReady table.now seat.old }
-    requires shares { 2 ≤ (view seat.old.seat).shares }
+    requires shares { (view seat.old.seat).shares ≡ 64 }
     requires lists { length lists.items ≡ 2 }
     ensures ready { IsReady table.now seat.new }
 {

@@ -1,7 +1,6 @@
 //! Reservations: the tables, sessions of many clients, of one client, and of workers.
 ghost use Rattle.vac_model.specs.Balanced.{IsBalanced};
 
-use crate::names::EVENTS_OF_SESSIONS;
 use crate::parallel::Unheld;
 use crate::rows::ensure;
 use seq_model::Refusal;
@@ -10,7 +9,7 @@ use std::alloc::Global;
 use std::sync::Wait;
 use std::thread::Threads;
 use vac_model::{Action, Each, Kind, Queue, Tables};
-use vacation_core::{Session, VacWorld, run_in_order, state_of, tables_of};
+use vacation_core::{Session, VacEvent, VacWorld, run_in_order, state_of, tables_of};
 use workers::serve;
 
 const STRIPES: u32 = 64;
@@ -20,6 +19,9 @@ const TRIES: u64 = 1_000;
 
 /// Car 1 with one unit at 50, which customer 7 books.
 const SESSIONS: &[u8] = b"have car 1 1 50\nreserve 7 car 1\n";
+
+/// A session that is only begun.
+const EVENTS: [VacEvent; 2] = [VacEvent::Start(1, Action::QueryBill(7)), VacEvent::Step(1)];
 
 pub fn call<R: Threads + Wait + Sync>(rt: &R, alloc: Global) -> Result<(), Refusal> {
     let (mut tables, actions) = parse_sessions(alloc, SESSIONS)?;
@@ -81,7 +83,7 @@ fn call_runs(alloc: Global) -> Result<(), Refusal> {
     drop(actions);
     let (tables, actions) = parse_sessions(alloc, SESSIONS)?;
     drop(actions);
-    let run = VacWorld::run(alloc, tables, STRIPES, &EVENTS_OF_SESSIONS).is_ok();
+    let run = VacWorld::run(alloc, tables, STRIPES, &EVENTS).is_ok();
     ensure(ordered && run)
 }
 

@@ -1,5 +1,5 @@
 //! The shared table, its seats, and transactions that borrow one.
-ghost use Rattle.std.specs.Prelude.{◌<◌};
+ghost use Rattle.std.specs.Prelude.{◌<◌, IfOk};
 ghost use Rattle.tx_engine.specs.Ready.{IsReady};
 
 use crate::parallel::call_jobs;
@@ -16,11 +16,18 @@ use tx_table::{Block, Closed, TxTable};
 const HALF: u64 = 32;
 
 /// The shares of a table.
-const ALL: u64 = 64;
+pub const ALL: u64 = 64;
+
+/// The table with the word 7 and a collection of each kind, and its first seat.
+fn open(alloc: Global) -> Result<(TxTable<u64>, TxSeat<u64>), Refusal>
+    ensures { IfOk result (λ opened. IsReady opened.0 opened.1) }
+{
+    let shape = shape(alloc)?;
+    TxTable::open(alloc, &shape, state(alloc)?)
+}
 
 pub fn call<R: Threads + Wait + Sync>(rt: &R, alloc: Global) -> Result<(), Refusal> {
-    let shape = shape(alloc)?;
-    let (table, mut seat) = TxTable::open(alloc, &shape, state(alloc)?)?;
+    let (table, mut seat) = open(alloc)?;
     let called = call_table(&table, &mut seat, 21);
     let run = call_jobs(rt, alloc, &table, &mut seat);
     let ended = call_end(table, seat);
