@@ -90,38 +90,23 @@ fn lay_out_reversed<V: Number>(
     })
 }
 
-fn lay_out_twice<V: Number>(alloc: Global, layout: &mut Layout<V>) -> Result<Handles<V>, Refusal> {
-    lay_out(alloc, layout)?;
-    lay_out(alloc, layout)
-}
-
-/// How a layout is laid out.
-#[derive(Clone, Copy)]
-enum Order {
-    Own,
-    Reversed,
-    Twice,
-}
-
-/// Handles of a store of this number, which is never opened.
-fn handles_of<V: Number>(alloc: Global, number: u32, order: Order) -> Result<Handles<V>, Refusal> {
-    let mut layout = Layout::numbered(alloc, number);
-    let handles = match order {
-        Order::Own => lay_out(alloc, &mut layout),
-        Order::Reversed => lay_out_reversed(alloc, &mut layout),
-        Order::Twice => lay_out_twice(alloc, &mut layout),
-    };
-    drop(layout);
-    handles
-}
-
-/// All handles for a store of this number.
+/// All handles for a store of this number. Those beyond its layout are of one that goes on where the store's own ends.
 pub fn all_of<V: Number>(alloc: Global, number: u32) -> Result<All<V>, Refusal> {
+    let mut layout = Layout::numbered(alloc, number);
+    let own = lay_out(alloc, &mut layout);
+    let beyond = lay_out(alloc, &mut layout);
+    drop(layout);
+    let mut layout = Layout::numbered(alloc, number.saturating_add(1));
+    let other = lay_out(alloc, &mut layout);
+    drop(layout);
+    let mut layout = Layout::numbered(alloc, number);
+    let reversed = lay_out_reversed(alloc, &mut layout);
+    drop(layout);
     Ok(All {
-        own: handles_of(alloc, number, Order::Own)?,
-        other: handles_of(alloc, number.saturating_add(1), Order::Own)?,
-        beyond: handles_of(alloc, number, Order::Twice)?,
-        reversed: handles_of(alloc, number, Order::Reversed)?,
+        own: own?,
+        other: other?,
+        beyond: beyond?,
+        reversed: reversed?,
     })
 }
 

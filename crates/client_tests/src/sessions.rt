@@ -26,27 +26,18 @@ impl<V: Number> Session<V> for Guest<'_, V> {
 
     fn serve<S: Scope<V>>(self, client: &mut Client<'_, V, S>) -> Result<String, AllocError> {
         let mut text = String::new(self.alloc);
-        self.serve_all(&mut text, client)?;
+        for part in self.parts.split(" / ") {
+            let before = text.len();
+            self.serve_part(&mut text, client, part)?;
+            if text.len() > before {
+                text.push_str(" / ")?;
+            }
+        }
         Ok(text)
     }
 }
 
 impl<V: Number> Guest<'_, V> {
-    fn serve_all<S: Scope<V>>(
-        &self,
-        text: &mut String,
-        client: &mut Client<'_, V, S>,
-    ) -> Result<(), AllocError> {
-        for part in self.parts.split(" / ") {
-            let before = text.len();
-            self.serve_part(text, client, part)?;
-            if text.len() > before {
-                text.push_str(" / ")?;
-            }
-        }
-        Ok(())
-    }
-
     fn serve_part<S: Scope<V>>(
         &self,
         text: &mut String,
@@ -85,20 +76,18 @@ impl<V: Number> Guest<'_, V> {
         waited: &str,
     ) -> Result<(), AllocError> {
         let (number, step) = waited.split_once(' ').unwrap_or((waited, ""));
+        let number = number_of(number);
         for _ in 0..LOOKS {
-            if self.shows(client, step, number_of(number)) {
+            let shown = match self.ran(client, "look", step) {
+                Ok((replies, _, _)) => number_of(replies.trim()),
+                Err(_) => 0,
+            };
+            if shown >= number {
                 return Ok(());
             }
             yield_now();
         }
         text.push_str("waited in vain")
-    }
-
-    fn shows<S: Scope<V>>(&self, client: &mut Client<'_, V, S>, step: &str, number: u64) -> bool {
-        match self.ran(client, "look", step) {
-            Ok((replies, _, _)) => number_of(replies.trim()) >= number,
-            Err(_) => false,
-        }
     }
 }
 

@@ -25,54 +25,62 @@ pub fn laws() {
 }
 
 fn call_map(alloc: Global) -> Result<(), Refusal> {
-    let mut base = MapBase::<u64>::new(alloc, STRIPES)?;
-    base.prepare(&[])?;
+    let new = MapBase::<u64>::new(alloc, STRIPES).is_ok();
+    let mut base = MapBase::open(alloc, STRIPES, held_of_one(alloc, Kind::Map)?)?;
+    let prepared = base.prepare(&[]).is_ok();
     base.replay(Vec::new(alloc), &LocSet::empty(alloc));
     let _ = base.edition(1);
-    drop(base.held()?);
-    drop(base.try_copy()?);
-    let base = MapBase::open(alloc, STRIPES, held_of_one(alloc, Kind::Map)?)?;
-    call_trait(&base, &Op::Put(2, 21))
+    let held = base.held().is_ok();
+    let copied = base.try_copy().is_ok();
+    let called = call_trait(&base, &Op::Put(2, 21));
+    drop(base);
+    ensure(new && prepared && held && copied && called.is_ok())
 }
 
 fn call_bag(alloc: Global) -> Result<(), Refusal> {
-    let mut base = BagBase::new(alloc, STRIPES)?;
-    base.prepare::<u64>(&[])?;
+    let new = BagBase::new(alloc, STRIPES).is_ok();
+    let mut base = BagBase::open(alloc, STRIPES, held_of_one(alloc, Kind::Bag)?)?;
+    let prepared = base.prepare::<u64>(&[]).is_ok();
     base.replay::<u64>(Vec::new(alloc), &LocSet::empty(alloc));
     let _ = base.edition(1);
-    drop(base.held::<u64>()?);
-    drop(base.try_copy()?);
-    let base = BagBase::open(alloc, STRIPES, held_of_one(alloc, Kind::Bag)?)?;
-    call_trait(&base, &Op::Add(5))
+    let held = base.held::<u64>().is_ok();
+    let copied = base.try_copy().is_ok();
+    let called = call_trait(&base, &Op::Add(5));
+    drop(base);
+    ensure(new && prepared && held && copied && called.is_ok())
 }
 
 fn call_pq(alloc: Global) -> Result<(), Refusal> {
-    let mut base = PqBase::new(alloc, STRIPES)?;
-    base.prepare::<u64>(&[])?;
+    let new = PqBase::new(alloc, STRIPES).is_ok();
+    let mut base = PqBase::open(alloc, STRIPES, held_of_one(alloc, Kind::Pq)?)?;
+    let prepared = base.prepare::<u64>(&[]).is_ok();
     base.replay::<u64>(Vec::new(alloc), &LocSet::empty(alloc));
     let _ = base.edition(2);
-    drop(base.held::<u64>()?);
-    drop(base.try_copy()?);
-    let base = PqBase::open(alloc, STRIPES, held_of_one(alloc, Kind::Pq)?)?;
-    call_trait(&base, &Op::Insert(9))
+    let held = base.held::<u64>().is_ok();
+    let copied = base.try_copy().is_ok();
+    let called = call_trait(&base, &Op::Insert(9));
+    drop(base);
+    ensure(new && prepared && held && copied && called.is_ok())
 }
 
 fn call_queue(alloc: Global) -> Result<(), Refusal> {
-    let mut base = QueueBase::new(alloc, STRIPES)?;
-    base.prepare::<u64>(&[])?;
+    let new = QueueBase::new(alloc, STRIPES).is_ok();
+    let mut base = QueueBase::open(alloc, STRIPES, held_of_one(alloc, Kind::Queue)?)?;
+    let prepared = base.prepare::<u64>(&[]).is_ok();
     base.replay::<u64>(Vec::new(alloc), &LocSet::empty(alloc));
     let _ = base.edition(3);
-    drop(base.held::<u64>()?);
-    drop(base.try_copy()?);
-    let base = QueueBase::open(alloc, STRIPES, held_of_one(alloc, Kind::Queue)?)?;
-    call_trait(&base, &Op::Enqueue(9))
+    let held = base.held::<u64>().is_ok();
+    let copied = base.try_copy().is_ok();
+    let called = call_trait(&base, &Op::Enqueue(9));
+    drop(base);
+    ensure(new && prepared && held && copied && called.is_ok())
 }
 
 // It reads what it writes, so it conflicts with itself.
 fn call_trait<C: Conflict<u64>>(base: &C, op: &Op<u64>) -> Result<(), Refusal> {
     let outcome = base.outcome(op)?;
-    drop(base.changes(&outcome)?);
+    let changes = base.changes(&outcome).is_ok();
     let reads = base.reads(&outcome)?;
     let writes = base.writes(&outcome)?;
-    ensure(conflicts(&reads, &writes, &reads, &writes))
+    ensure(changes && conflicts(&reads, &writes, &reads, &writes))
 }

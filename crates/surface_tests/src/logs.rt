@@ -1,7 +1,7 @@
 //! Logs, copies of whole collections and of single keys, and replays.
-use crate::rows::held_of_one;
+use crate::rows::{ensure, held_of_one};
 use conflict::{Change, LocSet};
-use replay_log::{Base, Log, Touch, Touched};
+use replay_log::{Base, Log};
 use seq_model::{Kind, Memory, Op, Refusal};
 use shadow::{Memo, Shadow};
 use std::alloc::Global;
@@ -9,13 +9,16 @@ use std::alloc::Global;
 const STRIPES: u32 = 2;
 
 pub fn call(alloc: Global) -> Result<(), Refusal> {
-    drop(Base::<u64>::new(alloc, STRIPES, Kind::Map)?);
+    let new = Base::<u64>::new(alloc, STRIPES, Kind::Map).is_ok();
     let mut base = Base::open(alloc, STRIPES, held_of_one(alloc, Kind::Map)?)?;
-    call_base(alloc, &mut base)?;
-    call_shadow(alloc, &base)?;
-    call_memo(alloc, &base)?;
-    push_all(alloc)?;
-    Ok(())
+    let replayed = call_base(alloc, &mut base).is_ok();
+    let copied = call_shadow(alloc, &base).is_ok();
+    let noted = call_memo(alloc, &base).is_ok();
+    drop(base);
+    let mut log = Log::new(alloc);
+    let pushed = push_all(&mut log, &LocSet::single(alloc, 1)).is_ok();
+    drop(log);
+    ensure(new && replayed && copied && noted && pushed)
 }
 
 fn call_base(alloc: Global, base: &mut Base<u64>) -> Result<(), Refusal> {
@@ -25,24 +28,22 @@ fn call_base(alloc: Global, base: &mut Base<u64>) -> Result<(), Refusal> {
     base.prepare(log.changes())?;
     log.fold_into(base);
     let outcome = base.outcome(&Op::Put(2, 21))?;
-    drop(base.reads(&outcome)?);
-    drop(base.writes(&outcome)?);
-    drop(base.changes(&outcome)?);
-    drop(base.held()?);
-    Ok(())
+    let reads = base.reads(&outcome).is_ok();
+    let writes = base.writes(&outcome).is_ok();
+    let changes = base.changes(&outcome).is_ok();
+    let held = base.held().is_ok();
+    ensure(reads && writes && changes && held)
 }
 
-fn push_all(alloc: Global) -> Result<(), Memory> {
-    let at = LocSet::single(alloc, 1);
-    let mut log = Log::<u64>::new(alloc);
+fn push_all(log: &mut Log<u64>, at: &LocSet) -> Result<(), Memory> {
     log.reserve(7)?;
-    log.push(Change::Put(1, 10), &at)?;
-    log.push(Change::Remove(1), &at)?;
-    log.push(Change::Add(5), &at)?;
-    log.push(Change::Take(5), &at)?;
-    log.push(Change::SetLeast(None), &at)?;
-    log.push(Change::Enqueue(0, 8), &at)?;
-    log.push(Change::Dequeue(0), &at)
+    log.push(Change::Put(1, 10), at)?;
+    log.push(Change::Remove(1), at)?;
+    log.push(Change::Add(5), at)?;
+    log.push(Change::Take(5), at)?;
+    log.push(Change::SetLeast(None), at)?;
+    log.push(Change::Enqueue(0, 8), at)?;
+    log.push(Change::Dequeue(0), at)
 }
 
 fn call_shadow(alloc: Global, base: &Base<u64>) -> Result<(), Refusal> {
@@ -64,11 +65,4 @@ fn call_memo(alloc: Global, base: &Base<u64>) -> Result<(), Refusal> {
     memo.accept(outcome);
     drop(memo.log());
     Ok(())
-}
-
-/// What is touched of a map, a multiset and a map's keys.
-pub fn touched(touch: Touch<u64>) -> (Touched<u64>, Touched<u64>) {
-    let Touch { editions, held } = touch;
-    drop(editions);
-    (held, Touched::Copies(5, 1))
 }

@@ -45,8 +45,7 @@ fn call_all<R: Threads + Wait + Sync>(rt: &R, alloc: Global) -> Result<(), Refus
     bases::call(alloc)?;
     logs::call(alloc)?;
     worlds::call(alloc)?;
-    seats::call(alloc)?;
-    parallel::call(rt, alloc)?;
+    seats::call(rt, alloc)?;
     reservations::call(rt, alloc)?;
     texts::call(alloc)
 }

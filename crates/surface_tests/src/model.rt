@@ -1,45 +1,84 @@
 //! The sequential model, and the audit.
 use crate::rows::{ensure, state};
-use seq_model::{Call, Items, Memory, Op, Record, Refusal, Reply, State, Value, audit};
+use seq_model::{Call, Op, Refusal, Value, audit};
 use std::alloc::Global;
 
+/// Each call once: of the word, the map, the multiset, the priority queue and the queue.
+const CALLS: &[Call<u64>] = &[
+    Call {
+        target: 0,
+        op: Op::Read,
+    },
+    Call {
+        target: 0,
+        op: Op::Write(6),
+    },
+    Call {
+        target: 0,
+        op: Op::Get(2),
+    },
+    Call {
+        target: 0,
+        op: Op::Put(3, 30),
+    },
+    Call {
+        target: 0,
+        op: Op::Remove(2),
+    },
+    Call {
+        target: 0,
+        op: Op::Len,
+    },
+    Call {
+        target: 1,
+        op: Op::Count(5),
+    },
+    Call {
+        target: 1,
+        op: Op::Add(5),
+    },
+    Call {
+        target: 1,
+        op: Op::Take(6),
+    },
+    Call {
+        target: 2,
+        op: Op::Least,
+    },
+    Call {
+        target: 2,
+        op: Op::Insert(4),
+    },
+    Call {
+        target: 2,
+        op: Op::TakeLeast,
+    },
+    Call {
+        target: 3,
+        op: Op::Enqueue(9),
+    },
+    Call {
+        target: 3,
+        op: Op::Dequeue,
+    },
+    Call {
+        target: 3,
+        op: Op::Peek,
+    },
+    Call {
+        target: 3,
+        op: Op::Len,
+    },
+];
+
 pub fn call(alloc: Global) -> Result<(), Refusal> {
-    ensure(7u64.try_copy()?.same(&7))?;
     let mut state = state(alloc)?;
-    apply_all(&mut state)?;
-    ensure(state.words.len() == 1 && state.held.len() == 4)?;
-    ensure(audit(alloc, &state, &[], &state).is_ok())
-}
-
-fn apply_all(state: &mut State<u64>) -> Result<(), Refusal> {
-    apply(state, 0, Op::Read)?;
-    apply(state, 0, Op::Write(6))?;
-    apply(state, 0, Op::Get(2))?;
-    apply(state, 0, Op::Put(3, 30))?;
-    apply(state, 0, Op::Remove(2))?;
-    apply(state, 0, Op::Len)?;
-    apply(state, 1, Op::Count(5))?;
-    apply(state, 1, Op::Add(5))?;
-    apply(state, 1, Op::Take(6))?;
-    apply(state, 2, Op::Least)?;
-    apply(state, 2, Op::Insert(4))?;
-    apply(state, 2, Op::TakeLeast)?;
-    apply(state, 3, Op::Enqueue(9))?;
-    apply(state, 3, Op::Dequeue)?;
-    apply(state, 3, Op::Peek)?;
-    apply(state, 3, Op::Len)
-}
-
-fn apply(state: &mut State<u64>, target: u32, op: Op<u64>) -> Result<(), Refusal> {
-    drop(state.apply(&Call { target, op })?);
-    Ok(())
-}
-
-/// A transaction of one call.
-pub fn record(alloc: Global, call: Call<u64>, reply: Reply<u64>) -> Result<Record<u64>, Memory> {
-    Ok(Record {
-        number: 1,
-        writes: true,
-        calls: Items::from_vec(vec![in alloc; (call, reply)]?),
-    })
+    let mut applied = true;
+    for call in CALLS {
+        applied &= state.apply(call).is_ok();
+    }
+    let held = state.words.len() == 1 && state.held.len() == 4;
+    let audited = audit(alloc, &state, &[], &state).is_ok();
+    drop(state);
+    ensure(held && audited && applied && 7u64.try_copy()?.same(&7))
 }

@@ -4,7 +4,7 @@ ghost use Rattle.tx_table.specs.Seated.{view};
 ghost use Rattle.tx_engine.specs.Ready.{IsReady};
 
 use crate::rows::ensure;
-use crate::seats::open;
+use crate::seats::ALL;
 use seq_model::{Call, Memory, Op, Refusal, Reply, Value};
 use std::alloc::Global;
 use std::sync::Wait;
@@ -48,20 +48,19 @@ impl Pause for Unheld {
     fn after_receipt(&self, _worker: u64, _number: u64) {}
 }
 
-pub fn call<R: Threads + Wait + Sync>(rt: &R, alloc: Global) -> Result<(), Refusal> {
-    let (table, mut seat) = open(alloc)?;
-    call_at(rt, alloc, &table, &mut seat)
-}
-
-fn call_at<R: Threads + Wait + Sync, V: Value + Send + Sync>(
+/// Two workers run a job each, and then a job that gives up is attempted.
+pub fn call_jobs<R: Threads + Wait + Sync, V: Value + Send + Sync>(
     rt: &R,
     alloc: Global,
     table: &TxTable<V>,
     seat: &mut TxSeat<V>,
 ) -> Result<(), Refusal>
     requires ready { IsReady table.now seat.old }
-    requires shares { (view seat.old.seat).shares ≡ 64 }
+    ensures ready { IsReady table.now seat.new }
 {
+    if seat.shares() != ALL {
+        return Err(Refusal::NoSuch);
+    }
     let report = run(rt, table, seat, lists(alloc)?);
     let none = Write0 { number: None };
     let attempted = attempt(table, seat, &none).is_ok();

@@ -1,71 +1,51 @@
 //! Reservations: the tables, sessions of many clients, of one client, and of workers.
-ghost use Rattle.std.specs.Prelude.{◌≡◌, IfOk, length};
 ghost use Rattle.vac_model.specs.Balanced.{IsBalanced};
 
 use crate::parallel::Unheld;
 use crate::rows::ensure;
-use seq_model::{Items, Memory, Refusal};
+use seq_model::Refusal;
 use session_text::parse_sessions;
 use std::alloc::Global;
 use std::sync::Wait;
 use std::thread::Threads;
-use vac_model::{Action, ActionReply, Ask, Booking, Change, Each, Item, Kind, Queue, Tables};
-use vacation_core::{
-    Entry, Ordered, Session, VacEvent, VacTrace, VacWorld, run_in_order, state_of, tables_of,
-};
-use workers::{Served, serve};
+use vac_model::{Action, Each, Kind, Queue, Tables};
+use vacation_core::{Session, VacEvent, VacWorld, run_in_order, state_of, tables_of};
+use workers::serve;
 
 const STRIPES: u32 = 64;
 
 /// How often a session is attempted at most.
 const TRIES: u64 = 1_000;
 
+/// Car 1 with one unit at 50, which customer 7 books.
+const SESSIONS: &[u8] = b"have car 1 1 50\nreserve 7 car 1\n";
+
+/// A session that is only begun.
+const EVENTS: [VacEvent; 2] = [VacEvent::Start(1, Action::QueryBill(7)), VacEvent::Step(1)];
+
 pub fn call<R: Threads + Wait + Sync>(rt: &R, alloc: Global) -> Result<(), Refusal> {
-    call_tables(alloc)?;
-    call_state(alloc)?;
+    let (mut tables, actions) = parse_sessions(alloc, SESSIONS)?;
+    let called = call_tables(alloc, &mut tables, actions.as_slice());
+    drop(tables);
+    drop(actions);
+    called?;
+    call_new(alloc)?;
     call_runs(alloc)?;
     call_served(rt, alloc)
 }
 
-// Car 1 with one unit at 50.
-fn tables(alloc: Global) -> Result<Tables, Refusal>
-    ensures { IfOk result (λ tables. IsBalanced tables) }
+fn call_tables(alloc: Global, tables: &mut Tables, actions: &[Action]) -> Result<(), Refusal>
+    requires { IsBalanced tables.old }
 {
-    let (tables, actions) = parse_sessions(alloc, b"have car 1 1 50\n")?;
-    drop(actions);
-    Ok(tables)
-}
-
-fn reserve(alloc: Global, customer: u64) -> Result<Action, Memory> {
-    let car = Ask {
-        kind: Kind::Car,
-        id: 1,
+    let Some(action) = actions.first() else {
+        return Err(Refusal::NoSuch);
     };
-    Ok(Action::Reserve(customer, 1, Items::from_vec(vec![in alloc; car]?)))
-}
-
-fn call_tables(alloc: Global) -> Result<(), Refusal> {
-    let mut tables = tables(alloc)?;
-    let action = reserve(alloc, 7)?;
-    let acted = tables.act(&action).is_ok();
-    ensure(acted && is_read(&tables))?;
-    drop(Tables::new(alloc));
-    let waiting = Each {
-        car: Queue::new(alloc),
-        flight: Queue::new(alloc),
-        room: Queue::new(alloc),
-    };
-    drop(Tables::of_parts(
-        alloc,
-        Vec::new(alloc),
-        Vec::new(alloc),
-        Vec::new(alloc),
-        Vec::new(alloc),
-        Vec::new(alloc),
-        waiting,
-        3,
-    )?);
-    Ok(())
+    let acted = tables.act(action).is_ok();
+    let session = Session::new(alloc, action).is_ok();
+    let state = state_of(alloc, tables)?;
+    let same = tables_of(alloc, &state).is_ok();
+    drop(state);
+    ensure(acted && session && same && is_read(tables))
 }
 
 fn is_read(tables: &Tables) -> bool {
@@ -77,89 +57,39 @@ fn is_read(tables: &Tables) -> bool {
     tables.balanced() && cars == 1 && customers == 1 && tickets == 0 && waiting == 0 && next == 0
 }
 
-fn call_state(alloc: Global) -> Result<(), Refusal> {
-    let tables = tables(alloc)?;
-    let state = state_of(alloc, &tables)?;
-    drop(tables_of(alloc, &state)?);
-    let action = reserve(alloc, 7)?;
-    drop(Session::new(alloc, &action)?);
-    Ok(())
+fn call_new(alloc: Global) -> Result<(), Refusal> {
+    drop(Tables::new(alloc));
+    let waiting = Each {
+        car: Queue::new(alloc),
+        flight: Queue::new(alloc),
+        room: Queue::new(alloc),
+    };
+    let made = Tables::of_parts(
+        alloc,
+        Vec::new(alloc),
+        Vec::new(alloc),
+        Vec::new(alloc),
+        Vec::new(alloc),
+        Vec::new(alloc),
+        waiting,
+        3,
+    );
+    ensure(made.is_ok())
 }
 
 fn call_runs(alloc: Global) -> Result<(), Refusal> {
-    let events = vec![in alloc; VacEvent::Start(1, reserve(alloc, 7)?), VacEvent::Step(1)]?;
-    drop(VacWorld::run(alloc, tables(alloc)?, STRIPES, events.as_slice())?);
-    let actions = vec![in alloc; reserve(alloc, 7)?]?;
-    drop(run_in_order(alloc, tables(alloc)?, STRIPES, actions.as_slice())?);
-    Ok(())
-}
-
-fn lists(alloc: Global) -> Result<Vec<Vec<Action>>, Memory>
-    ensures { IfOk result (λ lists. length lists.items ≡ 1) }
-{
-    let list = vec![in alloc; reserve(alloc, 7)?]?;
-    Ok(vec![in alloc; list]?)
+    let (tables, actions) = parse_sessions(alloc, SESSIONS)?;
+    let ordered = run_in_order(alloc, tables, STRIPES, actions.as_slice()).is_ok();
+    drop(actions);
+    let (tables, actions) = parse_sessions(alloc, SESSIONS)?;
+    drop(actions);
+    let run = VacWorld::run(alloc, tables, STRIPES, &EVENTS).is_ok();
+    ensure(ordered && run)
 }
 
 fn call_served<R: Threads + Wait + Sync>(rt: &R, alloc: Global) -> Result<(), Refusal> {
-    let lists = lists(alloc)?;
-    drop(serve(rt, alloc, tables(alloc)?, STRIPES, lists, TRIES, &Unheld)?);
+    let (tables, actions) = parse_sessions(alloc, SESSIONS)?;
+    let lists = vec![in alloc; actions]?;
+    drop(serve(rt, alloc, tables, STRIPES, lists, TRIES, &Unheld)?);
     Ok(())
-}
-
-/// The other actions, and changes of an item.
-pub fn actions(
-    customer: u64,
-    item: (Kind, u64),
-    of: Item,
-    changes: Items<Change>,
-) -> ([Action; 4], [Change; 4]) {
-    let (kind, id) = item;
-    let (units, price) = (of.total, of.price);
-    let actions = [
-        Action::Delete(customer),
-        Action::Update(changes),
-        Action::QueryItem(kind, id),
-        Action::QueryBill(customer),
-    ];
-    let changes = [
-        Change::Add(kind, id, units, price),
-        Change::TakeCar(id, units),
-        Change::TakeRoom(id, units),
-        Change::DropFlight(id),
-    ];
-    (actions, changes)
-}
-
-/// A booking of all units of an item, and what actions answer.
-pub fn booked(kind: Kind, id: u64, units: u64, price: u64) -> (Booking, Entry, [ActionReply; 4]) {
-    let booking = Booking {
-        kind,
-        id,
-        units,
-        price,
-    };
-    let item = Item {
-        total: units,
-        used: units,
-        free: 0,
-        price,
-    };
-    let replies = [
-        ActionReply::Deleted(price, units),
-        ActionReply::Found(item),
-        ActionReply::Bill(price),
-        ActionReply::Absent,
-    ];
-    (booking, Entry::Item(item), replies)
-}
-
-/// What runs of sessions have.
-pub fn parts(trace: &VacTrace, ordered: &Ordered, served: &Served) -> [usize; 4] {
-    [
-        trace.done.len(),
-        trace.aborted.len(),
-        ordered.receipts.len(),
-        served.report.missed.len(),
-    ]
 }

@@ -1,12 +1,14 @@
 //! The shared table, its seats, and transactions that borrow one.
-ghost use Rattle.std.specs.Prelude.{◌≡◌, ◌<◌, IfOk};
-ghost use Rattle.tx_table.specs.Seated.{view};
+ghost use Rattle.std.specs.Prelude.{◌<◌, IfOk};
 ghost use Rattle.tx_engine.specs.Ready.{IsReady};
 
+use crate::parallel::call_jobs;
 use crate::rows::{ensure, shape, state};
 use crate::typed::{call_bag, call_map, call_pq, call_queue, call_word};
 use seq_model::{Refusal, Value};
 use std::alloc::Global;
+use std::sync::Wait;
+use std::thread::Threads;
 use tx_engine::{Receipt, TxSeat, begin, begin_read, learn};
 use tx_table::{Block, Closed, TxTable};
 
@@ -14,38 +16,37 @@ use tx_table::{Block, Closed, TxTable};
 const HALF: u64 = 32;
 
 /// The shares of a table.
-const ALL: u64 = 64;
+pub const ALL: u64 = 64;
 
-/// The table with the word 7 and a collection of each kind, and its first seat, which has all shares.
-pub fn open(alloc: Global) -> Result<(TxTable<u64>, TxSeat<u64>), Refusal>
-    ensures ready { IfOk result (λ opened. IsReady opened.0 opened.1) }
-    ensures shares { IfOk result (λ opened. (view opened.1.seat).shares ≡ 64) }
+/// The table with the word 7 and a collection of each kind, and its first seat.
+fn open(alloc: Global) -> Result<(TxTable<u64>, TxSeat<u64>), Refusal>
+    ensures { IfOk result (λ opened. IsReady opened.0 opened.1) }
 {
     let shape = shape(alloc)?;
     TxTable::open(alloc, &shape, state(alloc)?)
 }
 
-pub fn call(alloc: Global) -> Result<(), Refusal> {
+pub fn call<R: Threads + Wait + Sync>(rt: &R, alloc: Global) -> Result<(), Refusal> {
     let (table, mut seat) = open(alloc)?;
     let called = call_table(&table, &mut seat, 21);
+    let run = call_jobs(rt, alloc, &table, &mut seat);
     let ended = call_end(table, seat);
-    called.and(ended)
+    called.and(run).and(ended)
 }
 
 fn call_table<V: Value>(table: &TxTable<V>, seat: &mut TxSeat<V>, value: V) -> Result<(), Refusal>
     requires ready { IsReady table.now seat.old }
-    requires shares { (view seat.old.seat).shares ≡ 64 }
     ensures ready { IsReady table.now seat.new }
 {
+    if seat.shares() != ALL {
+        return Err(Refusal::NoSuch);
+    }
     let mut other = table.split(seat, HALF);
-    let written = write_at(table, &mut other, value);
-    let read = read_at(table, seat);
-    let learnt = learn(table, seat, 1);
+    let written = write_at(table, &mut other, value).is_ok();
+    let read = read_at(table, seat).is_ok();
+    let learnt = learn(table, seat, 1).is_ok();
     let is = other.shares() == HALF && other.last_number() == 1;
     table.join(seat, other);
-    drop(written?);
-    drop(read?);
-    learnt?;
     match table.block(0) {
         Some(
             Block {
@@ -53,7 +54,7 @@ fn call_table<V: Value>(table: &TxTable<V>, seat: &mut TxSeat<V>, value: V) -> R
                 stripes,
                 first,
             },
-        ) => ensure(is && stripes == 2 && first == 1),
+        ) => ensure(written && read && learnt && is && stripes == 2 && first == 1),
         None => Err(Refusal::NoSuch),
     }
 }

@@ -1,12 +1,12 @@
 //! Step scripts, session files and what is drawn: how they are read, and what is printed.
+use crate::names::LINES;
 use crate::rows::ensure;
 use seq_model::Refusal;
 use session_text::{
-    Line, Options, generate, opening, parse_sessions, parse_steps, print_sessions, print_trace,
+    Options, generate, opening, parse_sessions, parse_steps, print_sessions, print_trace,
     run_script,
 };
 use std::alloc::Global;
-use vac_model::ActionReply;
 
 /// What sessions and tables are drawn from.
 const SEED: u64 = 3;
@@ -14,23 +14,20 @@ const SEED: u64 = 3;
 const SCRIPT: &[u8] = b"map 1\n1 do begin\n1 do call 0 put 5 50\n1 do call 0 get 5\n1 do commit\n";
 
 pub fn call(alloc: Global) -> Result<(), Refusal> {
+    call_sessions(alloc)?;
     let script = parse_steps(alloc, SCRIPT)?;
     let run = run_script(alloc, &script)?;
-    drop(print_trace(alloc, &run)?);
+    let printed = print_trace(alloc, &run).is_ok();
     let opened = run.opening.held().len();
-    ensure(run.notices.len() == 4 && opened == 1 && run.trace.records.len() == 1)?;
-    call_sessions(alloc)?;
-    call_draws(alloc)
+    let committed = run.trace.records.len();
+    ensure(printed && run.notices.len() == 4 && opened == 1 && committed == 1)
 }
 
 fn call_sessions(alloc: Global) -> Result<(), Refusal> {
     let (tables, actions) = parse_sessions(alloc, b"have car 1 1 50\ndelete 7\n")?;
     drop(actions);
-    drop(print_sessions(alloc, &[Line::Done(1, ActionReply::Absent)], &tables)?);
-    Ok(())
-}
-
-fn call_draws(alloc: Global) -> Result<(), Refusal> {
+    let printed = print_sessions(alloc, &LINES, &tables).is_ok();
+    drop(tables);
     let options = Options {
         clients: 1,
         queries: 1,
@@ -42,7 +39,7 @@ fn call_draws(alloc: Global) -> Result<(), Refusal> {
     if !options.are_within() || options.clients < 1 {
         return Err(Refusal::TooLong);
     }
-    drop(generate(alloc, SEED, 1, &options)?);
-    drop(opening(alloc, SEED, &options)?);
-    Ok(())
+    let drawn = generate(alloc, SEED, 1, &options).is_ok();
+    let laid_out = opening(alloc, SEED, &options).is_ok();
+    ensure(printed && drawn && laid_out)
 }

@@ -12,13 +12,33 @@ const ACTOR: u32 = 1;
 /// More steps than a request here has.
 const STEPS: u32 = 100;
 
+const REQUESTS: [WordRequest; 13] = [
+    WordRequest::Begin,
+    WordRequest::Read(0),
+    WordRequest::Write(1, 9),
+    WordRequest::Lock,
+    WordRequest::Store,
+    WordRequest::Release,
+    WordRequest::BeginRead,
+    WordRequest::Close,
+    WordRequest::Begin,
+    WordRequest::Write(0, 1),
+    WordRequest::Lock,
+    WordRequest::Cancel,
+    WordRequest::Abort,
+];
+
 pub fn call(alloc: Global) -> Result<(), Refusal> {
     let word = LockWord::read(LockWord::locked(7).bits());
-    ensure(word.is_locked() && word.version() == 7 && LockWord::free(7).usable(7))?;
-    ensure(call_set(&mut ReadSet::new(alloc)).is_ok())?;
-    ensure(call_set(&mut WriteSet::new(alloc)).is_ok())?;
+    let is = word.is_locked() && word.version() == 7 && LockWord::free(7).usable(7);
+    let read = call_set(&mut ReadSet::new(alloc)).is_ok();
+    let written = call_set(&mut WriteSet::new(alloc)).is_ok();
     match Words::new(alloc, 0, vec![in alloc; 5, 6]?) {
-        Ok(mut words) => ensure(ask_all(&mut words).is_ok()),
+        Ok(mut words) => {
+            let asked = ask_all(&mut words).is_ok();
+            drop(words);
+            ensure(is && read && written && asked)
+        }
         Err(_) => Err(Refusal::Memory),
     }
 }
@@ -33,32 +53,16 @@ fn call_set<Role>(set: &mut AccessSet<Role>) -> Result<(), SetRefusal> {
 }
 
 fn ask_all(words: &mut Words) -> Result<(), WordRefusal> {
-    ask(words, WordRequest::Begin)?;
-    ask(words, WordRequest::Read(0))?;
-    ask(words, WordRequest::Write(1, 9))?;
-    ask(words, WordRequest::Lock)?;
-    ask(words, WordRequest::Store)?;
-    ask(words, WordRequest::Release)?;
-    ask(words, WordRequest::BeginRead)?;
-    ask(words, WordRequest::Close)?;
-    ask(words, WordRequest::Begin)?;
-    ask(words, WordRequest::Write(0, 1))?;
-    ask(words, WordRequest::Lock)?;
-    ask(words, WordRequest::Cancel)?;
-    ask(words, WordRequest::Abort)?;
+    for request in &REQUESTS {
+        let mut answer = words.ask(ACTOR, *request)?;
+        for _ in 0..STEPS {
+            if answer.is_none() {
+                answer = words.step(ACTOR)?;
+            }
+        }
+    }
     let _ = words.is_declared(ACTOR);
     let _ = words.snapshot(ACTOR);
     let _ = words.history();
-    Ok(())
-}
-
-fn ask(words: &mut Words, request: WordRequest) -> Result<(), WordRefusal> {
-    let mut answer = words.ask(ACTOR, request)?;
-    for _ in 0..STEPS {
-        if answer.is_some() {
-            return Ok(());
-        }
-        answer = words.step(ACTOR)?;
-    }
     Ok(())
 }

@@ -1,17 +1,21 @@
 //! A world on one thread.
+use crate::names::EVENTS;
 use crate::rows::{ensure, shape, state};
 use seq_model::{Call, Memory, Op, Refusal};
 use std::alloc::Global;
-use step_world::{Ended, Event, Request, Trace, World, run_world};
+use step_world::{Event, Request, World, run_world};
 
 /// More steps than a request here has.
 const STEPS: u32 = 30;
 
 pub fn call(alloc: Global) -> Result<(), Refusal> {
     let shape = shape(alloc)?;
-    drop(run_world(alloc, &shape, state(alloc)?, &[Event::Step(1)])?);
+    let run = run_world(alloc, &shape, state(alloc)?, EVENTS).is_ok();
     let mut world = World::open(alloc, &shape, state(alloc)?)?;
-    feed_all(&mut world)
+    let fed = feed_all(&mut world);
+    drop(world);
+    drop(shape);
+    fed.and(ensure(run))
 }
 
 fn feed_all(world: &mut World<u64>) -> Result<(), Refusal> {
@@ -33,26 +37,4 @@ fn ask(world: &mut World<u64>, request: Request<u64>) -> Result<(), Memory> {
         drop(world.feed(Event::Step(1))?);
     }
     Ok(())
-}
-
-/// The parts of a trace.
-pub fn parts(trace: Trace<u64>, ended: Ended<u64>) -> (u32, u64, Option<Refusal>) {
-    let Trace {
-        records,
-        aborted,
-        state,
-        half,
-    } = trace;
-    drop(records);
-    drop(aborted);
-    drop(state);
-    drop(half);
-    let Ended {
-        actor,
-        rv,
-        calls,
-        cause,
-    } = ended;
-    drop(calls);
-    (actor, rv, cause)
 }
