@@ -10,8 +10,7 @@ mod report;
 mod run;
 mod tree;
 
-pub use tx_engine::retry;
 pub use report::Report;
 pub use run::{run_workers, run_workers_owned};
 pub use seq_model::LastAbort;
-pub use tx_engine::{NoPause, Pause};
+pub use tx_engine::{NoPause, Pause, retry};
