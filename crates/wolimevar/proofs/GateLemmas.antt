@@ -23,7 +23,7 @@ use Rattle.seq_model.proofs.RunLemmas.{answered}
 use Rattle.wolimevar.specs.declared.bags.Bag.{Bag}
 use Rattle.wolimevar.specs.declared.gates.Gates.{Gates}
 use Rattle.wolimevar.specs.declared.maps.Map.{Map}
-use Rattle.wolimevar.specs.Answered.{AreOneCall, BagAnswers, HasMadeMore, IsCallOn, MapAnswers}
+use Rattle.wolimevar.specs.Answered.{AreOneCall, BagAnswers, HasMadeAt, IsCallOn, MapAnswers}
 use Rattle.conflict.specs.Places.{mod_below}
 use Rattle.wolimevar.specs.Gates.{AreSameBeside, LieOver, hash_of, place_of}
 use Rattle.wolimevar.specs.Made.{HasMade, TransactionShown}
@@ -180,18 +180,12 @@ module _ {V X : Type 0} (kind : FinMap nat_cmp X → Held V) (op : Op V) (f : Fi
           })
 
     -- such a call, made where the key is, is one of the whole collection
-    pub one_call : (r : Reply V) → AreOneCall kind (λ m. Some (f m)) g op r ((the_call, r) ∷ [])
-    one_call r = record {
-      one = λ single. ap (λ n. (record { target = n; op = op }, r) ∷ []) (first_there single);
-      means = λ s u lie legal. is_call s u lie r legal.0;
-    }
-      where
-        first_there : g.others ≡ 0 → where_it_is ≡ g.first
-        first_there single = let e = place_of_one g k single in omega (arith, e)
+    pub one_call : (r : Reply V) → AreOneCall kind (λ m. Some (f m)) g r ((the_call, r) ∷ [])
+    one_call r s u lie legal = is_call s u lie r legal.0
 
     pub made_one : (before now : TransactionShown V) (store : ℕ) (r : Reply V) → HasMade before store where_it_is op r now
-        → HasMadeMore (AreOneCall kind (λ m. Some (f m)) g op r) before store now
-    made_one before now store r has = record { own = has.0; more = (the_call, r) ∷ []; made = has.1; are = one_call r }
+        → HasMadeAt kind (λ m. Some (f m)) g k op r before store now
+    made_one before now store r has = record { made = has; means = one_call r }
 
 -- ---- those of a map
 module _ {V : Type 0} (k : ℕ) where
@@ -224,18 +218,18 @@ module _ {V : Type 0} (k : ℕ) where
 
   module _ (before now : TransactionShown V) (m : Map V) (r x : Reply V) (is : r ≡ x) where
     pub map_gets : HasMade before m.store (m.gates.first + place_of m.gates k) (ops.Get k) r now
-        → MapAnswers before m (ops.Get k) x now
-    map_gets has = subst (λ (y : Reply V). MapAnswers before m (ops.Get k) y now) is
+        → MapAnswers before m k (ops.Get k) x now
+    map_gets has = subst (λ (y : Reply V). MapAnswers before m k (ops.Get k) y now) is
         (made_one held.Map (ops.Get k) (λ u. (value_reply (get u k), u)) k at_get m.gates before now m.store r has)
 
     pub map_puts : (v : V) → HasMade before m.store (m.gates.first + place_of m.gates k) (ops.Put k v) r now
-        → MapAnswers before m (ops.Put k v) x now
-    map_puts v has = subst (λ (y : Reply V). MapAnswers before m (ops.Put k v) y now) is
+        → MapAnswers before m k (ops.Put k v) x now
+    map_puts v has = subst (λ (y : Reply V). MapAnswers before m k (ops.Put k v) y now) is
         (made_one held.Map (ops.Put k v) (λ u. (value_reply (get u k), insert u k v)) k (at_put v) m.gates before now m.store r has)
 
     pub map_removes : HasMade before m.store (m.gates.first + place_of m.gates k) (ops.Remove k) r now
-        → MapAnswers before m (ops.Remove k) x now
-    map_removes has = subst (λ (y : Reply V). MapAnswers before m (ops.Remove k) y now) is
+        → MapAnswers before m k (ops.Remove k) x now
+    map_removes has = subst (λ (y : Reply V). MapAnswers before m k (ops.Remove k) y now) is
         (made_one held.Map (ops.Remove k) (λ u. (value_reply (get u k), remove u k)) k at_remove m.gates before now m.store r has)
 
 -- ---- those of a multiset
@@ -357,19 +351,19 @@ module _ {V : Type 0} (k : ℕ) where
   }
 
   module _ (before now : TransactionShown V) (b : Bag) (r x : Reply V) (is : r ≡ x) where
-    pub bag_counts : HasMade before b.store (b.gates.first + place_of b.gates k) (ops.Count k) r now → BagAnswers before b (ops.Count k) x now
-    bag_counts has = subst (λ (y : Reply V). BagAnswers before b (ops.Count k) y now) is
+    pub bag_counts : HasMade before b.store (b.gates.first + place_of b.gates k) (ops.Count k) r now → BagAnswers before b k (ops.Count k) x now
+    bag_counts has = subst (λ (y : Reply V). BagAnswers before b k (ops.Count k) y now) is
         (made_one held.Bag (ops.Count k) (λ m. (replies.Number (copies m k), m)) k at_count b.gates before now b.store r has)
 
-    pub bag_adds : HasMade before b.store (b.gates.first + place_of b.gates k) (ops.Add k) r now → BagAnswers before b (ops.Add k) x now
-    bag_adds has = subst (λ (y : Reply V). BagAnswers before b (ops.Add k) y now) is
-        (subst (λ (call : Multiset → Option (Reply V × Multiset)). HasMadeMore (AreOneCall held.Bag call b.gates (ops.Add k) r) before b.store now)
+    pub bag_adds : HasMade before b.store (b.gates.first + place_of b.gates k) (ops.Add k) r now → BagAnswers before b k (ops.Add k) x now
+    bag_adds has = subst (λ (y : Reply V). BagAnswers before b k (ops.Add k) y now) is
+        (subst (λ (call : Multiset → Option (Reply V × Multiset)). HasMadeAt held.Bag call b.gates k (ops.Add k) r before b.store now)
         (λ i m. Some (sym (added_is m) i))
         (made_one held.Bag (ops.Add k) added k at_add b.gates before now b.store r has))
 
-    pub bag_takes : HasMade before b.store (b.gates.first + place_of b.gates k) (ops.Take k) r now → BagAnswers before b (ops.Take k) x now
-    bag_takes has = subst (λ (y : Reply V). BagAnswers before b (ops.Take k) y now) is
-        (subst (λ (call : Multiset → Option (Reply V × Multiset)). HasMadeMore (AreOneCall held.Bag call b.gates (ops.Take k) r) before b.store now)
+    pub bag_takes : HasMade before b.store (b.gates.first + place_of b.gates k) (ops.Take k) r now → BagAnswers before b k (ops.Take k) x now
+    bag_takes has = subst (λ (y : Reply V). BagAnswers before b k (ops.Take k) y now) is
+        (subst (λ (call : Multiset → Option (Reply V × Multiset)). HasMadeAt held.Bag call b.gates k (ops.Take k) r before b.store now)
         (λ i m. Some (sym (taken_is m) i))
         (made_one held.Bag (ops.Take k) taken k at_take b.gates before now b.store r has))
 

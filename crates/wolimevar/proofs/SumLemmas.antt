@@ -24,7 +24,7 @@ use Rattle.seq_model.proofs.ChangeLemmas.{unchanged}
 use Rattle.seq_model.proofs.RunLemmas.{after_reads}
 use Rattle.wolimevar.specs.declared.gates.Gates.{Gates}
 use Rattle.wolimevar.specs.declared.maps.Map.{Map}
-use Rattle.wolimevar.specs.Answered.{AreOneCall, AreSummed, HasSummed, IsCallOn, MapAnswers, len_calls}
+use Rattle.wolimevar.specs.Answered.{AreOneCall, AreSummed, HasSummed, IsCallOn, MapCounts, len_calls}
 use Rattle.wolimevar.specs.Gates.{LieOver, place_of}
 use Rattle.wolimevar.specs.Made.{HasMade, TransactionShown}
 use Rattle.wolimevar.proofs.GateLemmas.{place_within}
@@ -211,15 +211,6 @@ module _ {V : Type 0} where
       ap (λ o. option_map (λ (r : Reply V × Contents V). r.0) (option_and_then (λ (h : Held V).
       option_map (λ (r : Reply V × Held V). (r.0, record s { held = slice_set s.held c r.1 })) (held_call ops.Len h)) o)) at
 
-  only_one : (counts : List ℕ) (total first : ℕ) → length counts ≡ 1 → total ≡ sum counts
-      → len_calls {V = V} first counts ≡ (record { target = first; op = ops.Len }, replies.Number total) ∷ []
-  only_one [] total first e is = absurd (omega (arith, e))
-  only_one (n ∷ []) total first e is =
-      let one = sum_by-cons (λ y. y) n [] in
-      let same : n ≡ total = omega (arith, one, is) in
-      ap (λ x. (record { target = first; op = ops.Len }, replies.Number x) ∷ []) same
-  only_one (n ∷ (m ∷ ms)) total first e is = absurd (omega (arith, e))
-
   module _ (g : Gates) (total : ℕ) (calls : List (Call V × Reply V)) (are : AreSummed g total calls) where
     total_is : (s : Contents V) (u : FinMap nat_cmp V) → LieOver held.Map g u s.held → IsLegal calls s → total ≡ len u
     total_is s u lie legal =
@@ -230,21 +221,17 @@ module _ {V : Type 0} where
         let all = lens_add_up (place_of g) (g.others + 1) (λ k. let h = place_within g k in omega (arith, h)) u in
         are.is_sum ∙ so ∙ many ∙ all
 
-    pub summed_map : AreOneCall held.Map (map_call ops.Len) g ops.Len (replies.Number total) calls
-    summed_map = record {
-      one = λ single. are.made ∙ only_one are.counts total g.first (omega (arith, single, are.all)) are.is_sum;
-      means = λ s u lie legal.
-          let same : after_calls calls s ≡ s =
-          ap (λ cs. after_calls cs s) are.made ∙ lens_leave g.first are.counts s (subst (λ cs. IsLegal cs s) are.made legal) in
-          subst (IsCallOn held.Map (map_call ops.Len) g u (replies.Number total) s) (sym same) (record {
-            after = u;
-            answers = ap (λ n. Some (replies.Number n, u)) (sym (total_is s u lie legal));
-            lie = lie;
-            same = record { words = refl; others = λ c beside. refl };
-          });
-    }
+    pub summed_map : AreOneCall held.Map (map_call ops.Len) g (replies.Number total) calls
+    summed_map s u lie legal =
+        let same : after_calls calls s ≡ s =
+        ap (λ cs. after_calls cs s) are.made ∙ lens_leave g.first are.counts s (subst (λ cs. IsLegal cs s) are.made legal) in
+        subst (IsCallOn held.Map (map_call ops.Len) g u (replies.Number total) s) (sym same) (record {
+          after = u;
+          answers = ap (λ n. Some (replies.Number n, u)) (sym (total_is s u lie legal));
+          lie = lie;
+          same = record { words = refl; others = λ c beside. refl };
+        })
 
   pub map_len : (before now : TransactionShown V) (m : Map V) (total : ℕ) → HasSummed before m.store m.gates total now
-      → MapAnswers before m ops.Len (replies.Number total) now
-  map_len before now m total has =
-      record { own = has.own; more = has.more; made = has.made; are = summed_map m.gates total has.more has.are }
+      → MapCounts before m total now
+  map_len before now m total has = record { made = has; means = summed_map m.gates total has.more has.are }

@@ -1,4 +1,4 @@
--- What a handle's call is, by what it means for the whole collection, however that lies.
+-- What a handle's call is: the calls of the table that are made for it, and what they mean for the whole collection, however that lies.
 use Rattle.std.specs.Prelude.{◌≡◌, ℕ, ◌+◌, ◌++◌, List, [], ◌∷◌, length, sum, Option, Some}
 use Rattle.std.specs.Ordering.{nat_cmp}
 use Rattle.std.specs.FinMap.{FinMap}
@@ -15,8 +15,8 @@ use Rattle.seq_model.specs.Runs.{IsLegal, after_calls}
 use Rattle.wolimevar.specs.declared.bags.Bag.{Bag}
 use Rattle.wolimevar.specs.declared.gates.Gates.{Gates}
 use Rattle.wolimevar.specs.declared.maps.Map.{Map}
-use Rattle.wolimevar.specs.Gates.{AreSameBeside, LieOver}
-use Rattle.wolimevar.specs.Made.{TransactionShown}
+use Rattle.wolimevar.specs.Gates.{AreSameBeside, LieOver, place_of}
+use Rattle.wolimevar.specs.Made.{HasMade, TransactionShown}
 
 module _ {V : Type 0} where
   -- A handle of a store with this number is one of the transaction's store, and the transaction has made calls more, of which this holds.
@@ -51,15 +51,24 @@ module _ {V : Type 0} where
       pub lie : LieOver kind g after t.held
       pub same : AreSameBeside g s t
 
-    -- These calls are one call of the whole collection: wherever they have these replies, it has this one. Over one gate it is just one.
-    pub record AreOneCall (op : Op V) (reply : Reply V) (calls : List (Call V × Reply V)) : Type 0 where
-      pub one : g.others ≡ 0 → calls ≡ (record { target = g.first; op = op }, reply) ∷ []
-      pub means : (s : Contents V) (u : FinMap nat_cmp X) → LieOver kind g u s.held → IsLegal calls s
-          → IsCallOn u reply s (after_calls calls s)
+    -- These calls are one call of the whole collection: wherever they have these replies, it has this one.
+    abbrev pub AreOneCall : Reply V → List (Call V × Reply V) → Type 0
+    AreOneCall reply calls = (s : Contents V) (u : FinMap nat_cmp X) → LieOver kind g u s.held → IsLegal calls s
+        → IsCallOn u reply s (after_calls calls s)
 
-  -- the call of a map, or of a multiset, has this reply
-  abbrev pub MapAnswers : TransactionShown V → Map V → Op V → Reply V → TransactionShown V → Type 0
-  MapAnswers before m op reply now = HasMadeMore (AreOneCall held.Map (map_call op) m.gates op reply) before m.store now
+    -- The transaction has made just this call more, on the one of the collections that has the key. It is one call of the whole collection.
+    pub record HasMadeAt (key : ℕ) (op : Op V) (reply : Reply V) (before : TransactionShown V) (store : ℕ) (now : TransactionShown V) : Type 0 where
+      pub made : HasMade before store (g.first + place_of g key) op reply now
+      pub means : AreOneCall reply ((record { target = g.first + place_of g key; op = op }, reply) ∷ [])
 
-  abbrev pub BagAnswers : TransactionShown V → Bag → Op V → Reply V → TransactionShown V → Type 0
-  BagAnswers before b op reply now = HasMadeMore (AreOneCall held.Bag (multiset_call op) b.gates op reply) before b.store now
+  -- the call of a map, or of a multiset, for this key has this reply
+  abbrev pub MapAnswers : TransactionShown V → Map V → ℕ → Op V → Reply V → TransactionShown V → Type 0
+  MapAnswers before m key op reply now = HasMadeAt held.Map (map_call op) m.gates key op reply before m.store now
+
+  abbrev pub BagAnswers : TransactionShown V → Bag → ℕ → Op V → Reply V → TransactionShown V → Type 0
+  BagAnswers before b key op reply now = HasMadeAt held.Bag (multiset_call op) b.gates key op reply before b.store now
+
+  -- so many keys are in a map: Len was made of each of its collections, once
+  pub record MapCounts (before : TransactionShown V) (m : Map V) (total : ℕ) (now : TransactionShown V) : Type 0 where
+    pub made : HasSummed before m.store m.gates total now
+    pub means : AreOneCall held.Map (map_call ops.Len) m.gates (replies.Number total) made.more

@@ -39,7 +39,7 @@ impl Bag {
         tx: &mut Transaction<'_, V, S>,
         element: u64,
     ) -> Result<u64, Refusal>
-        ensures { IfOk result (λ count. BagAnswers tx.old self.now (op.Count element) (replies.Number count) tx.new) }
+        ensures { IfOk result (λ count. BagAnswers tx.old self.now element (op.Count element) (replies.Number count) tx.new) }
     {
         let reply = tx.call_at(self.store, self.gates, element, Op::Count(element))?;
         number_in(reply)
@@ -56,7 +56,7 @@ impl Bag {
         tx: &mut Transaction<'_, V, S>,
         element: u64,
     ) -> Result<Result<(), Full>, Refusal>
-        ensures { IfOk result (λ added. BagAnswers tx.old self.now (op.Add element) (room_reply added) tx.new) }
+        ensures { IfOk result (λ added. BagAnswers tx.old self.now element (op.Add element) (room_reply added) tx.new) }
     {
         let reply = tx.call_at(self.store, self.gates, element, Op::Add(element))?;
         room_in(reply)
@@ -74,7 +74,7 @@ impl Bag {
         tx: &mut Transaction<'_, V, S>,
         element: u64,
     ) -> Result<bool, Refusal>
-        ensures { IfOk result (λ taken. BagAnswers tx.old self.now (op.Take element) (yes_reply taken) tx.new) }
+        ensures { IfOk result (λ taken. BagAnswers tx.old self.now element (op.Take element) (yes_reply taken) tx.new) }
     {
         let reply = tx.call_at(self.store, self.gates, element, Op::Take(element))?;
         yes_in(reply)

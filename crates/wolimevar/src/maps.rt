@@ -2,8 +2,7 @@
 ghost use Rattle.std.specs.Prelude.{◌≡◌, IfOk};
 ghost use Rattle.seq_model.specs.Calls.{value_reply};
 ghost use Rattle.seq_model.specs.declared.call.Op.TheVariants as op;
-ghost use Rattle.seq_model.specs.declared.call.Reply.TheVariants as replies;
-ghost use Rattle.wolimevar.specs.Answered.{MapAnswers};
+ghost use Rattle.wolimevar.specs.Answered.{MapAnswers, MapCounts};
 
 use crate::gates::Gates;
 use crate::replies::value_in;
@@ -44,7 +43,7 @@ impl<V: Value> Map<V> {
         tx: &mut Transaction<'_, V, S>,
         key: u64,
     ) -> Result<Option<V>, Refusal>
-        ensures { IfOk result (λ found. MapAnswers tx.old self.now (op.Get key) (value_reply found) tx.new) }
+        ensures { IfOk result (λ found. MapAnswers tx.old self.now key (op.Get key) (value_reply found) tx.new) }
     {
         let reply = tx.call_at(self.store, self.gates, key, Op::Get(key))?;
         value_in(reply)
@@ -62,7 +61,7 @@ impl<V: Value> Map<V> {
         key: u64,
         value: V,
     ) -> Result<Option<V>, Refusal>
-        ensures { IfOk result (λ held. MapAnswers tx.old self.now (op.Put key value) (value_reply held) tx.new) }
+        ensures { IfOk result (λ held. MapAnswers tx.old self.now key (op.Put key value) (value_reply held) tx.new) }
     {
         let reply = tx.call_at(self.store, self.gates, key, Op::Put(key, value))?;
         value_in(reply)
@@ -79,7 +78,7 @@ impl<V: Value> Map<V> {
         tx: &mut Transaction<'_, V, S>,
         key: u64,
     ) -> Result<Option<V>, Refusal>
-        ensures { IfOk result (λ held. MapAnswers tx.old self.now (op.Remove key) (value_reply held) tx.new) }
+        ensures { IfOk result (λ held. MapAnswers tx.old self.now key (op.Remove key) (value_reply held) tx.new) }
     {
         let reply = tx.call_at(self.store, self.gates, key, Op::Remove(key))?;
         value_in(reply)
@@ -92,7 +91,7 @@ impl<V: Value> Map<V> {
     /// let keys = map.len(tx)?; // 1
     /// ```
     pub fn len<S: Scope<V>>(&self, tx: &mut Transaction<'_, V, S>) -> Result<u64, Refusal>
-        ensures { IfOk result (λ count. MapAnswers tx.old self.now op.Len (replies.Number count) tx.new) }
+        ensures { IfOk result (λ count. MapCounts tx.old self.now count tx.new) }
     {
         tx.total_len(self.store, self.gates)
     }

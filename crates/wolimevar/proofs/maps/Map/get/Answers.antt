@@ -7,6 +7,6 @@ use Rattle.wolimevar.proofs.maps.Map.get.Goals as goal
 
 pub returns : goal.returns
 returns g c =
-    on_ok (λ found. c.in_ok-reply.reply ≡ value_reply found) (λ found. MapAnswers c.args.tx.now c.args.self.now (op.Get c.args.key) (value_reply found) c.call_at.new.self)
+    on_ok (λ found. c.in_ok-reply.reply ≡ value_reply found) (λ found. MapAnswers c.args.tx.now c.args.self.now c.args.key (op.Get c.args.key) (value_reply found) c.call_at.new.self)
     c.value_in.result (λ found is. map_gets c.args.key c.args.tx.now c.call_at.new.self c.args.self.now c.in_ok-reply.reply (value_reply found) is
     c.in_ok-reply.ensures) c.value_in.ensures
