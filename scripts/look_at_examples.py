@@ -6,7 +6,9 @@ import re
 import sys
 
 TOP = os.path.dirname(os.path.dirname(os.path.abspath(__file__)))
-SOURCES = f"{TOP}/crates/wolimevar/src"
+SOURCES = [f"{TOP}/crates/{it}/src" for it in ("tx_handles", "wolimevar")]
+# What handles rest on, which no service can name.
+BELOW = ("calls.rt", "gates.rt")
 EXAMPLES = f"{TOP}/crates/client_tests/src/examples.rt"
 
 
@@ -42,8 +44,8 @@ def stands_in(example, function):
 
 def main():
     run, bad = functions(EXAMPLES), 0
-    for name in sorted(os.listdir(SOURCES)):
-        for call, example in calls_of(f"{SOURCES}/{name}"):
+    for name, path in sorted((name, f"{it}/{name}") for it in SOURCES for name in os.listdir(it) if name not in BELOW):
+        for call, example in calls_of(path):
             if not example:
                 print(f"{name}: {call} has no example")
             elif not any(stands_in(example, it) for it in run):

@@ -20,7 +20,7 @@ use Rattle.tx_engine.specs.Ready.{HasBegunSince, HasCalled, IsReady, standing}
 use Rattle.tx_engine.specs.Requests.{IsOpen, KeepsReceipts}
 use Rattle.tx_engine.proofs.RequestLemmas.{keeps_self, then_keeps}
 use Rattle.wolimevar.specs.Frames.{AreBy, ComesBack, Frame, GoesOn, HasMadeCalls, IsClient, IsIn, IsOfSeat, IsUnderWay, calls_made, calls_of, transaction_at}
-use Rattle.wolimevar.specs.Made.{TransactionShown, with_call}
+use Rattle.tx_handles.specs.Made.{TransactionShown, with_call}
 use Rattle.wolimevar.specs.Asked.{HasAsked}
 use Rattle.wolimevar.specs.Clients.{IsAtClient}
 use Rattle.wolimevar.proofs.AskedLemmas.{asks_for, asks_none, then_asks}

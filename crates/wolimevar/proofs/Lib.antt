@@ -1,8 +1,3 @@
-pub mod GateLemmas
-pub mod SumLemmas
-pub mod LaneLemmas
-pub mod ReadLemmas
-pub mod LayoutLemmas
 pub mod AskedLemmas
 pub mod FrameLemmas
 pub mod EndLemmas

@@ -14,7 +14,7 @@ use Rattle.driven_turns.specs.Driven.{is_declared}
 use Rattle.driven_turns.specs.Requested.{requests_of}
 use Rattle.tx_engine.specs.Requests.{KeepsReceipts}
 use Rattle.wolimevar.specs.Asked.{HasAsked}
-use Rattle.wolimevar.specs.Made.{TransactionShown}
+use Rattle.tx_handles.specs.Made.{TransactionShown}
 
 module _ (V : Type 0) where
   -- a table, and the seat as it was when the transaction, or the client, began

@@ -1,9 +1,4 @@
-pub mod Gates
 pub mod Asked
-pub mod Made
-pub mod Answered
-pub mod Lanes
-pub mod Read
 pub mod Frames
 pub mod Ends
 pub mod Tallies

@@ -5,7 +5,7 @@ use Rattle.seq_model.specs.Runs.{IsInCommitOrder, IsRun, after_run}
 use Rattle.seq_model.specs.declared.event.Request.{Request}
 use Rattle.seq_model.specs.declared.held.Held.{Held}
 use Rattle.seq_model.specs.declared.record.Record.{Record}
-use Rattle.wolimevar.specs.declared.gates.Gates.{Gates}
+use Rattle.tx_handles.specs.declared.gates.Gates.{Gates}
 use Rattle.wolimevar.specs.declared.tally.Tally.{Tally}
 use Rattle.tx_table.specs.Shown.{total}
 

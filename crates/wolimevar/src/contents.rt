@@ -3,14 +3,8 @@ ghost use Rattle.std.specs.Prelude.{◌≡◌, IfSome, Some, slice_get};
 ghost use Rattle.seq_model.specs.declared.held.Held.TheVariants as held;
 ghost use Rattle.wolimevar.specs.Stores.{AreHeld, HeldAt, WordAt};
 
-use crate::bags::Bag;
-use crate::contents_over::{BagCounts, LaneItems, MapEntries};
-use crate::lanes::Lanes;
-use crate::maps::Map;
-use crate::priority_queues::PriorityQueue;
-use crate::queues::Queue;
-use crate::words::Word;
 use seq_model::{Counts, Held, QueueItems, State, Value};
+use tx_handles::{Bag, BagCounts, LaneItems, Lanes, Map, MapEntries, PriorityQueue, Queue, Word};
 
 /// What the words and the collections of a store hold once it is closed, read by their handles. A handle of a store with another number, of
 /// another kind, or beyond the layout finds `None`.

@@ -1,15 +1,12 @@
 //! A transaction, as a body sees it.
-ghost use Rattle.std.specs.Prelude.{◌≡◌, ◌+◌, IfOk};
-ghost use Rattle.wolimevar.specs.Answered.{HasSummed};
-ghost use Rattle.wolimevar.specs.Gates.{place_of};
-ghost use Rattle.wolimevar.specs.Made.{HasMade, RefusesForeign, with_call};
+ghost use Rattle.std.specs.Prelude.{◌≡◌, IfOk};
+ghost use Rattle.tx_handles.specs.Made.{with_call};
 
-use crate::gates::Gates;
-use crate::replies::number_in;
 use crate::scope::Scope;
 use seq_model::{Call, Op, Refusal, Reply, Value};
 use std::marker::{Model, PhantomData};
 use tx_engine::TxSeat;
+use tx_handles::MakesCalls;
 use tx_table::TxTable;
 
 /// The transaction in which a body runs. Its calls are made by the handles of the store's layout.
@@ -37,7 +34,7 @@ pub struct Transaction<'t, V, S: Scope<V>> {
 }
 
 impl<'t, V, S: Scope<V>> Model for Transaction<'t, V, S> {
-    ghost use Rattle.wolimevar.specs.Made.{TransactionShown};
+    ghost use Rattle.tx_handles.specs.Made.{TransactionShown};
 
     ghost Value = { TransactionShown V };
 
@@ -67,19 +64,6 @@ fn foreign_refusal(refused: Option<Refusal>, is_open: bool) -> Option<Refusal> {
 }
 
 impl<'t, V: Value, S: Scope<V>> Transaction<'t, V, S> {
-    /// A call by a handle on the word or the collection with this number. `NoSuch` where the handle's store has another number than the
-    /// transaction's; the transaction is unchanged then.
-    pub(crate) fn call(&mut self, store: u32, number: u32, op: Op<V>) -> Result<Reply<V>, Refusal>
-        ensures made { IfOk result (λ reply. HasMade self.old store number op reply self.new) }
-        ensures foreign { RefusesForeign self.old store result self.new }
-    {
-        if self.store != store {
-            self.refused = foreign_refusal(self.refused, self.seat.is_open());
-            return Err(Refusal::NoSuch);
-        }
-        self.request(number, op)
-    }
-
     /// A call on the word or the collection with this number. A call that is answered is added to the calls that were made.
     fn request(&mut self, target: u32, op: Op<V>) -> Result<Reply<V>, Refusal>
         ensures { IfOk result (λ reply. self.new ≡ with_call self.old target op reply) }
@@ -95,40 +79,20 @@ impl<'t, V: Value, S: Scope<V>> Transaction<'t, V, S> {
             }
         }
     }
+}
 
-    /// A call on the one of these collections that has the key.
-    pub(crate) fn call_at(
-        &mut self,
-        store: u32,
-        gates: Gates,
-        key: u64,
-        op: Op<V>,
-    ) -> Result<Reply<V>, Refusal>
-        ensures { IfOk result (λ reply. HasMade self.old store (gates.first + place_of gates key) op reply self.new) }
-    {
-        let number = gates.number(gates.place(key))?;
-        self.call(store, number, op)
-    }
+impl<'t, V: Value, S: Scope<V>> MakesCalls<V> for Transaction<'t, V, S> {
+    ghost shown = { λ t. t };
 
-    /// The lane of its client.
-    pub(crate) fn lane(&self) -> u64 {
-        self.lane
-    }
-
-    /// How many keys, or items, these collections have together. `TooLong` where they are more than a `u64` can say.
-    pub(crate) fn total_len(&mut self, store: u32, gates: Gates) -> Result<u64, Refusal>
-        ensures { IfOk result (λ total. HasSummed self.old store gates total self.new) }
-    {
-        let mut total = 0u64;
-        'gates: for i in 0..u64::from(gates.others) + 1 {
-            let number = gates.number(i)?;
-            let reply = self.call(store, number, Op::Len)?;
-            let count = number_in(reply)?;
-            let Some(more) = total.checked_add(count) else {
-                return Err(Refusal::TooLong);
-            };
-            total = more;
+    fn call(&mut self, store: u32, number: u32, op: Op<V>) -> Result<Reply<V>, Refusal> {
+        if self.store != store {
+            self.refused = foreign_refusal(self.refused, self.seat.is_open());
+            return Err(Refusal::NoSuch);
         }
-        Ok(total)
+        self.request(number, op)
+    }
+
+    fn lane(&self) -> u64 {
+        self.lane
     }
 }
