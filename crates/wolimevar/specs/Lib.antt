@@ -1,10 +1,3 @@
-pub mod Asked
-pub mod Frames
-pub mod Ends
-pub mod Tallies
-pub mod Clients
-pub mod Runners
-pub mod Backs
 pub mod Homes
 pub mod Stores
 pub mod StoreSeats

@@ -4,9 +4,9 @@ ghost use Rattle.tx_handles.specs.Gates.{LieOver};
 ghost use Rattle.seq_model.specs.declared.held.Held.TheVariants as held;
 
 use crate::store::Store;
-use crate::tally::Tally;
 use seq_model::{Counts, Entries, Held, Items, Memory, QueueItems, Refusal, Shape, State, Value};
 use std::alloc::Global;
+use tx_client::Tally;
 use tx_engine::TxSeat;
 use tx_handles::{Bag, Gates, Map, PriorityQueue, Queue, Word, map_at};
 

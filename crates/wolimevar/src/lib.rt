@@ -30,39 +30,23 @@
 //! that wants to prove something of its own defines `makes` of a body, and `serves` of a session.
 #![tactic(auto)]
 
-mod attempts;
-mod body;
-mod caller;
-mod client;
-mod contents;
-mod failures;
 mod homes;
 mod layout;
 mod layout_over;
 mod lender;
 mod lent;
-mod runner;
-mod scope;
 mod serving;
 mod sessions;
 mod store;
-mod tally;
-mod transaction;
 
-pub use body::Body;
-pub use client::Client;
-pub use contents::Contents;
-pub use failures::Failure;
 pub use layout::Layout;
 pub use lender::{Lender, StillLent};
 pub use lent::LentClient;
-pub use scope::Scope;
 pub use seq_model::{Counts, Entries, Memory, QueueItems, Refusal, Value};
 pub use serving::Serving;
 pub use sessions::Session;
 pub use store::Store;
-pub use tally::Tally;
-pub use transaction::Transaction;
+pub use tx_client::{Body, Client, Contents, Failure, Scope, Tally, Transaction};
 pub use tx_engine::Receipt;
 pub use tx_handles::{
     Bag, BagCounts, BagIter, Full, LaneItems, Lanes, Map, MapEntries, MapIter, PriorityQueue,
