@@ -27,7 +27,7 @@ pub fn parts_of<T: Drop>(
 }
 
 /// No entries for each of the collections.
-#[tactic(auto, using(tx_handles::proofs::LayoutLemmas::one_more))]
+#[tactic(auto, using(crate::proofs::LayoutLemmas::one_more))]
 fn no_parts<T: Drop>(alloc: Global, gates: Gates) -> Result<Vec<Entries<T>>, Memory>
     ensures { IfOk result (λ parts. AreParts gates empty parts.items) }
 {
@@ -62,7 +62,7 @@ pub fn bags_of<V: Value>(alloc: Global, parts: Vec<Entries<u64>>) -> Result<Vec<
 }
 
 /// Queues of which the first one has these items.
-#[tactic(auto, using(tx_handles::proofs::LayoutLemmas::one_more, tx_handles::proofs::LayoutLemmas::first_lanes))]
+#[tactic(auto, using(crate::proofs::LayoutLemmas::one_more, crate::proofs::LayoutLemmas::first_lanes))]
 pub fn lanes_of<V: Value>(
     alloc: Global,
     gates: Gates,
