@@ -8,17 +8,15 @@ ghost use Rattle.std.specs.Vec.{vec_capacity};
 ghost use Rattle.tx_table.specs.Seated.{actor, view};
 ghost use Rattle.driven_turns.specs.Requested.{requests_of};
 ghost use Rattle.tx_engine.specs.Ready.{IsReady};
-ghost use Rattle.wolimevar.specs.Frames.{AreBy};
+ghost use Rattle.tx_client.specs.Frames.{AreBy};
 ghost use Rattle.wolimevar.specs.Sessions.{IsFinished, HaveServed, IsServed, IsWhy, IsWaiting, joined, receipts_at};
 
-use crate::caller::Caller;
-use crate::client::Client;
-use crate::scope::Scope;
 use seq_model::{Refusal, Value};
 use std::alloc::Global;
 use std::marker::Brand;
 use std::thread;
 use std::thread::Threads;
+use tx_client::{Caller, Client, Scope};
 use tx_engine::TxSeat;
 use tx_table::{SHARES, TxTable};
 
