@@ -53,26 +53,8 @@ impl<'t, V, S: Scope<V>> Model for Client<'t, V, S> {
 }
 
 impl<'t, V: Value, S: Scope<V>> Client<'t, V, S> {
-    /// A client with this seat.
-    pub fn of(table: &'t TxTable<V>, caller: Caller, seat: TxSeat<V>) -> Client<'t, V, S>
-        requires ready { IsReady table.now seat }
-        requires frame { S.frame ≡ Some (record { table = table.now; begun = Some seat }) }
-        requires none { (view seat.seat).receipts ≡ [] }
-        ensures { result.receipts ≡ (view seat.seat).receipts }
-    {
-        Client {
-            table,
-            runner: Runner {
-                caller,
-                seat: Some(seat),
-                tally: Tally::new(),
-            },
-            scope: PhantomData,
-        }
-    }
-
     /// The seat, with the client's receipts.
-    pub fn into_seat(self) -> TxSeat<V>
+    fn into_seat(self) -> TxSeat<V>
         ensures back { IfSome S.frame (ComesBack result) }
         ensures receipts { self.entry.receipts ≡ (view result.seat).receipts }
         ensures own { AreBy (actor result.seat) (view result.seat).receipts }
@@ -202,4 +184,35 @@ impl<'t, V: Value, S: Scope<V>> Client<'t, V, S> {
     {
         self.runner.learn::<S>(self.table, number)
     }
+}
+
+/// A client with this seat, for what gives clients to sessions. A service has no seat, and gets its clients ready made.
+pub fn client_of<'t, V: Value, S: Scope<V>>(
+    table: &'t TxTable<V>,
+    caller: Caller,
+    seat: TxSeat<V>,
+) -> Client<'t, V, S>
+    requires ready { IsReady table.now seat }
+    requires frame { S.frame ≡ Some (record { table = table.now; begun = Some seat }) }
+    requires none { (view seat.seat).receipts ≡ [] }
+    ensures { result.receipts ≡ (view seat.seat).receipts }
+{
+    Client {
+        table,
+        runner: Runner {
+            caller,
+            seat: Some(seat),
+            tally: Tally::new(),
+        },
+        scope: PhantomData,
+    }
+}
+
+/// The seat of a client that has served, with its receipts, for what gave it the seat.
+pub fn seat_of<'t, V: Value, S: Scope<V>>(client: Client<'t, V, S>) -> TxSeat<V>
+    ensures back { IfSome S.frame (ComesBack result) }
+    ensures receipts { client.entry.receipts ≡ (view result.seat).receipts }
+    ensures own { AreBy (actor result.seat) (view result.seat).receipts }
+{
+    client.into_seat()
 }

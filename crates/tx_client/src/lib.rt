@@ -21,7 +21,7 @@ mod transaction;
 pub use attempts::retry;
 pub use body::Body;
 pub use caller::Caller;
-pub use client::Client;
+pub use client::{Client, client_of, seat_of};
 pub use contents::{Contents, contents_of};
 pub use failures::Failure;
 pub use runner::Runner;

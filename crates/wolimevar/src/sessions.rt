@@ -16,7 +16,7 @@ use std::alloc::Global;
 use std::marker::Brand;
 use std::thread;
 use std::thread::Threads;
-use tx_client::{Caller, Client, Scope};
+use tx_client::{Caller, Client, Scope, client_of, seat_of};
 use tx_engine::TxSeat;
 use tx_table::{SHARES, TxTable};
 
@@ -70,9 +70,9 @@ fn serve_as<V: Value, S: Scope<V>, N: Session<V> + Drop>(
     ensures served { N.serves session result.1 (view result.0.seat).receipts }
     ensures own { AreBy (actor result.0.seat) (view result.0.seat).receipts }
 {
-    let mut client: Client<'_, V, S> = Client::of(table, caller, seat);
+    let mut client: Client<'_, V, S> = client_of(table, caller, seat);
     let out = session.serve(&mut client);
-    (client.into_seat(), out)
+    (seat_of(client), out)
 }
 
 /// Serves a session, see `serve_as`.
