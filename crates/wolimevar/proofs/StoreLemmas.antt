@@ -7,12 +7,12 @@ use Rattle.seq_model.specs.declared.record.Record.{Record}
 use Rattle.tx_table.specs.declared.table.TxTable.{TxTable}
 use Rattle.tx_table.specs.Seated.{actor, view}
 use Rattle.tx_engine.specs.declared.seats.TxSeat.{TxSeat}
-use Rattle.wolimevar.specs.declared.failures.Failure.{Failure}
-use Rattle.wolimevar.specs.declared.tally.Tally.{Tally}
-use Rattle.wolimevar.specs.Ends.{EndsAs}
+use Rattle.tx_client.specs.declared.failures.Failure.{Failure}
+use Rattle.tx_client.specs.declared.tally.Tally.{Tally}
+use Rattle.tx_client.specs.Ends.{EndsAs}
 use Rattle.wolimevar.specs.Stores.{StoreShown}
 use Rattle.wolimevar.specs.StoreSeats.{store_at}
-use Rattle.wolimevar.proofs.EndLemmas.{gained, gained_none}
+use Rattle.tx_client.proofs.EndLemmas.{gained, gained_none}
 
 module _ {V A E : Type 0} (makes : A → List (Call V × Reply V) → Type 0) (aborts : E → List (Call V × Reply V) → Type 0) (n : ℕ)
     (t : TxTable V) (s u : TxSeat V) (tally : Tally) where

@@ -1,6 +1,6 @@
 use Rattle.std.proofs.Common.{subst, sym}
 use Rattle.seq_model.specs.Counts.{HasNoZero}
-use Rattle.wolimevar.proofs.LayoutLemmas.{parts_no_zero}
+use Rattle.tx_handles.proofs.LayoutLemmas.{parts_no_zero}
 use Rattle.wolimevar.proofs.layout.Layout.bag_over.Goals as goal
 
 pub bags_of-requires : goal.bags_of-requires
