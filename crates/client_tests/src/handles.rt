@@ -1,5 +1,5 @@
 //! The stores, and the handles by which rows call them: their own, and some that they don't have.
-use crate::numbers::Number;
+use crate::numbers::{Number, entries};
 use std::alloc::Global;
 use wolimevar::{
     Bag, Counts, Lanes, Layout, Map, Memory, PriorityQueue, Queue, QueueItems, Refusal, Store, Word,
@@ -37,12 +37,14 @@ pub struct All<V> {
 impl<V> All<V> {
     /// The handles that a word names, and which of them: `other.map` is the map of another store, and `map` the store's own.
     pub fn named<'a>(&'a self, word: &'a str) -> (&'a Handles<V>, &'a str) {
-        match word.split_once('.') {
-            Some(("other", name)) => (&self.other, name),
-            Some(("beyond", name)) => (&self.beyond, name),
-            Some(("reversed", name)) => (&self.reversed, name),
-            _ => (&self.own, word),
-        }
+        let (of, name) = word.split_once('.').unwrap_or(("", word));
+        let handles = match of {
+            "other" => &self.other,
+            "beyond" => &self.beyond,
+            "reversed" => &self.reversed,
+            _ => &self.own,
+        };
+        (handles, name)
     }
 }
 
@@ -59,13 +61,13 @@ fn words<V: Number>(layout: &mut Layout<V>) -> Result<[Word; 3], Refusal> {
 fn lay_out<V: Number>(alloc: Global, layout: &mut Layout<V>) -> Result<Handles<V>, Refusal> {
     Ok(Handles {
         words: words(layout)?,
-        map: layout.map(2, V::entries(alloc)?)?,
+        map: layout.map(2, entries(alloc)?)?,
         bag: layout.bag(2, Counts::new(alloc))?,
         least: layout.priority_queue(2, Counts::new(alloc))?,
         queue: layout.queue(1, QueueItems::new(alloc))?,
         full_bag: layout.bag(1, full(alloc)?)?,
         full_least: layout.priority_queue(1, full(alloc)?)?,
-        wide_map: layout.map_over(3, 2, V::entries(alloc)?)?,
+        wide_map: layout.map_over(3, 2, entries(alloc)?)?,
         wide_bag: layout.bag_over(3, 2, Counts::new(alloc))?,
         lanes: layout.lanes(3, 1, QueueItems::new(alloc))?,
     })
@@ -81,12 +83,12 @@ fn lay_out_reversed<V: Number>(
         queue: layout.queue(1, QueueItems::new(alloc))?,
         least: layout.priority_queue(1, Counts::new(alloc))?,
         bag: layout.bag(1, Counts::new(alloc))?,
-        map: layout.map(1, V::entries(alloc)?)?,
+        map: layout.map(1, entries(alloc)?)?,
         full_least: layout.priority_queue(1, full(alloc)?)?,
         full_bag: layout.bag(1, full(alloc)?)?,
         wide_bag: layout.bag_over(3, 1, Counts::new(alloc))?,
         lanes: layout.lanes(3, 1, QueueItems::new(alloc))?,
-        wide_map: layout.map_over(3, 1, V::entries(alloc)?)?,
+        wide_map: layout.map_over(3, 1, entries(alloc)?)?,
     })
 }
 

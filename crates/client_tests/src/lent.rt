@@ -124,13 +124,6 @@ fn drop_after_abort(
     Ok(())
 }
 
-fn lend_all(lender: &mut Lender<u64>, clients: &mut Vec<LentClient<u64>>) -> Result<(), Refusal> {
-    for _ in 0..ONE_TOO_MANY {
-        clients.push(lender.client()?)?;
-    }
-    Ok(())
-}
-
 /// Clients are lent up to a refusal, and then all are dropped.
 fn lend_too_many(
     alloc: Global,
@@ -138,7 +131,13 @@ fn lend_too_many(
     lender: &mut Lender<u64>,
 ) -> Result<(), Refusal> {
     let mut clients = Vec::new(alloc);
-    let refused = lend_all(lender, &mut clients);
+    let mut refused = Ok(());
+    for _ in 0..ONE_TOO_MANY {
+        match lender.client() {
+            Ok(client) => clients.push(client)?,
+            Err(refusal) => refused = Err(refusal),
+        }
+    }
     let (count, out) = (clients.len(), lender.take_back());
     drop(clients);
     let then = lender.take_back();

@@ -202,22 +202,8 @@ fn word_of(words: [Word; 3], name: &str) -> Word {
     }
 }
 
-/// Takes a step as often as it is answered: how often that was, and what refused it then.
-fn repeat<V: Number, S: Scope<V>>(
-    text: &mut String,
-    tx: &mut Transaction<'_, V, S>,
-    all: &All<V>,
-    step: &str,
-) -> Result<(), AllocError> {
-    for count in 0..TIMES {
-        if let Err(refusal) = make(tx, all, step) {
-            return write!(text, "{count} times, then {refusal} ");
-        }
-    }
-    write!(text, "{TIMES} times ")
-}
-
-/// Takes a step. Where it ends in `?`, what refuses it ends the body.
+/// Takes a step. Where it ends in `?`, what refuses it ends the body. After `until refused` stands a call that is made as often as it is
+/// answered: how often that was is printed, and what refused it then.
 pub fn take<V: Number, S: Scope<V>>(
     text: &mut String,
     tx: &mut Transaction<'_, V, S>,
@@ -227,15 +213,21 @@ pub fn take<V: Number, S: Scope<V>>(
     if let Some(number) = step.strip_prefix("abort ") {
         return Err(Ended::By(number_of(number)));
     }
-    if let Some(step) = step.strip_prefix("until refused ") {
-        return Ok(repeat(text, tx, all, step)?);
+    if let Some(call) = step.strip_prefix("until refused ") {
+        for count in 0..TIMES {
+            if let Err(refusal) = make(tx, all, call) {
+                return Ok(write!(text, "{count} times, then {refusal} ")?);
+            }
+        }
+        return Ok(write!(text, "{TIMES} times ")?);
     }
-    if let Some(step) = step.strip_suffix(" ?") {
-        let reply = make(tx, all, step)?;
-        return Ok(write!(text, "{reply} ")?);
-    }
-    match make(tx, all, step) {
+    let (call, ends) = match step.strip_suffix(" ?") {
+        Some(call) => (call, true),
+        None => (step, false),
+    };
+    match make(tx, all, call) {
         Ok(reply) => Ok(write!(text, "{reply} ")?),
+        Err(refusal) if ends => Err(Ended::Refused(refusal)),
         Err(refusal) => Ok(write!(text, "{refusal} ")?),
     }
 }
