@@ -1,4 +1,4 @@
--- What a client, or a store, has of the attempts of a body.
+-- What a client has of the attempts of a body.
 use Rattle.std.proofs.Common.{◌≡◌, ℕ, ◌<◌, ◌≤◌, List, [], ◌∷◌, ◌++◌, Option, Some, Ok, Err, refl, sym, ap, ◌∙◌, subst}
 use Rattle.std.proofs.lemmas.List.Elements.{All-append, All-cons, All-nil}
 use Rattle.std.specs.Prelude.{IfErr, IfOk, IfSome, OnErr, Result}
@@ -16,10 +16,7 @@ use Rattle.tx_engine.specs.Ready.{IsReady}
 use Rattle.tx_engine.specs.Requests.{OnlyKnows}
 use Rattle.tx_client.specs.Clients.{IsAtClient, shown, shown_at}
 use Rattle.tx_client.specs.Ends.{ClientShown, EndsAs}
-use Rattle.tx_table.specs.declared.view.TheConstants.{SHARES}
 use Rattle.tx_client.specs.Frames.{AreBy, Frame, GoesOn, IsOfSeat}
-use Rattle.tx_client.specs.Stores.{StoreShown}
-use Rattle.tx_client.specs.StoreSeats.{IsAtStore, store_at}
 use Rattle.tx_client.specs.declared.failures.Failure.{Failure}
 use Rattle.tx_client.specs.declared.tally.Tally.{Tally}
 use Rattle.tx_client.proofs.EndLemmas.{gained, gained_none}
@@ -41,22 +38,9 @@ module _ {V : Type 0} where
       (of_seat_on f t s u (subst (λ (x : TxSeat V). IfSome f (IsOfSeat t x)) (own_is seat h.own s h.is e) h.client.framed) goes)
       (own (own_back f t seat s h e))
 
-  pub store_on : (t : TxTable V) (seat : Option (TxSeat V)) (s u : TxSeat V) → IsAtStore t seat → seat ≡ Some s → IsReady t u
-      → (view u.seat).shares ≡ (view s.seat).shares → IsAtStore t (Some u)
-  store_on t seat s u h e ready same = record {
-    own = u;
-    is = refl;
-    ready = ready;
-    whole = same ∙ subst (λ (x : TxSeat V). (view x.seat).shares ≡ SHARES) (own_is seat h.own s h.is e) h.whole;
-  }
-
   pub shows_as : (seat : Option (TxSeat V)) (s : TxSeat V) (tally : Tally) (d : ClientShown V) → shown_at seat tally ≡ d → seat ≡ Some s
       → shown s.seat tally ≡ d
   shows_as seat s tally d v e = subst (λ (x : Option (TxSeat V)). shown_at x tally ≡ d) e v
-
-  pub store_shows : (n : ℕ) (t : TxTable V) (seat : Option (TxSeat V)) (s : TxSeat V) (tally : Tally) (d : StoreShown V)
-      → store_at n t seat tally ≡ d → seat ≡ Some s → store_at n t (Some s) tally ≡ d
-  store_shows n t seat s tally d v e = subst (λ (x : Option (TxSeat V)). store_at n t x tally ≡ d) e v
 
   -- what is learnt keeps the client
   pub learn_goes : (o : World V) (s u : Seat V) → OnlyKnows o s u → GoesOn s u

@@ -1,6 +1,6 @@
 //! A transaction, as a body sees it.
 ghost use Rattle.std.specs.Prelude.{◌≡◌, IfOk};
-ghost use Rattle.tx_handles.specs.Made.{with_call};
+ghost use Rattle.tx_handles.specs.Made.{HasMade, RefusesForeign, with_call};
 
 use crate::scope::Scope;
 use seq_model::{Call, Op, Refusal, Reply, Value};
@@ -84,7 +84,10 @@ impl<'t, V: Value, S: Scope<V>> Transaction<'t, V, S> {
 impl<'t, V: Value, S: Scope<V>> MakesCalls<V> for Transaction<'t, V, S> {
     ghost shown = { λ t. t };
 
-    fn call(&mut self, store: u32, number: u32, op: Op<V>) -> Result<Reply<V>, Refusal> {
+    fn call(&mut self, store: u32, number: u32, op: Op<V>) -> Result<Reply<V>, Refusal>
+        ensures made { IfOk result (λ reply. HasMade self.old store number op reply self.new) }
+        ensures foreign { RefusesForeign self.old store result self.new }
+    {
         if self.store != store {
             self.refused = foreign_refusal(self.refused, self.seat.is_open());
             return Err(Refusal::NoSuch);
