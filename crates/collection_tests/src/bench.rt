@@ -171,22 +171,15 @@ fn answer_shadowed(text: &mut String, base: &Base<u64>, calls: &str) -> Result<(
     let alloc = *text.allocator();
     let script = script_of(alloc, calls)?;
     let mut shadow = Shadow::of_copy(alloc, base.try_copy()?);
-    shadow_all(text, &mut shadow, script.lines.as_slice())
-}
-
-fn shadow_all(
-    text: &mut String,
-    shadow: &mut Shadow<u64>,
-    lines: &[EventLine],
-) -> Result<(), Refusal> {
-    for line in lines {
+    for line in script.lines.as_slice() {
         match line {
-            EventLine::Do(_, Request::Call(asked)) => shadow_call(text, shadow, &asked.op)?,
+            EventLine::Do(_, Request::Call(asked)) => shadow_call(text, &mut shadow, &asked.op)?,
             _ => return Err(Refusal::NoSuch),
         }
     }
     text.push_str("log")?;
-    print_changes(text, shadow.log().changes())?;
+    let log = shadow.log();
+    print_changes(text, log.changes())?;
     Ok(())
 }
 
