@@ -5,7 +5,7 @@ ghost use Rattle.tx_engine.specs.Ready.{IsReady};
 
 use crate::engine::turns::{at_once, in_turn};
 use crate::shared::{Order, Page, Told};
-use crate::worker::retries::commit_after;
+use crate::worker::retries::{ALONE, commit_after};
 use std::thread::Threads;
 use tx_engine::TxSeat;
 use tx_table::TxTable;
@@ -39,7 +39,7 @@ fn run_pair<V: Told>(page: &mut Page<V>, table: &TxTable<V>, first: &mut TxSeat<
 {
     let mut second = first.split(table, SECOND_SHARES);
     in_turn(page, table, first, &mut second, rows);
-    commit_after(page, table, &mut second, false);
+    commit_after(page, table, &mut second, ALONE, false);
     first.join(table, second);
 }
 

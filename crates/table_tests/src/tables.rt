@@ -6,7 +6,7 @@ ghost use Rattle.tx_engine.specs.Ready.{IsReady};
 use crate::pairs::run_seats;
 use crate::shared::{Page, Told, close, open, say_left, say_places};
 use crate::worker::lists::{Limits, limits_of};
-use crate::worker::retries::{commit_after, retry_rows};
+use crate::worker::retries::{ALONE, commit_after, retry_rows};
 use crate::worker::runs::run_lists;
 use row_parts::{script_of, shape_of, state_of};
 use seq_model::{Refusal, Shape, State};
@@ -76,7 +76,7 @@ fn run_opening<R: Threads + Wait + Sync, V: Told + Send + Sync>(
 ) -> Result<(u64, State<V>), Refusal> {
     let (table, mut seat) = open(page.alloc(), shape, opening)?;
     let is_refused = run_seat(rt, page, kind, &table, &mut seat, rows);
-    commit_after(page, &table, &mut seat, is_refused);
+    commit_after(page, &table, &mut seat, ALONE, is_refused);
     say_places(page, &table, rows);
     let closed = close(table, seat)?;
     say_left(page, &closed, rows);

@@ -5,7 +5,7 @@ ghost use Rattle.tx_engine.specs.Ready.{IsReady};
 
 use super::rows::answer_at;
 use crate::shared::{Meeting, Order, Page, Stand, Told};
-use crate::worker::retries::commit_after;
+use crate::worker::retries::{AMONG_OTHERS, commit_after};
 use seq_model::Refusal;
 use std::thread::{Threads, join_mut};
 use tx_engine::TxSeat;
@@ -106,7 +106,7 @@ fn answer_seats<R: Threads + Sync, V: Told + Send + Sync>(
     }
 }
 
-// A seat with half of the shares, and a page for its rows. Where there is none, no seat is to wait for it.
+// A seat with half of the shares, and a page for its rows. Where it has none, no seat is to wait for it.
 fn split_off<V: Told>(
     page: &mut Page<V>,
     table: &TxTable<V>,
@@ -118,14 +118,14 @@ fn split_off<V: Told>(
     ensures other { IfSome result (λ split. IsReady table.now split.1) }
 {
     let shares = seat.shares() / 2;
-    match Page::new(page.alloc()) {
-        Ok(below) if shares > 0 => Some((below, seat.split(table, shares))),
-        _ => {
-            page.fail(Refusal::Memory);
-            meeting.leave();
-            None
-        }
-    }
+    let refusal = match Page::new(page.alloc()) {
+        Ok(below) if shares > 0 => return Some((below, seat.split(table, shares))),
+        Ok(_) => Refusal::NoSuch,
+        Err(_) => Refusal::Memory,
+    };
+    page.fail(refusal);
+    meeting.leave();
+    None
 }
 
 // Where an allocation failed, the other seat commits a write before it is joined.
@@ -141,7 +141,7 @@ fn join_again<V: Told>(
     ensures ready { IsReady table.now seat.new }
 {
     page.append(below);
-    commit_after(page, table, &mut other, false);
+    commit_after(page, table, &mut other, AMONG_OTHERS, false);
     seat.join(table, other);
 }
 

@@ -8,8 +8,11 @@ use tx_engine::TxSeat;
 use tx_table::{Kind, TxTable};
 use workers::{LastAbort, NoPause, retry};
 
-/// So often a write is tried that others stand in the way of.
-const TRIES: u64 = 1_000_000;
+/// So often a write is tried where other seats may stand in its way.
+pub const AMONG_OTHERS: u64 = 1_000_000;
+
+/// So often where none is at work: nothing may refuse it.
+pub const ALONE: u64 = 1;
 
 /// The jobs of these rows, one after another, each in up to so many attempts.
 pub fn retry_rows<V: Told>(
@@ -54,12 +57,13 @@ fn retry_words<V: Told>(
     }
 }
 
-/// Where an allocation failed, here or in a job that was to have no memory, the seat commits a write after it; but not at the limit of the
-/// clock. Other seats may be at work.
+/// Where an allocation failed, here or in a job that was to have no memory, the seat commits a write after it, in up to so many attempts;
+/// but not at the limit of the clock.
 pub fn commit_after<V: Told>(
     page: &mut Page<V>,
     table: &TxTable<V>,
     seat: &mut TxSeat<V>,
+    tries: u64,
     is_refused: bool,
 )
     requires ready { IsReady table.now seat.old }
@@ -67,7 +71,7 @@ pub fn commit_after<V: Told>(
 {
     if is_refused || page.wants_memory() {
         page.begin_row("after");
-        match retry_words(page.alloc(), TRIES, table, seat, write_of(table)) {
+        match retry_words(page.alloc(), tries, table, seat, write_of(table)) {
             Ok(answer) => page.hear(Ok(answer)),
             Err(Refusal::Exhausted { clock: _ }) => {}
             Err(refusal) => page.fail(refusal),
