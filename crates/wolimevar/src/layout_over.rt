@@ -57,7 +57,6 @@ impl<V: Value> Layout<V> {
     /// ```
     /// let bag = layout.bag_over(8, 8, counts)?;
     /// ```
-    #[tactic(auto, using(tx_handles::proofs::LayoutLemmas::laid_bag))]
     pub fn bag_over(&mut self, gates: u32, stripes: u32, counts: Counts) -> Result<Bag, Refusal>
         ensures same { self.new.store ≡ self.old.store }
         ensures store { IfOk result (λ handle. handle.store ≡ self.new.store) }

@@ -57,7 +57,6 @@ fn read_all<V: Told>(
     }
 }
 
-// A call of another seat lets the next row pass, which is that seat's.
 fn make_all<V: Told>(
     page: &mut Page<V>,
     tx: &mut Tx<'_, V>,
@@ -73,14 +72,35 @@ fn make_all<V: Told>(
     ensures ready { IsReady tx.new.table.now tx.new.seat.now }
     ensures since { HasBegunSince tx.new.table.now tx.new.seat.now }
 {
-    let Stand { worker, mut above } = stand;
+    let mut above = stand.above;
     'calls: for placed in calls {
-        if u64::from(placed.seat) == worker {
-            let answered = ask(tx, style, &placed.call);
-            page.hear(Answer::of(answered));
-        } else {
-            above = above.saturating_add(1);
-            meeting.let_by(above);
-        }
+        above = make_placed(page, tx, stand.worker, style, meeting, above, placed);
     }
+}
+
+// A call of another seat lets the next row pass, which is that seat's. The row that passed last, or this one, stands below so many.
+fn make_placed<V: Told>(
+    page: &mut Page<V>,
+    tx: &mut Tx<'_, V>,
+    worker: u64,
+    style: Style,
+    meeting: &Meeting,
+    above: u64,
+    placed: &Placed<V>,
+) -> u64
+    requires ready { IsReady tx.old.table.now tx.old.seat.now }
+    requires since { HasBegunSince tx.old.table.now tx.old.seat.now }
+    ensures same_reference { tx.new.seat.ghost_name ≡ tx.old.seat.ghost_name }
+    ensures same_table { tx.new.table.now ≡ tx.old.table.now }
+    ensures ready { IsReady tx.new.table.now tx.new.seat.now }
+    ensures since { HasBegunSince tx.new.table.now tx.new.seat.now }
+{
+    if u64::from(placed.seat) == worker {
+        let answered = ask(tx, style, &placed.call);
+        page.hear(Answer::of(answered));
+        return above;
+    }
+    let next = above.saturating_add(1);
+    meeting.let_by(next);
+    next
 }

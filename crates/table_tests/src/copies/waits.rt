@@ -56,15 +56,14 @@ pub fn hold<R: Threads + Wait + Sync>(
 {
     let alloc = *text.allocator();
     let report = run_plans(rt, alloc, ration, table, seat, &PLANS, 1, ration);
-    let heard = hear(text, report, receipts);
-    if heard.is_err() {
-        receipts.push(commit_puts(table, seat, ration)?)?;
+    match hear(text, report, receipts) {
+        Ok(()) if ration.steps().is_missed() => Err(Refusal::NotIdle),
+        Ok(()) => Ok(false),
+        Err(refusal) => {
+            receipts.push(commit_puts(table, seat, ration)?)?;
+            Err(refusal)
+        }
     }
-    heard?;
-    if ration.steps().is_missed() {
-        return Err(Refusal::NotIdle);
-    }
-    Ok(false)
 }
 
 // All receipts are kept, whether there is memory to print them or not.
