@@ -39,7 +39,7 @@ use Rattle.actor_laws.proofs.Others.{others, calm_alike}
 use Rattle.actor_laws.proofs.OwnEvents.{own_event}
 use Rattle.actor_laws.proofs.Spots.{Keeps, one_spot, after_calm}
 use Rattle.actor_laws.proofs.Turned.{try_turned, put_turned, home_turned, home_same}
-use Rattle.tx_table.specs.Layout.{address, gate_address, width}
+use Rattle.tx_table.specs.Layout.{address, gate_address}
 use Rattle.tx_table.specs.Turns.{Turn, asked_all, stage_of, spot, parts_found, editions_found, found_at, moved, ends, took, lone}
 use Rattle.tx_table.specs.Turns.{turn_events}
 use Rattle.tx_table.specs.Shown.{View, Slot, total, acting, HasHappened, IsBaseAt, OneBase, SameBases, HomeOk, Table, Shows, Rule, Told}

@@ -31,7 +31,7 @@ use Rattle.actor_laws.proofs.Clock.{one_left}
 use Rattle.actor_laws.proofs.Others.{others, calm_alike}
 use Rattle.actor_laws.proofs.Spots.{Keeps, one_spot, after_calm}
 use Rattle.actor_laws.proofs.Turned.{word_turned}
-use Rattle.tx_table.specs.Layout.{address, gate_address, IsInside, width}
+use Rattle.tx_table.specs.Layout.{address, gate_address, IsInside}
 use Rattle.tx_table.specs.Turns.{Turn, own, asked_all, stage_of, spot, found_at, moved, ends, ends_of, took, lone, turn_events}
 use Rattle.tx_table.specs.Shown.{highest_clock, View, Slot, total, owed, owed_of, acting, HasHappened, OneBase, SameBases, Table, IsOwn}
 use Rattle.tx_table.specs.Shown.{HasReceipts, IsJoined, Shows, Rule, Steps, Told, aborted_by, only_by}
