@@ -146,6 +146,14 @@ impl<V: Value> TxTable<V> {
         )
     }
 
+    /// Whether the gate of a collection is taken now, as others may have changed by the time that this is answered. It is no step of a
+    /// transaction, and takes the gate's line of the cache from nobody for longer than it reads it.
+    pub fn is_gate_taken(&self, collection: u32) -> bool
+        requires collection { collection < length (blocks_in self.now) }
+    {
+        self.whole.shared.peek(self.gate_place(collection)) != 0
+    }
+
     /// Puts back the gate that the seat took first of those that it has, and its base with it: as it was found, or with the log of the
     /// transaction folded in.
     pub fn put_gate(&self, seat: &mut Seat<V>, collection: u32, base: Boxed<Base<V>>)
