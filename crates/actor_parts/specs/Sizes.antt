@@ -1,12 +1,14 @@
 -- Whether a call fits the sets of its transaction once what it touches is copied: as its outcome on the base alone does. What the call
 -- touches was not held, so where it was copied before, with the base's edition still, it is what the base has; and where it was read with
 -- another edition, the copy is found stale, and the definitions size the call by the base.
-use Rattle.std.specs.Prelude.{◌≡◌, ℕ, ◌<◌, All, false, List, Option, Some}
+use Rattle.std.specs.Prelude.{◌≡◌, ℕ, ◌<◌, ◌≤◌, All, Bool, true, false, List, Option, Some, length}
+use Rattle.seq_model.specs.declared.call.Op.{Op}
+use Rattle.seq_model.specs.declared.call.Op.TheVariants.{Len}
 use Rattle.seq_model.specs.declared.event.Event.{Event}
 use Rattle.seq_model.specs.declared.held.Held.{Held}
 use Rattle.conflict.specs.declared.outcome.Outcome.{Outcome}
 use Rattle.replay_log.specs.declared.base.Base.{Base}
-use Rattle.replay_log.specs.Base.{locations_of, outcome_of, reads_of, shown_of, stripes_of, writes_of}
+use Rattle.replay_log.specs.Base.{Shown, OfMap, OfBag, locations_of, outcome_of, reads_of, shown_of, stripes_of, writes_of}
 use Rattle.replay_log.specs.Contents.{Asked, Block, HaveStripes, block_of, content, first_of, shifted}
 use Rattle.replay_log.specs.Worlds.{Copying, World, actor_of, has_room, opened, outcome_at, run, sized_by}
 use Rattle.actor_laws.specs.Bases.{IsBaseOf, ShowsBase}
@@ -23,6 +25,19 @@ module _ {V : Type 0} where
 
   abbrev pub base_writes : Base V → Outcome V → List ℕ
   base_writes base o = writes_of (stripes_of base) o (shown_of base)
+
+  -- whether a call is on one key, if on any
+  abbrev pub is_on_key : Shown V → Op V → Bool
+  is_on_key (OfMap s) Len = false
+  is_on_key (OfMap s) op = true
+  is_on_key (OfBag s) op = true
+  is_on_key s op = false
+
+  -- each outcome of the call on the base reads n locations at most, and writes m at most
+  abbrev pub HasAtMost : Base V → Op V → (n m : ℕ) → Type 0
+  HasAtMost base op n m =
+      (o : Outcome V) → outcome_of op (shown_of base) ≡ Some o
+      → (length (base_reads base o) ≤ n) × (length (base_writes base o) ≤ m)
 
   -- each of them is one of the base's
   abbrev pub LieIn : Base V → List ℕ → Type 0

@@ -6,6 +6,7 @@ ghost use Rattle.conflict.specs.declared.outcome.Outcome.{Outcome};
 ghost use Rattle.replay_log.specs.Base.{locations_of, outcome_of, shown_of, stripes_of};
 ghost use Rattle.actor_parts.specs.Copies.{IsKept};
 ghost use Rattle.actor_parts.specs.Kept.{HaveSame};
+ghost use Rattle.actor_parts.specs.Sizes.{HasAtMost, is_on_key};
 ghost use Rattle.actor_parts.specs.Taking.{IsAdded, IsPushed, IsTakenAt, TakenBack, TakesBack, fits_base};
 
 use crate::copies::{Copied, CopyOf, Found};
@@ -23,6 +24,31 @@ const OTHER_READS: usize = 2;
 
 /// A call writes at most so many locations.
 const MOST_WRITES: usize = 2;
+
+/// Whether the call is on one key of a map or a multiset, if on any.
+#[inline(always)]
+fn is_on_key<V: Value>(base: &Base<V>, op: &Op<V>) -> bool
+    ensures { result ≡ is_on_key (shown_of base.now) op.now }
+{
+    match base {
+        Base::Map(_) => !matches!(op, Op::Len),
+        Base::Bag(_) => true,
+        Base::Pq(_) | Base::Queue(_) => false,
+    }
+}
+
+/// How many locations the call on the base, which has so many stripes, reads and writes at most. On a key it is the one of the key.
+#[inline(always)]
+fn most_of<V: Value>(base: &Base<V>, stripes: u32, op: &Op<V>) -> (usize, usize)
+    requires { stripes ≡ stripes_of base.now }
+    ensures { HasAtMost base.now op.now result.0 result.1 }
+{
+    if is_on_key(base, op) {
+        (1, 1)
+    } else {
+        (stripes as usize + OTHER_READS, MOST_WRITES)
+    }
+}
 
 /// Whether the locations of the call on the base as it is, which has so many stripes, fit the sets of the transaction. The collection
 /// begins at location `first`. It is asked before anything is learnt for the call: an edition that is learnt is not forgotten. Where the
@@ -42,7 +68,8 @@ pub fn fits_base<V: Value>(
         fits ≡ fits_base words.now base.now first o) }
     ensures known { IfOk result (λ fits. fits ≡ false → (o : Outcome V) × (outcome_of op.now (shown_of base.now) ≡ Some o)) }
 {
-    if surely_fits(words, stripes as usize + OTHER_READS, MOST_WRITES) {
+    let (reads, writes) = most_of(base, stripes, op);
+    if surely_fits(words, reads, writes) {
         Ok(true)
     } else {
         fits_outcome(words, base, first, op)

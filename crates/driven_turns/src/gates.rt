@@ -4,7 +4,7 @@ ghost use Rattle.seq_model.specs.declared.event.Event.TheVariants.{Starve};
 ghost use Rattle.actor_parts.specs.Dispatch.{next_of};
 ghost use Rattle.tx_actor.specs.Running.{stage_of};
 ghost use Rattle.tx_actor.specs.declared.actor.Told.TheVariants as told;
-ghost use Rattle.tx_table.specs.Seated.{opening_of};
+ghost use Rattle.tx_table.specs.Seated.{blocks_in, opening_of};
 ghost use Rattle.tx_turns.specs.Asked.{HasTaken, Starved};
 ghost use Rattle.tx_turns.specs.Ties.{Ties, Turned};
 ghost use Rattle.driven_turns.specs.Own.{HasOwn};
@@ -56,10 +56,13 @@ fn tries_left<V>(stage: &Stage<V>) -> u32 {
     0
 }
 
-/// What a try waits that found its gate taken. The one that holds it is done within microseconds where it has a core, so each of the first
-/// 16 tries pauses, for longer each time; after a later one the thread yields.
+/// What a try waits that found its gate taken: it looks at the gate, which leaves its line of the cache with the one that holds it, until
+/// it seems free. That one is done within microseconds where it has a core, so after each of the first 16 tries there are more looks than
+/// after the one before; after a later one the thread yields.
 #[inline(never)]
-fn wait<V>(stage: &Stage<V>) {
+fn wait<V: Value>(table: &TxTable<V>, stage: &Stage<V>, k: u32)
+    requires { k < length (blocks_in table.now) }
+{
     let left = tries_left(stage);
     if left < 48 {
         yield_now();
@@ -68,6 +71,9 @@ fn wait<V>(stage: &Stage<V>) {
     for _ in left..65 {
         for _ in 0..8 {
             spin_loop();
+            if !table.is_gate_taken(k) {
+                return;
+            }
         }
     }
 }
@@ -104,7 +110,7 @@ pub fn try_gate<V: Value>(
             Ok(actor.tried_gate(true))
         }
         None => {
-            wait(&actor.stage);
+            wait(table, &actor.stage, k);
             Ok(actor.tried_gate(false))
         }
     }

@@ -1,6 +1,6 @@
 -- What a closed table holds, of the closed table itself: no slot is empty, so its bases are those in the slots, in order.
-use Rattle.std.proofs.Common.{◌≡◌, ℕ, zero, suc, ◌+◌, ◌<◌, List, [], ◌∷◌, Some, None}
-use Rattle.std.proofs.Common.{length, map, slice_get, take, drop, get_or, refl, sym, ap, ◌∙◌, subst}
+use Rattle.std.proofs.Common.{◌≡◌, ℕ, zero, suc, ◌<◌, List, [], ◌∷◌, Some, None}
+use Rattle.std.proofs.Common.{length, map, slice_get, get_or, refl, sym, ap, ◌∙◌, subst}
 use Rattle.std.specs.Prelude.{All}
 use Rattle.std.proofs.lemmas.Option.{slice_get-map}
 use Rattle.std.specs.Option.{option_map}
@@ -12,9 +12,11 @@ use Rattle.seq_model.specs.Runs.{after_run}
 use Rattle.replay_log.specs.declared.base.Base.{Base}
 use Rattle.replay_log.specs.Base.{held_of, shown_of}
 use Rattle.replay_log.specs.Contents.{Block, end_of}
+use Rattle.tx_machine.specs.Cells.{ValueCell}
 use Rattle.tx_table.specs.declared.closed.Closed.{Closed}
 use Rattle.tx_table.specs.Ends.{bases_in, held_in, homes_of, row_of}
 use Rattle.tx_table.specs.declared.view.View.{View}
+use Rattle.tx_table.specs.Layout.{address, values_in}
 use Rattle.tx_table.specs.Shown.{Closes, Slot}
 use Rattle.tx_table.proofs.Numbers.{map_at}
 use Rattle.tx_engine.specs.Closing.{IsLeftBy, state_of}
@@ -51,7 +53,7 @@ module _ {V : Type 0} where
     in_order = closes.in_order;
     numbers = closes.numbers;
     serial = closes.serial;
-    words = λ w low. ap (λ m. get_or (row_of c) (1 + m + w) 0) locations ∙ closes.values w (subst (λ m. w < m) words low);
+    words = λ w low. ap (λ m. get_or (row_of c) (address m (ValueCell w)) 0) locations ∙ closes.values w (subst (λ m. w < m) words low);
     collections = λ k base at. ap (λ (s : Contents V). slice_get s.held k) state
         ∙ (slice_get-map (λ (b : Base V). held_of (shown_of b)) (bases_in (homes_of c)) k
         ∙ ap (option_map (λ (b : Base V). held_of (shown_of b))) (slot_base (homes_of c) k base c.home at));
@@ -62,4 +64,4 @@ module _ {V : Type 0} where
       state : after_run closes.order opening ≡ state_of c
       state = closes.state (bases_in (homes_of c)) (bases_length (homes_of c) c.home ∙ wide)
           (λ k d at. map_at some (homes_of c) k (Some d) (base_slot (homes_of c) k d c.home at))
-          ∙ (λ i. record { words = take (sym words i) (drop (1 + sym locations i) (row_of c)); held = held_in c })
+          ∙ (λ i. record { words = values_in (sym locations i) (sym words i) (row_of c); held = held_in c })

@@ -1,5 +1,5 @@
 -- What a closed table holds is what the receipts of its last seat leave.
-use Rattle.std.specs.Prelude.{◌≡◌, ℕ, ◌+◌, ◌<◌, All, List, Some, drop, get_or, slice_get, take}
+use Rattle.std.specs.Prelude.{◌≡◌, ℕ, ◌<◌, All, List, Some, get_or, slice_get}
 use mathlib.Core.Option.{some}
 use lib.ListN.{get_elem?}
 use Rattle.seq_model.specs.Calls.{IsWithinLimits}
@@ -9,8 +9,10 @@ use Rattle.seq_model.specs.declared.record.Record.{Record}
 use Rattle.replay_log.specs.declared.base.Base.{Base}
 use Rattle.replay_log.specs.Base.{held_of, shown_of}
 use Rattle.replay_log.specs.WorldSerial.{AreUpTo}
+use Rattle.tx_machine.specs.Cells.{ValueCell}
 use Rattle.tx_table.specs.declared.closed.Closed.{Closed}
 use Rattle.tx_table.specs.Ends.{held_in, homes_of, row_of}
+use Rattle.tx_table.specs.Layout.{address, values_in}
 use Rattle.tx_table.specs.Shown.{total}
 
 module _ {V : Type 0} where
@@ -18,11 +20,11 @@ module _ {V : Type 0} where
   clock_of c = get_or (row_of c) 0 0
 
   abbrev pub word_of : Closed V → ℕ → ℕ
-  word_of c w = get_or (row_of c) (1 + c.locations + w) 0
+  word_of c w = get_or (row_of c) (address c.locations (ValueCell w)) 0
 
   -- what its words and its collections hold
   abbrev pub state_of : Closed V → Contents V
-  state_of c = record { words = take c.words (drop (1 + c.locations) (row_of c)); held = held_in c }
+  state_of c = record { words = values_in c.locations c.words (row_of c); held = held_in c }
 
   -- The receipts, in commit order, are a run from the opening, with no number above the clock. Each word and each collection is what the
   -- run leaves, and so is the state that they make up, which is within the limits of states.

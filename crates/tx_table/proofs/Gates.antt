@@ -39,30 +39,25 @@ use Rattle.actor_laws.proofs.Others.{others, calm_alike}
 use Rattle.actor_laws.proofs.OwnEvents.{own_event}
 use Rattle.actor_laws.proofs.Spots.{Keeps, one_spot, after_calm}
 use Rattle.actor_laws.proofs.Turned.{try_turned, put_turned, home_turned, home_same}
-use Rattle.tx_table.specs.Layout.{address, gate_address, width}
+use Rattle.tx_table.specs.Layout.{address, gate_address}
 use Rattle.tx_table.specs.Turns.{Turn, asked_all, stage_of, spot, parts_found, editions_found, found_at, moved, ends, took, lone}
 use Rattle.tx_table.specs.Turns.{turn_events}
 use Rattle.tx_table.specs.Shown.{View, Slot, total, acting, HasHappened, IsBaseAt, OneBase, SameBases, HomeOk, Table, Shows, Rule, Told}
 use Rattle.tx_table.specs.Shown.{Steps, Took, aborted_by, only_by}
 use Rattle.tx_table.proofs.Numbers.{at_set_same, at_set_other}
 use Rattle.tx_table.proofs.Turned.{asked_alike, asked_calm, ends_theirs, found_alike, others_notes, records_grow, turn_notes}
-use Rattle.tx_table.proofs.Keeps.{asked_bases, gate_apart, base_trans, base_sym, calm_base, has_happened, keeps_base, ends_same}
+use Rattle.tx_table.proofs.LayoutLemmas.{gate_apart, gate_low, gates_apart}
+use Rattle.tx_table.proofs.Keeps.{asked_bases, base_trans, base_sym, calm_base, has_happened, keeps_base, ends_same}
 use Rattle.tx_table.proofs.Keeps.{shows_after}
 use Rattle.tx_table.proofs.Keeps.{run_append, run_own}
 
 gate_ne : (k j : ℕ) → j ≢ k → Gate k ≢ Gate j
 gate_ne k j ne e = ne (let q : k ≡ j = cc in sym q)
 
-gate_low : (n m k : ℕ) → k < m → gate_address n k < width n m
-gate_low n m k h = omega arith
-
 -- one's own gate is taken
 held_word : (a : ℕ) (p : Maybe ℕ) → is_actor a p ≡ true → gate_word p ≡ 1
 held_word a None e = absurd (true≢false (sym e))
 held_word a (Some j) e = refl
-
-gates_apart : (n k j : ℕ) → j ≢ k → gate_address n j ≢ gate_address n k
-gates_apart n k j ne e = ne (omega arith)
 
 module _ {V : Type 0} where
   pub tries_spot : (a : ℕ) (v : World V) (k : ℕ) → Tries v a k → spot a v ≡ Gate k

@@ -31,10 +31,11 @@ use Rattle.actor_laws.proofs.Clock.{one_left}
 use Rattle.actor_laws.proofs.Others.{others, calm_alike}
 use Rattle.actor_laws.proofs.Spots.{Keeps, one_spot, after_calm}
 use Rattle.actor_laws.proofs.Turned.{word_turned}
-use Rattle.tx_table.specs.Layout.{address, gate_address, IsInside, width}
+use Rattle.tx_table.specs.Layout.{address, gate_address, IsInside}
 use Rattle.tx_table.specs.Turns.{Turn, own, asked_all, stage_of, spot, found_at, moved, ends, ends_of, took, lone, turn_events}
 use Rattle.tx_table.specs.Shown.{highest_clock, View, Slot, total, owed, owed_of, acting, HasHappened, OneBase, SameBases, Table, IsOwn}
 use Rattle.tx_table.specs.Shown.{HasReceipts, IsJoined, Shows, Rule, Steps, Told, aborted_by, only_by}
+use Rattle.tx_table.proofs.LayoutLemmas.{apart, gate_apart, low}
 use Rattle.tx_table.proofs.Numbers.{total_set, total_append, inside, tally_set, tally_below, at_set_same, at_set_other}
 use Rattle.tx_table.proofs.Turned.{Notes, asked_alike, asked_calm, ends_theirs, found_alike, lone_snoc, others_notes, records_grow}
 use Rattle.tx_table.proofs.Turned.{turn_notes, word_own}
@@ -46,28 +47,6 @@ owed_some (suc k) p h = refl
 pub owed_le : (k : ℕ) (p : Place) → owed_of k p ≤ k
 owed_le zero p = omega arith
 owed_le (suc k) p = let a = one_left p in omega arith
-
--- different words are at different addresses
-pub apart : (n : ℕ) (c d : Cell) → IsInside n c → IsInside n d → (Word c ≡ Word d → ⊥) → address n d ≢ address n c
-apart n ClockCell ClockCell i j ne e = ne refl
-apart n ClockCell (LockCell l) i j ne e = omega arith
-apart n ClockCell (ValueCell l) i j ne e = omega arith
-apart n (LockCell k) ClockCell i j ne e = omega arith
-apart n (LockCell k) (LockCell l) i j ne e = let q : k ≡ l = omega arith in ne (ap (λ (m : ℕ). Word (LockCell m)) q)
-apart n (LockCell k) (ValueCell l) i j ne e = omega arith
-apart n (ValueCell k) ClockCell i j ne e = omega arith
-apart n (ValueCell k) (LockCell l) i j ne e = omega arith
-apart n (ValueCell k) (ValueCell l) i j ne e = let q : k ≡ l = omega arith in ne (ap (λ (m : ℕ). Word (ValueCell m)) q)
-
-pub gate_apart : (n : ℕ) (c : Cell) (k : ℕ) → IsInside n c → gate_address n k ≢ address n c
-gate_apart n ClockCell k i e = omega arith
-gate_apart n (LockCell l) k i e = omega arith
-gate_apart n (ValueCell l) k i e = omega arith
-
-pub low : (n m : ℕ) (c : Cell) → IsInside n c → address n c < width n m
-low n m ClockCell i = omega arith
-low n m (LockCell l) i = omega arith
-low n m (ValueCell l) i = omega arith
 
 pub same_or : (c d : Cell) → (c ≡ d) ⊎ (Word c ≡ Word d → ⊥)
 same_or ClockCell ClockCell = inl refl
@@ -260,7 +239,8 @@ module _ {V : Type 0} where
         cells = λ d inn. ⊎_elim
             (λ (e : c ≡ d). subst (λ (z : Cell). get_or (set ws (address N c) new) (address N z) 0 ≡ cell u.boosted.words z) e
             (get_or-set_same ws (address N c) new 0 (omega arith) ∙ is))
-            (λ (ne : Word c ≡ Word d → ⊥). get_or-set_other ws (address N c) (address N d) new 0 (apart N c d inner inn ne)
+            (λ (ne : Word c ≡ Word d → ⊥). get_or-set_other ws (address N c) (address N d) new 0
+            (apart N c d inner inn (λ (e : c ≡ d). ne (ap (λ (z : Cell). Word z) e)))
             ∙ (T.cells d inn ∙ sym (K.cells d ne)))
             (same_or c d);
         gates = λ k lt. get_or-set_other ws (address N c) (gate_address N k) new 0 (gate_apart N c k inner)

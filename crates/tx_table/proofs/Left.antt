@@ -2,15 +2,15 @@
 --
 -- No commit is half done, so the world shows what its records leave. Its words are the values that the table has for them, and the parts on
 -- the locations of a collection are those of the base that is in its slot, so that they make up what the base shows.
-use Rattle.std.proofs.Common.{◌≡◌, ℕ, zero, suc, ◌+◌, ◌-◌, List, [], ◌∷◌, ◌++◌, length, slice_get, take, drop, map, Some, None, sym, ap}
+use Rattle.std.proofs.Common.{◌≡◌, ℕ, zero, suc, ◌+◌, ◌-◌, List, [], ◌∷◌, ◌++◌, length, slice_get, take, map, get_or, Some, None, sym, ap}
 use Rattle.std.proofs.Common.{◌∙◌, subst, arith}
 use Rattle.std.specs.Prelude.{All}
 use Rattle.std.proofs.lemmas.List.{map-append}
+use Rattle.std.proofs.lemmas.List.FromFn.{fill_by_all, get_or-map-range_with_len, length-map-range_with_len}
 use Rattle.std.proofs.lemmas.List.Elements.{All-cons, All-nil}
 use Rattle.std.proofs.lemmas.Option.{slice_get_within}
 use mathlib.Core.Option.{Option, some, some-injective}
-use lib.ListN.{get_elem?, length-drop}
-use lib.Seq.{get_or-drop}
+use lib.ListN.{get_elem?}
 use Rattle.tx_machine.specs.Cells.{ValueCell}
 use Rattle.seq_model.specs.declared.held.Held.{Held}
 use Rattle.seq_model.specs.Calls.{IsWithinLimits}
@@ -24,8 +24,9 @@ use Rattle.replay_log.specs.Seats.{World}
 use Rattle.replay_log.specs.WorldTraces.{held_from, state}
 use Rattle.replay_log.proofs.ContentLemmas.{end_above, home_is, not_plain}
 use Rattle.actor_laws.specs.Bases.{IsBaseOf}
-use Rattle.world_table.proofs.StateLemmas.{Shows, all_held, words_are}
+use Rattle.world_table.proofs.StateLemmas.{Shows, all_held}
 use Rattle.tx_table.specs.Ends.{bases_in}
+use Rattle.tx_table.specs.Layout.{address, values_in}
 use Rattle.tx_table.specs.Shown.{Slot, Table}
 
 -- the collections that suit blocks are within the limits
@@ -66,17 +67,18 @@ module _ {V : Type 0} where
   pub shows_left : (n : ℕ) (bs : List Block) (w : World V) (words : List ℕ) (homes : List (Option (Slot V))) (ds : List (Base V))
       → w.words ≡ n → w.blocks ≡ bs → HaveStripes bs → Table n bs w words homes → ((k : ℕ) → w.boosted.gates k ≡ None)
       → length ds ≡ length bs → AreHome homes ds
-      → state w ≡ record { words = take n (drop (1 + end_of n bs) words); held = map (λ d. held_of (shown_of d)) ds }
+      → state w ≡ record { words = values_in (end_of n bs) n words; held = map (λ d. held_of (shown_of d)) ds }
   shows_left n bs w words homes ds e1 e2 pos t free long home =
-      let m = 1 + end_of n bs in
+      let m = end_of n bs in
       let above = end_above n bs in
-      let wide = t.wide in
-      let first : map w.boosted.words.values (all_below n) ≡ take n (drop m words) =
-      words_are n w.boosted.words.values (drop m words) (let cut = length-drop m words in omega (arith, above, wide, cut))
-      (λ l lt. sym (t.cells (ValueCell l) (omega (arith, lt, above))) ∙ sym (get_or-drop m words l 0)) in
+      let first : map w.boosted.words.values (all_below n) ≡ values_in m n words =
+      fill_by_all (λ (l : ℕ). get_or words (address m (ValueCell l)) 0) (map w.boosted.words.values (all_below n)) n 0
+      (length-map-range_with_len w.boosted.words.values 0 n)
+      (λ l lt. get_or-map-range_with_len w.boosted.words.values 0 n l l 0 lt (omega arith)
+      ∙ sym (t.cells (ValueCell l) (omega (arith, lt, above)))) in
       (λ i. record { words = map w.boosted.words.values (all_below (e1 i)); held = held_from (e1 i) (e2 i) w.boosted.parts })
       ∙ (ap (λ (ws : List ℕ). record { words = ws; held = held_from n bs w.boosted.parts }) first
-      ∙ ap (λ (hs : List (Held V)). record { words = take n (drop m words); held = hs })
+      ∙ ap (λ (hs : List (Held V)). record { words = values_in m n words; held = hs })
       (all_held n bs w.boosted.parts ds long pos (home_shows n bs w words homes ds t free long home)))
 
   -- one base more among the first of the slots

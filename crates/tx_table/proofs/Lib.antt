@@ -1,4 +1,5 @@
 pub mod Numbers
+pub mod LayoutLemmas
 pub mod Turned
 pub mod Keeps
 pub mod Gates

@@ -2,19 +2,20 @@
 use Rattle.tx_table.specs.declared.view.TheConstants.{SHARES}
 use Rattle.std.proofs.Common.{◌≡◌, ℕ, zero, suc, ◌+◌, ◌<◌, ◌≤◌, List, [], ◌∷◌, Some, None, length, get_or, set, sym, refl, ap, ◌∙◌, subst}
 use Rattle.std.proofs.Common.{arith, ◌≢◌, ⊎_elim, length-set}
-use Rattle.std.specs.Prelude.{drop, map, take}
+use Rattle.std.specs.Prelude.{map}
 use Rattle.std.proofs.lemmas.Option.{slice_get_within}
 use mathlib.Core.Option.{some, some-injective}
 use lib.ListN.{get_elem?}
 use lib.Seq.{set-get_or}
 use Rattle.atomic_table.specs.Table.{Me, Allows, Splits, Joins, Final, Seen, keeps}
 use Rattle.atomic_table.proofs.Lists.{at_set}
-use Rattle.tx_machine.specs.Cells.{ClockCell}
+use Rattle.tx_machine.specs.Cells.{ClockCell, ValueCell}
 use Rattle.replay_log.specs.Base.{held_of, shown_of}
 use Rattle.replay_log.specs.Seats.{World}
 use Rattle.replay_log.specs.Worlds.{run}
 use Rattle.replay_log.specs.WorldSerial.{AreUpTo}
 use Rattle.tx_table.specs.declared.view.Opening.{Opening}
+use Rattle.tx_table.specs.Layout.{address, values_in}
 use Rattle.tx_table.specs.Opening.{Holds, blocks_at, locations_at, words_at, world_at}
 use Rattle.tx_table.specs.Turns.{Turn, lone}
 use Rattle.tx_table.specs.Shown.{highest_clock, View, Slot, Closes, ShowsWorld, HasReceipts, IsJoined, IsOwn, IsSpent, Shows}
@@ -158,7 +159,7 @@ module _ {V : Type 0} where
         in_order = c.in_order;
         numbers = subst (λ (w : List ℕ). AreUpTo (get_or w 0 0) c.order) last.2 c.numbers;
         serial = c.serial;
-        values = λ l low. ap (λ (w : List ℕ). get_or w (1 + locations_at key + l) 0) (sym last.2) ∙ c.values l low;
+        values = λ l low. ap (λ (w : List ℕ). get_or w (address (locations_at key) (ValueCell l)) 0) (sym last.2) ∙ c.values l low;
         bases = λ k low. (let b = c.bases k low in (b.0, map_at some xs k (Some b.0) (last.4 k (Some b.0) b.1), b.2));
         within = c.within;
         state = λ ds long home.
@@ -169,7 +170,7 @@ module _ {V : Type 0} where
             same_home (get_elem? (map some xs) k) b.0 d (map_at some xs k (Some b.0) (last.4 k (Some b.0) b.1)) (home k d at) in
             subst (λ x. get_elem? s.homes k ≡ some (some (Some x))) same b.1))
             ∙ ap (λ (w : List ℕ). record {
-              words = take (words_at key) (drop (1 + locations_at key) w);
+              words = values_in (locations_at key) (words_at key) w;
               held = map (λ d. held_of (shown_of d)) ds;
             }) last.2;
       }

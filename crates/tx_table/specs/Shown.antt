@@ -2,13 +2,13 @@
 --
 -- A gate and the base of its collection go together: the base is in its slot while the gate is free, and is out with the seat that has the
 -- gate. Each seat's actor knows the world in which it is alone with what it found.
-use Rattle.std.specs.Prelude.{◌≡◌, ◌⊎◌, ℕ, zero, suc, ◌+◌, ◌-◌, ◌^◌, ◌<◌, ◌≤◌, true, false, max, All, List, [], ◌∷◌, ◌++◌, drop, map}
-use Rattle.std.specs.Prelude.{take, length, get_or, slice_get, Option as Maybe, Some, None, ◌==◌, if◌then◌else◌}
+use Rattle.std.specs.Prelude.{◌≡◌, ◌⊎◌, ℕ, zero, suc, ◌+◌, ◌-◌, ◌^◌, ◌<◌, ◌≤◌, true, false, max, All, List, [], ◌∷◌, ◌++◌, map}
+use Rattle.std.specs.Prelude.{length, get_or, slice_get, Option as Maybe, Some, None, ◌==◌, if◌then◌else◌}
 use mathlib.Core.Option.{Option, none, some}
 use lib.ListN.{get_elem?}
 use Rattle.atomic_table.specs.Table.{Act, Me, State, Valid, carried_after, stepped}
 use Rattle.tx_machine.specs.Actor.{Place, clock_limit}
-use Rattle.tx_machine.specs.Cells.{Cell, cell}
+use Rattle.tx_machine.specs.Cells.{Cell, ValueCell, cell}
 use Rattle.seq_model.specs.declared.limits.TheConstants.{ACTOR_LIMIT}
 use Rattle.seq_model.specs.declared.event.Event.{Event}
 use Rattle.seq_model.specs.declared.event.Event.TheVariants.{Step}
@@ -31,7 +31,7 @@ use Rattle.actor_laws.specs.Clock.{stamps_left}
 use Rattle.actor_laws.specs.Machine.{SameBase}
 use Rattle.actor_laws.specs.Own.{Alike, SameAfter}
 use Rattle.actor_laws.specs.Spots.{gate_word, number_at}
-use Rattle.tx_table.specs.Layout.{address, gate_address, IsInside, width}
+use Rattle.tx_table.specs.Layout.{address, gate_address, IsInside, values_in, width}
 use Rattle.tx_table.specs.Turns.{Turn, asked_all, lone, moved, ends, spot, stage_of, turn_events}
 use Rattle.tx_table.specs.declared.view.TheConstants.{SHARES}
 pub use Rattle.tx_table.specs.declared.view.View.{View}
@@ -277,7 +277,7 @@ module _ {V : Type 0} where
     pub in_order : IsInCommitOrder order
     pub numbers : AreUpTo (get_or words 0 0) order
     pub serial : IsRun order opening
-    pub values : (l : ℕ) → l < n → get_or words (1 + end_of n bs + l) 0 ≡ get_or (after_run order opening).words l 0
+    pub values : (l : ℕ) → l < n → get_or words (address (end_of n bs) (ValueCell l)) 0 ≡ get_or (after_run order opening).words l 0
     pub bases :
         (k : ℕ) → k < length bs
         → (b : Base V) × (get_elem? homes k ≡ some (some (Some b)))
@@ -287,4 +287,4 @@ module _ {V : Type 0} where
     pub state : (ds : List (Base V)) → length ds ≡ length bs
         → ((k : ℕ) (d : Base V) → slice_get ds k ≡ Some d → get_elem? homes k ≡ some (some (Some d)))
         → after_run order opening
-        ≡ record { words = take n (drop (1 + end_of n bs) words); held = map (λ d. held_of (shown_of d)) ds }
+        ≡ record { words = values_in (end_of n bs) n words; held = map (λ d. held_of (shown_of d)) ds }

@@ -13,15 +13,21 @@ use Rattle.seq_model.specs.declared.event.Request.TheVariants as request
 use Rattle.tx_machine.specs.Boosted.{insert_commit}
 use Rattle.replay_log.specs.Seats.{World}
 use Rattle.replay_log.specs.Worlds.{opened}
-use Rattle.tx_table.specs.Layout.{address, gate_address, width}
+use Rattle.tx_table.specs.Layout.{address, gate_address, stride, values_in, width}
 use Rattle.tx_table.specs.Turns.{Turn, ends, lone}
 
--- three locations are laid out side by side, and two gates eight words apart
-thirty_words :
-    (address 3 ClockCell ≡ 0) × (address 3 (LockCell 0) ≡ 1) × (address 3 (LockCell 2) ≡ 3) × (address 3 (ValueCell 0) ≡ 4)
-    × (address 3 (ValueCell 2) ≡ 6)
-    × (gate_address 3 0 ≡ 14) × (gate_address 3 1 ≡ 22) × (width 3 2 ≡ 30)
-thirty_words = (refl, refl, refl, refl, refl, refl, refl, refl)
+-- three locations are eight words apart, each value beside its lock word, and two gates eight words apart
+three_locations :
+    (address 3 ClockCell ≡ 0) × (address 3 (LockCell 0) ≡ 8) × (address 3 (ValueCell 0) ≡ 9) × (address 3 (LockCell 2) ≡ 24)
+    × (address 3 (ValueCell 2) ≡ 25)
+    × (gate_address 3 0 ≡ 40) × (gate_address 3 1 ≡ 48) × (width 3 2 ≡ 56)
+three_locations = (refl, refl, refl, refl, refl, refl, refl, refl)
+
+-- of more than 4,096 locations four share a line of the cache
+many_locations :
+    (stride 4096 ≡ 8) × (stride 4097 ≡ 2) × (address 4097 (LockCell 3) ≡ 14) × (address 4097 (ValueCell 3) ≡ 15)
+    × (gate_address 4097 0 ≡ 8210) × (values_in 1 1 (0 ∷ 0 ∷ 0 ∷ 0 ∷ 0 ∷ 0 ∷ 0 ∷ 0 ∷ 0 ∷ 7 ∷ []) ≡ 7 ∷ [])
+many_locations = (refl, refl, refl, refl, refl, refl)
 
 turn : List (Event ℕ) → ℕ → Turn ℕ
 turn asks found = record { asks = asks; found = found; base = None }

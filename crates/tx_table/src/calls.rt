@@ -65,7 +65,7 @@ impl<V: Value> TxTable<V> {
         requires due { Loads (actor seat.old) (acts (opening_of self.now) seat.old) (LockCell location) }
         ensures { Stepped (opening_of self.now) seat.old result seat.new }
     {
-        load_word(&self.whole.shared, seat, 1 + location as usize)
+        load_word(&self.whole.shared, seat, self.place(location))
     }
 
     /// A load of the value of a location.
@@ -76,11 +76,7 @@ impl<V: Value> TxTable<V> {
         requires due { Loads (actor seat.old) (acts (opening_of self.now) seat.old) (ValueCell location) }
         ensures { Stepped (opening_of self.now) seat.old result seat.new }
     {
-        load_word(
-            &self.whole.shared,
-            seat,
-            1 + self.locations + location as usize,
-        )
+        load_word(&self.whole.shared, seat, self.place(location) + 1)
     }
 
     /// Locks a location whose lock word was found as `old`. Where it is another number by now, that is the answer, and it is unchanged.
@@ -93,13 +89,7 @@ impl<V: Value> TxTable<V> {
         ensures { MatchOption result (Stepped (opening_of self.now) seat.old old seat.new)
             (λ found. (found ≢ old) × Stepped (opening_of self.now) seat.old found seat.new) }
     {
-        let found = swap_word(
-            &self.whole.shared,
-            seat,
-            1 + location as usize,
-            old,
-            old + 1,
-        );
+        let found = swap_word(&self.whole.shared, seat, self.place(location), old, old + 1);
         if found == old { None } else { Some(found) }
     }
 
@@ -122,12 +112,7 @@ impl<V: Value> TxTable<V> {
         requires due { Stores (actor seat.old) (acts (opening_of self.now) seat.old) (ValueCell location) value }
         ensures { StepsBlind (opening_of self.now) seat.old seat.new }
     {
-        store_word(
-            &self.whole.shared,
-            seat,
-            1 + self.locations + location as usize,
-            value,
-        );
+        store_word(&self.whole.shared, seat, self.place(location) + 1, value);
     }
 
     /// Stores the lock word of a location.
@@ -138,7 +123,7 @@ impl<V: Value> TxTable<V> {
         requires due { Stores (actor seat.old) (acts (opening_of self.now) seat.old) (LockCell location) word }
         ensures { StepsBlind (opening_of self.now) seat.old seat.new }
     {
-        store_word(&self.whole.shared, seat, 1 + location as usize, word);
+        store_word(&self.whole.shared, seat, self.place(location), word);
     }
 
     /// Tries the gate of a collection, and has its base where the gate was free.
@@ -156,9 +141,17 @@ impl<V: Value> TxTable<V> {
         try_gate(
             &self.whole.shared,
             seat,
-            8 + 2 * self.locations + 8 * collection as usize,
+            self.gate_place(collection),
             collection as usize,
         )
+    }
+
+    /// Whether the gate of a collection is taken now, as others may have changed by the time that this is answered. It is no step of a
+    /// transaction, and takes the gate's line of the cache from nobody for longer than it reads it.
+    pub fn is_gate_taken(&self, collection: u32) -> bool
+        requires collection { collection < length (blocks_in self.now) }
+    {
+        self.whole.shared.peek(self.gate_place(collection)) != 0
     }
 
     /// Puts back the gate that the seat took first of those that it has, and its base with it: as it was found, or with the log of the
@@ -175,7 +168,7 @@ impl<V: Value> TxTable<V> {
         free_gate(
             &self.whole.shared,
             seat,
-            8 + 2 * self.locations + 8 * collection as usize,
+            self.gate_place(collection),
             collection as usize,
             base,
         );

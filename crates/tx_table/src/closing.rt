@@ -1,14 +1,17 @@
 //! A table that no thread shares any more.
-ghost use Rattle.std.specs.Prelude.{◌≡◌, ◌+◌, ◌<◌, All, IfOk, Some, drop, get_or, length, map, take};
+ghost use Rattle.std.specs.Prelude.{◌≡◌, ◌<◌, All, IfOk, Some, get_or, length, map};
 ghost use Rattle.seq_model.specs.Calls.{IsWithinLimits};
 ghost use mathlib.Core.Option.{some};
 ghost use lib.ListN.{get_elem?};
+ghost use Rattle.tx_machine.specs.Cells.{ValueCell};
+ghost use Rattle.tx_table.specs.Layout.{address, values_in};
 ghost use Rattle.tx_table.specs.Shown.{Closes, ShowsWorld};
 ghost use Rattle.tx_table.specs.Ends.{held_in, homes_of, row_of};
 ghost use Rattle.tx_table.specs.Seated.{Owns, Rests, actor, blocks_in, contents_in, kept, locations_in, opening_of, view, words_in};
 
 use crate::closed::Closed;
 use crate::laws::closed;
+use crate::layout::stride;
 use crate::seat::Seat;
 use crate::table::TxTable;
 use crate::view::SHARES;
@@ -57,9 +60,10 @@ impl<V: Value> Closed<V> {
     /// The value of a word.
     pub fn word(&self, word: u32) -> u64
         requires { word < self.now.words }
-        ensures { result ≡ get_or (row_of self.now) (1 + self.now.locations + word) 0 }
+        ensures { result ≡ get_or (row_of self.now) (address self.now.locations (ValueCell word)) 0 }
     {
-        *self.row.words.get(1 + self.locations + word as usize)
+        let place = 9 + stride(self.locations) * word as usize;
+        *self.row.words.get(place)
     }
 
     /// The clock.
@@ -99,7 +103,7 @@ impl<V: Value> Closed<V> {
     /// a state, as `close` promises. `Memory` where an allocation for the copies fails; what was closed is gone either way.
     pub fn state(self) -> Result<State<V>, Memory>
         requires { All IsWithinLimits (held_in self) }
-        ensures words { IfOk result (λ state. state.words ≡ take self.words (drop (1 + self.locations) (row_of self))) }
+        ensures words { IfOk result (λ state. state.words ≡ values_in self.locations self.words (row_of self)) }
         ensures held { IfOk result (λ state. state.held ≡ held_in self) }
     {
         let words = self.values()?;
@@ -111,7 +115,7 @@ impl<V: Value> Closed<V> {
     }
 
     fn values(&self) -> Result<Vec<u64>, Memory>
-        ensures { IfOk result (λ words. words.items ≡ take self.now.words (drop (1 + self.now.locations) (row_of self.now))) }
+        ensures { IfOk result (λ words. words.items ≡ values_in self.now.locations self.now.words (row_of self.now)) }
     {
         let mut words = Vec::with_capacity(self.alloc, self.words as usize)?;
         for word in 0..self.words {

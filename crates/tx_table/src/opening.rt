@@ -1,13 +1,15 @@
 //! Opening a table.
-ghost use Rattle.actor_parts.specs.declared.blocks.TheConstants.{COLLECTION_LIMIT};
-ghost use Rattle.std.specs.Prelude.{◌≡◌, ◌≤◌, ◌≢◌, ◌+◌, ◌*◌, ◌++◌, ◌∷◌, [], IfErr, IfOk, IfSome, IsOk, Some, length, map, replicate};
+ghost use Rattle.actor_parts.specs.declared.blocks.TheConstants.{COLLECTION_LIMIT, TABLE_LIMIT};
+ghost use Rattle.std.specs.Prelude.{◌≡◌, ◌≤◌, ◌≢◌, [], IfErr, IfOk, IfSome, IsOk, Some, length, map};
 ghost use Rattle.replay_log.specs.Contents.{HaveStripes};
 ghost use Rattle.seq_model.specs.Refusals.{IsNoSuchOrTooLong};
 ghost use Rattle.world_table.specs.Openings.{IsWithin, blocks_of, world_of};
+ghost use Rattle.tx_table.specs.Layout.{IsLaidOut};
 ghost use Rattle.tx_table.specs.Shown.{first as first_view};
 ghost use Rattle.tx_table.specs.Seated.{Owns, blocks_in, contents_in, list_of, opening_of};
 
 use crate::home::Home;
+use crate::layout::stride;
 use crate::rule::Whole;
 use crate::seat::{Asked, Seat};
 use crate::table::TxTable;
@@ -17,22 +19,21 @@ use replay_log::Base;
 use seq_model::{Memory, Refusal, Shape, State, Value};
 use std::alloc::Global;
 use std::snapshot::Snapshot;
-use step_core::Cells;
 use world_table::lay;
 
-// The words of the table: the clock, the lock words, the values, the gates with what is between them.
-fn laid_out(alloc: Global, cells: &Cells, gates: usize) -> Result<Vec<u64>, Memory>
-    requires { gates ≤ COLLECTION_LIMIT }
-    ensures { IfOk result (λ row. row.items ≡
-        ((cells.now.clock ∷ replicate (length cells.now.locks.items) 0) ++ cells.now.values.items) ++ replicate (7 + 8 * gates) 0) }
+// The words of a table that opens with this clock and these values.
+fn laid_out(alloc: Global, clock: u64, values: &[u64], gates: usize) -> Result<Vec<u64>, Memory>
+    requires locations { length values.now ≤ TABLE_LIMIT }
+    requires gates { gates ≤ COLLECTION_LIMIT }
+    ensures { IfOk result (λ row. IsLaidOut clock values.now (length values.now) gates row.items) }
 {
-    let locks = vec![in alloc; 0; cells.locks.len()]?;
-    let free = vec![in alloc; 0; 7 + 8 * gates]?;
-    let mut row = Vec::new(alloc);
-    row.push(cells.clock)?;
-    row.extend_from_slice(&locks)?;
-    row.extend_from_slice(&cells.values)?;
-    row.extend_from_slice(&free)?;
+    let locations = values.len();
+    let step = stride(locations);
+    let mut row = vec![in alloc; 0; 16 + step * locations + 8 * gates]?;
+    row[0] = clock;
+    for l in 0..locations {
+        row[9 + step * l] = values[l];
+    }
     Ok(row)
 }
 
@@ -99,8 +100,13 @@ impl<V: Value> TxTable<V> {
         let Some(blocks) = blocks else {
             return Err(Refusal::Memory);
         };
-        let locations = laid.cells.locks.len();
-        let row = laid_out(alloc, &laid.cells, laid.gates.len())?;
+        let locations = laid.cells.values.len();
+        let row = laid_out(
+            alloc,
+            laid.cells.clock,
+            &laid.cells.values,
+            laid.gates.len(),
+        )?;
         let homes = at_home(alloc, laid.bases)?;
         let Ok((whole, place)) = Whole::new(alloc, row.as_slice(), homes, &about) else {
             return Err(Refusal::Memory);

@@ -22,6 +22,10 @@ pub take_gate-requires-clause-due : goal.take_gate-requires-clause-due
 take_gate-requires-clause-due g c =
     try_due c.steps_as_worlds.ensures c.args.table.now c.args.seat.now c.args.actor.now c.args.k c.requires.due c.requires.ties
 
+pub wait-requires : goal.wait-requires
+wait-requires g c =
+    named_try c.args.actor.now.stage c.args.k (length (blocks_in c.args.table.now)) c.requires.due c.requires.ties.running.names
+
 pub returns-in-Some-clause-turned : goal.returns-in-Some-clause-turned
 returns-in-Some-clause-turned g c =
     let r = c.args.actor.now in

@@ -4,7 +4,7 @@ use Rattle.world_table.specs.Openings.{blocks_of, world_of}
 use Rattle.seq_model.specs.Contents.{Contents}
 use Rattle.tx_table.specs.Layout.{width}
 use Rattle.tx_table.specs.Opening.{blocks_at}
-use Rattle.tx_table.proofs.LaidOut.{few, few_words, locations_are, meets, row_for, slots_are, wide_as, words_are}
+use Rattle.tx_table.proofs.LaidOut.{few, few_words, locations_are, meets, row_as, slots_are, wide_as, words_are}
 use Rattle.tx_table.proofs.table.TxTable.open_bare.Goals as goal
 
 pub new-requires : goal.new-requires
@@ -13,8 +13,8 @@ new-requires g c =
     let e = c.in_ok-laid.ensures in
     meets (record { shape = c.of.result; state = c.of-2.result }) c.args.shape.now c.args.state laid c.as_slice.result.now
     c.in_ok-homes.homes.items c.of.ensures c.of-2.ensures e.shape
-    (c.as_slice.ensures.value ∙ (c.in_ok-row.ensures
-    ∙ ap (λ (m : ℕ). row_for laid.cells.clock (length laid.cells.locks.items) laid.cells.values.items m) (c.len.ensures ∙ laid.gates.ok.0)))
+    (row_as laid c.as_slice.result.now c.in_ok-row.row.items c.deref.result.now c.len.result c.as_slice.ensures.value c.deref.ensures.value
+    (c.len.ensures ∙ laid.gates.ok.0) c.in_ok-row.ensures)
     c.in_ok-homes.ensures e.opens (e.stripes refl) (e.suits refl) (e.fits refl).1.clock
 
 pub overflow_cast-table : goal.overflow_cast-table
@@ -30,15 +30,14 @@ invariant_of-table g c =
     let key = c.in-Ok.whole.shared.key in
     let shape_is = ap (λ k. k.shape.value) n.5 ∙ c.of.ensures in
     let state_is = ap (λ k. k.state.value) n.5 ∙ c.of-2.ensures in
-    let row_is = c.as_slice.ensures.value ∙ (c.in_ok-row.ensures
-    ∙ ap (λ (m : ℕ). row_for laid.cells.clock (length laid.cells.locks.items) laid.cells.values.items m)
-    (c.len.ensures ∙ laid.gates.ok.0)) in
+    let row_is = row_as laid c.as_slice.result.now c.in_ok-row.row.items c.deref.result.now c.len.result c.as_slice.ensures.value
+    c.deref.ensures.value (c.len.ensures ∙ laid.gates.ok.0) c.in_ok-row.ensures in
     let sh = c.args.shape.now in
     let s = c.args.state in
     let row = c.as_slice.result.now in
     let xs = c.in_ok-homes.homes.items in
     let homes = c.in_ok-homes.ensures in
-    let count : c.len-locations.result ≡ length laid.cells.locks.items = c.len-locations.ensures ∙ laid.cells.locks.ok.0 in
+    let count : c.len-locations.result ≡ length laid.cells.values.items = c.len-locations.ensures ∙ laid.cells.values.ok.0 in
     let small = few key sh s laid row xs shape_is state_is e.shape row_is homes (e.fits refl).1 (e.fits refl).0 in
     record {
       words_are = ap length c.words-words.ensures ∙ words_are key sh s laid row xs shape_is state_is e.shape row_is homes;
