@@ -7,7 +7,7 @@ use Rattle.tx_table.specs.declared.table.TxTable.{TxTable}
 use Rattle.tx_table.specs.Seated.{contents_in, view}
 use Rattle.tx_engine.specs.declared.seats.TxSeat.{TxSeat}
 use Rattle.tx_engine.specs.Closing as closing
-use Rattle.wolimevar.specs.declared.tally.Tally.{Tally}
+use Rattle.tx_client.specs.declared.tally.Tally.{Tally}
 use Rattle.wolimevar.specs.Stores.{IsLeftBy, StoreShown}
 use Rattle.wolimevar.specs.StoreSeats.{store_at}
 

@@ -17,14 +17,14 @@ use Rattle.driven_turns.specs.Requested.{requests_of}
 use Rattle.tx_engine.specs.declared.seats.TxSeat.{TxSeat}
 use Rattle.tx_engine.specs.Ready.{IsReady}
 use Rattle.wolimevar.specs.declared.homes.Home.{Home}
-use Rattle.wolimevar.specs.declared.tally.Tally.{Tally}
-use Rattle.wolimevar.specs.Backs.{IsBack, IsLent, shares_at}
-use Rattle.wolimevar.specs.Frames.{AreBy}
+use Rattle.tx_client.specs.declared.tally.Tally.{Tally}
+use Rattle.tx_client.specs.Backs.{IsBack, IsLent, shares_at}
+use Rattle.tx_client.specs.Frames.{AreBy}
 use Rattle.wolimevar.specs.Homes.{IsHomeOf}
 use Rattle.wolimevar.specs.Lenders.{HasBack, HasTakenBack, IsAtLender, LenderShown, lender_at}
 use Rattle.wolimevar.specs.Sessions.{IsOfOne, joined, receipts_at}
 use Rattle.wolimevar.specs.StoreSeats.{IsAtStore, store_at}
-use Rattle.wolimevar.proofs.FrameLemmas.{at_client, own_back, own_is}
+use Rattle.tx_client.proofs.FrameLemmas.{at_client, own_back, own_is}
 
 joined_append : {A : Type 0} (xs ys : List (List A)) → joined (xs ++ ys) ≡ joined xs ++ joined ys
 joined_append [] ys = refl

@@ -1,14 +1,4 @@
-pub mod GateLemmas
-pub mod SumLemmas
-pub mod LaneLemmas
-pub mod ReadLemmas
-pub mod LayoutLemmas
-pub mod AskedLemmas
-pub mod FrameLemmas
-pub mod EndLemmas
-pub mod TallyLemmas
 pub mod CloseLemmas
-pub mod ClientLemmas
 pub mod StoreLemmas
 pub mod SessionLemmas
 pub mod LenderLemmas

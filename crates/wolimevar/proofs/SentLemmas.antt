@@ -20,7 +20,7 @@ use Rattle.tx_engine.proofs.reply_room.ReplyRoom.TheSendSync as replies
 use Rattle.wolimevar.specs.contracts.homes.Back as Back
 use Rattle.wolimevar.specs.contracts.homes.Home as Home
 use Rattle.wolimevar.specs.contracts.homes.Own as Own
-use Rattle.wolimevar.specs.contracts.runner.Runner as Runner
+use Rattle.tx_client.specs.contracts.runner.Runner as Runner
 use Rattle.wolimevar.specs.contracts.lent.LentClient as LentClient
 
 -- who has a `&` to a place has shares of the whole of it

@@ -10,8 +10,8 @@ use Rattle.tx_table.specs.Seated.{actor, view}
 use Rattle.tx_engine.specs.declared.seats.TxSeat.{TxSeat}
 use Rattle.wolimevar.specs.declared.sessions.Task.{Task}
 use Rattle.wolimevar.specs.Sessions.{AreServed, IsFinished, IsOfOne, IsServed, IsWaiting, joined, receipts_at}
-use Rattle.wolimevar.specs.Frames.{AreBy}
-use Rattle.wolimevar.proofs.FrameLemmas.{own_is}
+use Rattle.tx_client.specs.Frames.{AreBy}
+use Rattle.tx_client.proofs.FrameLemmas.{own_is}
 
 -- what holds at each task holds item by item
 pub zip_of : {A : Type 0} (R : A → A → Type 0) (xs ys : List A) → length ys ≡ length xs

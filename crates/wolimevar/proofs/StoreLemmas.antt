@@ -1,18 +1,36 @@
 -- What a store has of the attempts of a body.
-use Rattle.std.proofs.Common.{◌≡◌, ℕ, ◌≤◌, List, [], ◌∷◌, ◌++◌, Some, Ok, Err, ap, ◌∙◌, subst}
+use Rattle.std.proofs.Common.{◌≡◌, ℕ, ◌≤◌, List, [], ◌∷◌, ◌++◌, Option, Some, Ok, Err, refl, ap, ◌∙◌, subst}
 use Rattle.std.specs.Prelude.{IfOk, OnErr, Result}
 use Rattle.seq_model.specs.declared.call.Call.{Call}
 use Rattle.seq_model.specs.declared.call.Reply.{Reply}
 use Rattle.seq_model.specs.declared.record.Record.{Record}
 use Rattle.tx_table.specs.declared.table.TxTable.{TxTable}
 use Rattle.tx_table.specs.Seated.{actor, view}
+use Rattle.tx_table.specs.declared.view.TheConstants.{SHARES}
 use Rattle.tx_engine.specs.declared.seats.TxSeat.{TxSeat}
-use Rattle.wolimevar.specs.declared.failures.Failure.{Failure}
-use Rattle.wolimevar.specs.declared.tally.Tally.{Tally}
-use Rattle.wolimevar.specs.Ends.{EndsAs}
+use Rattle.tx_engine.specs.Ready.{IsReady}
+use Rattle.tx_client.specs.declared.failures.Failure.{Failure}
+use Rattle.tx_client.specs.declared.tally.Tally.{Tally}
+use Rattle.tx_client.specs.Ends.{EndsAs}
 use Rattle.wolimevar.specs.Stores.{StoreShown}
-use Rattle.wolimevar.specs.StoreSeats.{store_at}
-use Rattle.wolimevar.proofs.EndLemmas.{gained, gained_none}
+use Rattle.wolimevar.specs.StoreSeats.{IsAtStore, store_at}
+use Rattle.tx_client.proofs.EndLemmas.{gained, gained_none}
+use Rattle.tx_client.proofs.FrameLemmas.{own_is}
+
+module _ {V : Type 0} where
+  -- the store is one with another seat that is ready and has as many shares
+  pub store_on : (t : TxTable V) (seat : Option (TxSeat V)) (s u : TxSeat V) → IsAtStore t seat → seat ≡ Some s → IsReady t u
+      → (view u.seat).shares ≡ (view s.seat).shares → IsAtStore t (Some u)
+  store_on t seat s u h e ready same = record {
+    own = u;
+    is = refl;
+    ready = ready;
+    whole = same ∙ subst (λ (x : TxSeat V). (view x.seat).shares ≡ SHARES) (own_is seat h.own s h.is e) h.whole;
+  }
+
+  pub store_shows : (n : ℕ) (t : TxTable V) (seat : Option (TxSeat V)) (s : TxSeat V) (tally : Tally) (d : StoreShown V)
+      → store_at n t seat tally ≡ d → seat ≡ Some s → store_at n t (Some s) tally ≡ d
+  store_shows n t seat s tally d v e = subst (λ (x : Option (TxSeat V)). store_at n t x tally ≡ d) e v
 
 module _ {V A E : Type 0} (makes : A → List (Call V × Reply V) → Type 0) (aborts : E → List (Call V × Reply V) → Type 0) (n : ℕ)
     (t : TxTable V) (s u : TxSeat V) (tally : Tally) where

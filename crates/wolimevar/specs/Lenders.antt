@@ -8,7 +8,7 @@ use Rattle.driven_turns.specs.Requested.{requests_of}
 use Rattle.tx_engine.specs.declared.seats.TxSeat.{TxSeat}
 use Rattle.tx_engine.specs.Ready.{IsReady}
 use Rattle.wolimevar.specs.declared.homes.Home.{Home}
-use Rattle.wolimevar.specs.declared.tally.Tally.{Tally}
+use Rattle.tx_client.specs.declared.tally.Tally.{Tally}
 use Rattle.wolimevar.specs.Homes.{IsHomeOf}
 use Rattle.wolimevar.specs.Sessions.{IsOfOne, joined}
 use Rattle.wolimevar.specs.Stores.{StoreShown}

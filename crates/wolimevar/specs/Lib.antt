@@ -1,15 +1,3 @@
-pub mod Gates
-pub mod Asked
-pub mod Made
-pub mod Answered
-pub mod Lanes
-pub mod Read
-pub mod Frames
-pub mod Ends
-pub mod Tallies
-pub mod Clients
-pub mod Runners
-pub mod Backs
 pub mod Homes
 pub mod Stores
 pub mod StoreSeats

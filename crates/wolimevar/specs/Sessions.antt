@@ -9,7 +9,7 @@ use Rattle.tx_table.specs.Seated.{actor, view}
 use Rattle.tx_engine.specs.declared.seats.TxSeat.{TxSeat}
 use Rattle.tx_engine.specs.Ready.{IsReady}
 use Rattle.wolimevar.specs.declared.sessions.Task.{Task}
-use Rattle.wolimevar.specs.Frames.{AreBy}
+use Rattle.tx_client.specs.Frames.{AreBy}
 
 -- Why sessions are not served: they are too many, or an allocation fails.
 abbrev pub IsWhy : ℕ → Refusal → Type 0

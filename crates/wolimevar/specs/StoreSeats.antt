@@ -4,7 +4,7 @@ use Rattle.tx_table.specs.declared.table.TxTable.{TxTable}
 use Rattle.tx_table.specs.Seated.{contents_in, view}
 use Rattle.tx_table.specs.declared.view.TheConstants.{SHARES}
 use Rattle.driven_turns.specs.Requested.{requests_of}
-use Rattle.wolimevar.specs.declared.tally.Tally.{Tally}
+use Rattle.tx_client.specs.declared.tally.Tally.{Tally}
 use Rattle.tx_engine.specs.declared.seats.TxSeat.{TxSeat}
 use Rattle.tx_engine.specs.Ready.{IsReady}
 use Rattle.wolimevar.specs.Stores.{StoreShown}

@@ -6,7 +6,7 @@
 //! A home waits for the seat of its client (`FREE`), or has it (`PRESENT`), or is idle until another client gets it (`MARKED`).
 ghost use Rattle.std.specs.Prelude.{◌≡◌, All, IfOk, IfSome};
 ghost use Rattle.std.specs.Arc.{arc_value};
-ghost use Rattle.wolimevar.specs.Backs.{IsBack};
+ghost use Rattle.tx_client.specs.Backs.{IsBack};
 ghost use Rattle.wolimevar.specs.Homes.{IsHomeOf};
 
 use counted_slot::{Counted, FREE, Fits, MARKED, PRESENT, TAKEN};

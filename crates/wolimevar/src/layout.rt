@@ -1,19 +1,14 @@
 //! What a store opens with.
 ghost use Rattle.std.specs.Prelude.{◌≡◌, IfOk, Some, map, slice_get};
-ghost use Rattle.wolimevar.specs.Gates.{LieOver};
+ghost use Rattle.tx_handles.specs.Gates.{LieOver};
 ghost use Rattle.seq_model.specs.declared.held.Held.TheVariants as held;
 
-use crate::bags::Bag;
-use crate::gates::Gates;
-use crate::maps::Map;
-use crate::priority_queues::PriorityQueue;
-use crate::queues::Queue;
 use crate::store::Store;
-use crate::tally::Tally;
-use crate::words::Word;
 use seq_model::{Counts, Entries, Held, Items, Memory, QueueItems, Refusal, Shape, State, Value};
 use std::alloc::Global;
+use tx_client::Tally;
 use tx_engine::TxSeat;
+use tx_handles::{Bag, Gates, Map, PriorityQueue, Queue, Word, map_at};
 
 /// A collection: how many stripes it is in, and what it holds at first.
 #[derive(Drop)]
@@ -105,7 +100,10 @@ impl<V: Value> Layout<V> {
             return Err(Refusal::TooLong);
         };
         self.words.push(number)?;
-        Ok(Word::of(self.store, next))
+        Ok(Word {
+            store: self.store,
+            number: next,
+        })
     }
 
     /// Adds a map that holds these entries at first. Refused like `word`.
@@ -115,7 +113,7 @@ impl<V: Value> Layout<V> {
     /// entries.insert(1, 10)?;
     /// let map = layout.map(64, entries)?;
     /// ```
-    #[tactic(auto, using(crate::proofs::LayoutLemmas::one_map))]
+    #[tactic(auto, using(tx_handles::proofs::LayoutLemmas::one_map))]
     pub fn map(&mut self, stripes: u32, entries: Entries<V>) -> Result<Map<V>, Refusal>
         ensures same { self.new.store ≡ self.old.store }
         ensures store { IfOk result (λ handle. handle.store ≡ self.new.store) }
@@ -123,7 +121,7 @@ impl<V: Value> Layout<V> {
         ensures lies { IfOk result (λ handle. LieOver held.Map handle.gates entries (map (λ c. c.held) self.new.collections.items)) }
     {
         let number = self.add(stripes, Held::Map(entries))?;
-        Ok(Map::over(self.store, Gates::one(number)))
+        Ok(map_at(self.store, Gates::one(number)))
     }
 
     /// Adds a multiset that holds these counts at first. Refused like `word`.
@@ -133,7 +131,7 @@ impl<V: Value> Layout<V> {
     /// counts.set_copies(3, 2)?;
     /// let bag = layout.bag(64, counts)?;
     /// ```
-    #[tactic(auto, using(crate::proofs::LayoutLemmas::one_bag))]
+    #[tactic(auto, using(tx_handles::proofs::LayoutLemmas::one_bag))]
     pub fn bag(&mut self, stripes: u32, counts: Counts) -> Result<Bag, Refusal>
         ensures same { self.new.store ≡ self.old.store }
         ensures store { IfOk result (λ handle. handle.store ≡ self.new.store) }
@@ -141,7 +139,10 @@ impl<V: Value> Layout<V> {
         ensures lies { IfOk result (λ handle. LieOver held.Bag handle.gates counts (map (λ c. c.held) self.new.collections.items)) }
     {
         let number = self.add(stripes, Held::Bag(counts))?;
-        Ok(Bag::over(self.store, Gates::one(number)))
+        Ok(Bag {
+            store: self.store,
+            gates: Gates::one(number),
+        })
     }
 
     /// Adds a priority queue that holds these counts at first. Refused like `word`.
@@ -157,7 +158,10 @@ impl<V: Value> Layout<V> {
         ensures holds { IfOk result (λ handle. slice_get (map (λ c. c.held) self.new.collections.items) handle.number ≡ Some (held.Pq counts)) }
     {
         let number = self.add(stripes, Held::Pq(counts))?;
-        Ok(PriorityQueue::of(self.store, number))
+        Ok(PriorityQueue {
+            store: self.store,
+            number,
+        })
     }
 
     /// Adds a queue that holds these items at first. Refused like `word`.
@@ -173,7 +177,10 @@ impl<V: Value> Layout<V> {
         ensures holds { IfOk result (λ handle. slice_get (map (λ c. c.held) self.new.collections.items) handle.number ≡ Some (held.Queue 0 items)) }
     {
         let number = self.add(stripes, Held::Queue { head: 0, items })?;
-        Ok(Queue::of(self.store, number))
+        Ok(Queue {
+            store: self.store,
+            number,
+        })
     }
 
     /// Opens a store that holds all this. `TooLong` where there are more than 256 collections or more than 1,048,576 locations, a

@@ -9,23 +9,22 @@ ghost use Rattle.tx_table.specs.Seated.{view};
 ghost use Rattle.tx_table.specs.declared.view.TheConstants.{SHARES};
 ghost use Rattle.driven_turns.specs.Requested.{requests_of};
 ghost use Rattle.tx_engine.specs.Ready.{IsReady};
-ghost use Rattle.wolimevar.specs.Backs.{IsBack, shares_at};
+ghost use Rattle.tx_client.specs.Backs.{IsBack, shares_at};
 ghost use Rattle.wolimevar.specs.Homes.{IsHomeOf};
 ghost use Rattle.wolimevar.specs.Lenders.{HasBack, HasTakenBack};
 ghost use Rattle.wolimevar.specs.Sessions.{receipts_at};
 
-use crate::caller::Caller;
 use crate::homes::{Home, Own, home_for};
 use crate::lent::LentClient;
 use crate::serving::Serving;
 use crate::sessions::Session;
 use crate::store::Store;
-use crate::tally::Tally;
 use seq_model::{Refusal, Value};
 use std::alloc::Global;
 use std::marker::Model;
 use std::sync::Arc;
 use std::thread::Threads;
+use tx_client::{Caller, Tally};
 use tx_engine::TxSeat;
 use tx_table::{SHARES, TxTable};
 

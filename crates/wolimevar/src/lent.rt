@@ -4,20 +4,16 @@ ghost use Rattle.std.specs.Arc.{arc_value};
 ghost use Rattle.seq_model.specs.declared.refusal.Refusal.TheVariants.{Ahead};
 ghost use Rattle.tx_table.specs.Seated.{view};
 ghost use Rattle.tx_engine.specs.Ready.{IsReady};
-ghost use Rattle.wolimevar.specs.Asked.{HasAsked};
-ghost use Rattle.wolimevar.specs.Ends.{IsAbortBy};
-ghost use Rattle.wolimevar.specs.Runners.{HasRun};
-ghost use Rattle.wolimevar.specs.Tallies.{AreCounted};
+ghost use Rattle.tx_client.specs.Asked.{HasAsked};
+ghost use Rattle.tx_client.specs.Ends.{IsAbortBy};
+ghost use Rattle.tx_client.specs.Runners.{HasRun};
+ghost use Rattle.tx_client.specs.Tallies.{AreCounted};
 
-use crate::body::Body;
-use crate::caller::Caller;
-use crate::failures::Failure;
 use crate::homes::Own;
-use crate::runner::Runner;
 use crate::sessions::{Session, serve_one};
-use crate::tally::Tally;
 use seq_model::{Refusal, Value};
 use std::marker::{Brand, Model};
+use tx_client::{Body, Caller, Failure, Runner, Tally};
 use tx_engine::{Receipt, TxSeat};
 
 /// A client of a lender's store ([`crate::Lender::client`]), for any thread: it borrows nothing. Its calls are those of [`crate::Client`].
@@ -32,12 +28,12 @@ pub struct LentClient<V> {
 
 impl<V> Model for LentClient<V> {
     ghost use Rattle.std.specs.Arc.{arc_value};
-    ghost use Rattle.wolimevar.specs.Ends.{ClientShown};
+    ghost use Rattle.tx_client.specs.Ends.{ClientShown};
 
     ghost Value = { ClientShown V };
 
-    ghost use Rattle.wolimevar.specs.Backs.{IsLent};
-    ghost use Rattle.wolimevar.specs.Clients.{shown_at};
+    ghost use Rattle.tx_client.specs.Backs.{IsLent};
+    ghost use Rattle.tx_client.specs.Clients.{shown_at};
 
     ghost view = { λ a. shown_at a.runner.seat a.runner.tally };
 

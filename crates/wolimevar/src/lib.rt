@@ -30,59 +30,25 @@
 //! that wants to prove something of its own defines `makes` of a body, and `serves` of a session.
 #![tactic(auto)]
 
-mod attempts;
-mod bags;
-mod body;
-mod caller;
-mod changes;
-mod client;
-mod contents;
-mod contents_over;
-mod failures;
-mod gates;
 mod homes;
-mod lanes;
 mod layout;
 mod layout_over;
 mod lender;
 mod lent;
-mod maps;
-mod priority_queues;
-mod queues;
-mod replies;
-mod runner;
-mod scope;
 mod serving;
 mod sessions;
-mod shared;
 mod store;
-mod tally;
-mod text;
-mod transaction;
-mod words;
 
-pub use bags::Bag;
-pub use body::Body;
-pub use changes::Full;
-pub use client::Client;
-pub use contents::Contents;
-pub use contents_over::{BagCounts, BagIter, LaneItems, MapEntries, MapIter};
-pub use failures::Failure;
-pub use lanes::Lanes;
 pub use layout::Layout;
 pub use lender::{Lender, StillLent};
 pub use lent::LentClient;
-pub use maps::Map;
-pub use priority_queues::PriorityQueue;
-pub use queues::Queue;
-pub use scope::Scope;
 pub use seq_model::{Counts, Entries, Memory, QueueItems, Refusal, Value};
 pub use serving::Serving;
 pub use sessions::Session;
-pub use shared::Shared;
 pub use store::Store;
-pub use tally::Tally;
-pub use text::Text;
-pub use transaction::Transaction;
+pub use tx_client::{Body, Client, Contents, Failure, Scope, Tally, Transaction};
 pub use tx_engine::Receipt;
-pub use words::Word;
+pub use tx_handles::{
+    Bag, BagCounts, BagIter, Full, LaneItems, Lanes, Map, MapEntries, MapIter, PriorityQueue,
+    Queue, Shared, Text, Word,
+};

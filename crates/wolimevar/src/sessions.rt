@@ -8,17 +8,15 @@ ghost use Rattle.std.specs.Vec.{vec_capacity};
 ghost use Rattle.tx_table.specs.Seated.{actor, view};
 ghost use Rattle.driven_turns.specs.Requested.{requests_of};
 ghost use Rattle.tx_engine.specs.Ready.{IsReady};
-ghost use Rattle.wolimevar.specs.Frames.{AreBy};
+ghost use Rattle.tx_client.specs.Frames.{AreBy};
 ghost use Rattle.wolimevar.specs.Sessions.{IsFinished, HaveServed, IsServed, IsWhy, IsWaiting, joined, receipts_at};
 
-use crate::caller::Caller;
-use crate::client::Client;
-use crate::scope::Scope;
 use seq_model::{Refusal, Value};
 use std::alloc::Global;
 use std::marker::Brand;
 use std::thread;
 use std::thread::Threads;
+use tx_client::{Caller, Client, Scope, client_of, seat_of};
 use tx_engine::TxSeat;
 use tx_table::{SHARES, TxTable};
 
@@ -72,9 +70,9 @@ fn serve_as<V: Value, S: Scope<V>, N: Session<V> + Drop>(
     ensures served { N.serves session result.1 (view result.0.seat).receipts }
     ensures own { AreBy (actor result.0.seat) (view result.0.seat).receipts }
 {
-    let mut client: Client<'_, V, S> = Client::of(table, caller, seat);
+    let mut client: Client<'_, V, S> = client_of(table, caller, seat);
     let out = session.serve(&mut client);
-    (client.into_seat(), out)
+    (seat_of(client), out)
 }
 
 /// Serves a session, see `serve_as`.

@@ -2,25 +2,20 @@
 ghost use Rattle.std.specs.Prelude.{◌≡◌, ◌<◌, ◌≤◌, ◌++◌, ◌∷◌, [], IfErr, IfOk, OnErr, OnOk, false, length, max, true};
 ghost use Rattle.seq_model.specs.declared.refusal.Refusal.TheVariants.{Ahead};
 ghost use Rattle.tx_table.specs.declared.view.TheConstants.{SHARES};
-ghost use Rattle.wolimevar.specs.Asked.{HasAsked};
-ghost use Rattle.wolimevar.specs.Ends.{IsAbortBy};
+ghost use Rattle.tx_client.specs.Asked.{HasAsked};
+ghost use Rattle.tx_client.specs.Ends.{IsAbortBy};
 ghost use Rattle.wolimevar.specs.Sessions.{HaveServed, IsWhy};
 ghost use Rattle.wolimevar.specs.Stores.{IsLeftBy};
-ghost use Rattle.wolimevar.specs.Tallies.{AreCounted};
+ghost use Rattle.tx_client.specs.Tallies.{AreCounted};
 
-use crate::attempts::retry;
-use crate::body::Body;
-use crate::caller::Caller;
-use crate::contents::Contents;
-use crate::failures::Failure;
 use crate::lender::Lender;
 use crate::sessions::{Session, serve};
-use crate::tally::Tally;
 use seq_model::{Memory, Refusal, Value};
 use std::alloc::Global;
 use std::marker::Model;
 use std::sync::Arc;
 use std::thread::Threads;
+use tx_client::{Body, Caller, Contents, Failure, Tally, contents_of, retry};
 use tx_engine::{Receipt, TxSeat};
 use tx_table::TxTable;
 
@@ -315,10 +310,7 @@ impl<V: Value> Store<V> {
             Some(seat) => {
                 let closed = seat.close(table)?;
                 let state = closed.state()?;
-                Ok(Contents {
-                    store: number,
-                    state,
-                })
+                Ok(contents_of(number, state))
             }
             None => unreachable!(),
         }

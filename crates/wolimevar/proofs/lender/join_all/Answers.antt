@@ -3,7 +3,7 @@ use Rattle.std.proofs.lemmas.List.Elements.{All-get_or}
 use Rattle.std.specs.Prelude.{IfSome}
 use Rattle.tx_table.specs.declared.table.TxTable.{TxTable}
 use Rattle.wolimevar.specs.declared.homes.Home.{Home}
-use Rattle.wolimevar.specs.Backs.{IsBack}
+use Rattle.tx_client.specs.Backs.{IsBack}
 use Rattle.wolimevar.specs.Homes.{IsHomeOf}
 use Rattle.wolimevar.proofs.LenderLemmas.{joined_back, none_back, then_back}
 use Rattle.wolimevar.proofs.lender.join_all.Goals as goal

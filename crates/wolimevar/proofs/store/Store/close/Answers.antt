@@ -1,8 +1,11 @@
+use Rattle.std.proofs.Common.{subst, sym}
+use Rattle.wolimevar.specs.Stores.{IsLeftBy}
 use Rattle.wolimevar.proofs.CloseLemmas.{close_left}
 use Rattle.wolimevar.proofs.store.Store.close.Goals as goal
 
 pub returns-clause-left : goal.returns-clause-left
 returns-clause-left g c =
-    close_left c.self.inside.number c.self.inside.table c.self.inside.seat c.in-Some.seat c.self.inside.tally c.args.self
+    subst (λ left. IsLeftBy c.args.self left) (sym c.contents_of.ensures.state)
+    (close_left c.self.inside.number c.self.inside.table c.self.inside.seat c.in-Some.seat c.self.inside.tally c.args.self
     c.in_ok-closed-in-Some.closed c.in_ok-state-in-Some.state c.self.view_is c.in-Some.is c.in_ok-closed-in-Some.ensures.left
-    c.in_ok-state-in-Some.ensures.words c.in_ok-state-in-Some.ensures.held
+    c.in_ok-state-in-Some.ensures.words c.in_ok-state-in-Some.ensures.held)

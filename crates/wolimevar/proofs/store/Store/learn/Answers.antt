@@ -1,7 +1,8 @@
 use Rattle.std.proofs.Common.{rules, ◌≡◌, Some, ap, subst, ◌∙◌}
 use Rattle.std.specs.Prelude.{OnErr, OnOk, max}
 use Rattle.wolimevar.specs.Stores.{StoreShown}
-use Rattle.wolimevar.proofs.ClientLemmas.{some_clock, store_on, store_shows}
+use Rattle.tx_client.proofs.ClientLemmas.{some_clock}
+use Rattle.wolimevar.proofs.StoreLemmas.{store_on, store_shows}
 use Rattle.wolimevar.proofs.store.Store.learn.Goals as goal
 
 pub invariant_of-self : goal.invariant_of-self

@@ -1,5 +1,5 @@
 use Rattle.std.proofs.Common.{refl}
-use Rattle.wolimevar.proofs.EndLemmas.{ok_then}
+use Rattle.tx_client.proofs.EndLemmas.{ok_then}
 use Rattle.wolimevar.proofs.store.Store.look.Goals as goal
 
 pub returns-clause-reads : goal.returns-clause-reads

@@ -1,11 +1,11 @@
 use Rattle.std.proofs.Common.{rules, ◌≡◌, Some, ap, subst}
 use Rattle.driven_turns.specs.Requested.{requests_of}
-use Rattle.wolimevar.specs.Asked.{HasAsked}
+use Rattle.tx_client.specs.Asked.{HasAsked}
 use Rattle.wolimevar.specs.Stores.{StoreShown}
-use Rattle.wolimevar.specs.Tallies.{AreCounted}
-use Rattle.wolimevar.proofs.EndLemmas.{is_abort}
-use Rattle.wolimevar.proofs.ClientLemmas.{ends_goes, ends_made, store_on, store_shows}
-use Rattle.wolimevar.proofs.StoreLemmas.{store_last, store_none, store_one}
+use Rattle.tx_client.specs.Tallies.{AreCounted}
+use Rattle.tx_client.proofs.EndLemmas.{is_abort}
+use Rattle.tx_client.proofs.ClientLemmas.{ends_goes, ends_made}
+use Rattle.wolimevar.proofs.StoreLemmas.{store_last, store_none, store_on, store_one, store_shows}
 use Rattle.wolimevar.proofs.store.Store.retry_as.Goals as goal
 
 pub invariant_of-self : goal.invariant_of-self

@@ -1,7 +1,6 @@
 use Rattle.std.proofs.Common.{rules, ◌≡◌, ◌≤◌, Some, ap, subst, ◌∙◌}
 use Rattle.wolimevar.specs.Stores.{StoreShown}
-use Rattle.wolimevar.proofs.ClientLemmas.{store_shows}
-use Rattle.wolimevar.proofs.StoreLemmas.{run_none}
+use Rattle.wolimevar.proofs.StoreLemmas.{run_none, store_shows}
 use Rattle.wolimevar.proofs.store.Store.run.Goals as goal
 
 pub returns-clause-none : goal.returns-clause-none

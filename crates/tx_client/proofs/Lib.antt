@@ -1,0 +1,5 @@
+pub mod AskedLemmas
+pub mod FrameLemmas
+pub mod EndLemmas
+pub mod TallyLemmas
+pub mod ClientLemmas

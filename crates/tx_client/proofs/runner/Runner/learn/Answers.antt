@@ -1,0 +1,38 @@
+use Rattle.std.proofs.Common.{rules, ◌≡◌, Some, ap, refl, subst, sym, ◌∙◌}
+use Rattle.std.specs.Prelude.{OnErr, OnOk, max}
+use Rattle.tx_client.specs.Backs.{shares_at}
+use Rattle.tx_client.specs.Clients.{shown_at}
+use Rattle.tx_client.specs.Ends.{ClientShown}
+use Rattle.tx_client.proofs.ClientLemmas.{client_on, learn_goes, learn_own, shows_as, some_clock}
+use Rattle.tx_client.proofs.runner.Runner.learn.Goals as goal
+
+pub returns-clause-at : goal.returns-clause-at
+returns-clause-at g c =
+    let is : c.args.self.now.seat ≡ Some c.in-Some.seat = search rules in
+    client_on g.S.Scope.frame c.args.table.now c.args.self.now.seat c.in-Some.seat c.learn-learnt.new.self c.requires.at is
+    c.learn-learnt.ensures.ready (learn_goes _ c.in-Some.seat.seat c.learn-learnt.new.self.seat c.learn-learnt.ensures.knows)
+    (learn_own _ c.in-Some.seat.seat c.learn-learnt.new.self.seat c.learn-learnt.ensures.knows)
+
+pub returns-clause-shares : goal.returns-clause-shares
+returns-clause-shares g c =
+    let is : c.args.self.now.seat ≡ Some c.in-Some.seat = search rules in
+    c.learn-learnt.ensures.knows.shares ∙ sym (ap shares_at is)
+
+pub returns-clause-learnt : goal.returns-clause-learnt
+returns-clause-learnt g c =
+    let is : c.args.self.now.seat ≡ Some c.in-Some.seat = search rules in
+    let tally = c.args.self.now.tally in
+    let d : ClientShown g.row.V.Denot = shown_at c.args.self.now.seat tally in
+    let v = shows_as c.args.self.now.seat c.in-Some.seat tally d refl is in
+    let knows = c.learn-learnt.ensures.knows in
+    let u = c.learn-learnt.new.self.seat in
+    record {
+      same = knows.seat.1 ∙ ap (λ (x : ClientShown g.row.V.Denot). x.actor) v;
+      receipts = knows.receipts ∙ ap (λ (x : ClientShown g.row.V.Denot). x.receipts) v;
+      asks = knows.asks ∙ ap (λ (x : ClientShown g.row.V.Denot). x.asked) v;
+      counts = ap (λ (x : ClientShown g.row.V.Denot). x.tally) v;
+      learns = subst (λ (x : ClientShown g.row.V.Denot). OnOk c.learn-learnt.result (u.last ≡ max x.last c.args.number)) v
+          c.learn-learnt.ensures.learns;
+      none = subst (λ (x : ClientShown g.row.V.Denot). OnErr c.learn-learnt.result (u.last ≡ x.last)) v c.learn-learnt.ensures.last;
+      ahead = some_clock c.learn-learnt.result _ c.args.number c.learn-learnt.ensures.ahead;
+    }

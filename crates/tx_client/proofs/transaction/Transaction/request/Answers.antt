@@ -1,0 +1,10 @@
+use Rattle.tx_client.proofs.FrameLemmas.{called_on}
+use Rattle.tx_client.proofs.transaction.Transaction.request.Goals as goal
+
+pub invariant_of-self-in-Err : goal.invariant_of-self-in-Err
+invariant_of-self-in-Err g c =
+    called_on g.S.Scope.frame c.self.inside.table.now c.self.inside.seat c.call.new.self _ _ c.self.invariant c.call.ensures.called
+
+pub invariant_of-self : goal.invariant_of-self
+invariant_of-self g c =
+    called_on g.S.Scope.frame c.self.inside.table.now c.self.inside.seat c.call.new.self _ _ c.self.invariant c.call.ensures.called

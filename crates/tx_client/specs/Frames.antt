@@ -1,0 +1,84 @@
+-- What is known of a transaction, or of a client, by its scope: its table, and the seat as it was when it began.
+use Rattle.std.specs.Prelude.{◌≡◌, ℕ, All, Bool, true, List, [], Option, IfSome}
+use Rattle.seq_model.specs.declared.call.Call.{Call}
+use Rattle.seq_model.specs.declared.call.Reply.{Reply}
+use Rattle.seq_model.specs.declared.record.Record.{Record}
+use Rattle.replay_log.specs.Seats.{World}
+use Rattle.actor_laws.specs.Phases.{Phase, Rests, Begins, Stands, Calls, Commits, Committed, Ends}
+use Rattle.tx_table.specs.declared.seat.Seat.{Seat}
+use Rattle.tx_table.specs.declared.table.TxTable.{TxTable}
+use Rattle.tx_table.specs.Seated.{actor, opening_of, view}
+use Rattle.tx_engine.specs.declared.seats.TxSeat.{TxSeat}
+use Rattle.tx_engine.specs.Ready.{HasBegunSince, IsReady, standing}
+use Rattle.driven_turns.specs.Driven.{is_declared}
+use Rattle.driven_turns.specs.Requested.{requests_of}
+use Rattle.tx_engine.specs.Requests.{KeepsReceipts}
+use Rattle.tx_client.specs.Asked.{HasAsked}
+use Rattle.tx_handles.specs.Made.{TransactionShown}
+
+module _ (V : Type 0) where
+  -- a table, and the seat as it was when the transaction, or the client, began
+  pub record Frame : Type 0 where
+    pub table : TxTable V
+    pub begun : Option (TxSeat V)
+
+module _ {V : Type 0} where
+  -- the calls of a transaction that stands so; where there is none, none
+  abbrev pub calls_of : Phase V → List (Call V × Reply V)
+  calls_of (Stands calls) = calls
+  calls_of Rests = []
+  calls_of Begins = []
+  calls_of (Calls calls call) = []
+  calls_of (Commits calls) = []
+  calls_of Committed = []
+  calls_of Ends = []
+
+  -- the calls that the open transaction of a seat has made; where none is open, none
+  abbrev pub calls_made : World V → Seat V → List (Call V × Reply V)
+  calls_made o s = calls_of (standing o s)
+
+  -- what contracts see of a transaction at a store with this number
+  abbrev pub transaction_at : ℕ → World V → Seat V → TransactionShown V
+  transaction_at store o s = record { store = store; calls = calls_made o s }
+
+  -- by calls alone, none of which has gained a receipt; a declared reader stays one
+  pub record HasMadeCalls (o : World V) (m s : Seat V) : Type 0 where
+    pub keeps : KeepsReceipts m s
+    pub asks : (declared : Bool) → HasAsked declared (requests_of m) (requests_of s)
+    pub reader : is_declared o m ≡ true → is_declared o s ≡ true
+
+  -- at the table of the frame, by calls since the seat that it began with
+  pub record IsIn (t : TxTable V) (s : TxSeat V) (f : Frame V) : Type 0 where
+    pub table : t ≡ f.table
+    pub since : IfSome f.begun (λ m. HasMadeCalls (opening_of f.table) m.seat s.seat)
+
+  -- a transaction, between two of its calls, also one that has ended
+  pub record IsUnderWay (f : Option (Frame V)) (t : TxTable V) (s : TxSeat V) : Type 0 where
+    pub ready : IsReady t s
+    pub since : HasBegunSince t s
+    pub framed : IfSome f (IsIn t s)
+
+  -- a seat of the same actor, with as many shares
+  pub record GoesOn (m s : Seat V) : Type 0 where
+    pub same : actor s ≡ actor m
+    pub shares : (view s).shares ≡ (view m).shares
+
+  -- at the table of the frame, by the seat that it began with
+  pub record IsOfSeat (t : TxTable V) (s : TxSeat V) (f : Frame V) : Type 0 where
+    pub table : t ≡ f.table
+    pub since : IfSome f.begun (λ m. GoesOn m.seat s.seat)
+
+  -- receipts of this actor
+  abbrev pub AreBy : ℕ → List (ℕ × Record V) → Type 0
+  AreBy a rs = All (λ (r : ℕ × Record V). r.0 ≡ a) rs
+
+  -- a client, between two of its transactions; its receipts are its own
+  pub record IsClient (f : Option (Frame V)) (t : TxTable V) (s : TxSeat V) : Type 0 where
+    pub ready : IsReady t s
+    pub framed : IfSome f (IsOfSeat t s)
+    pub own : AreBy (actor s.seat) (view s.seat).receipts
+
+  -- what a client gives back is the seat that it began with, ready at its table
+  pub record ComesBack (s : TxSeat V) (f : Frame V) : Type 0 where
+    pub ready : IsReady f.table s
+    pub since : IfSome f.begun (λ m. GoesOn m.seat s.seat)

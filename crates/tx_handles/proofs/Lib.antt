@@ -1,0 +1,5 @@
+pub mod GateLemmas
+pub mod SumLemmas
+pub mod LaneLemmas
+pub mod ReadLemmas
+pub mod LayoutLemmas

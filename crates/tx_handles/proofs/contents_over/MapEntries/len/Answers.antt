@@ -1,0 +1,13 @@
+use Rattle.std.proofs.Common.{◌≡◌, ◌∙◌, ◌+◌, ◌-◌, ◌^◌, ap, arith, length, min}
+use Rattle.std.specs.Prelude.{slice_get}
+use Rattle.tx_handles.specs.Read.{map_entries}
+use Rattle.tx_handles.proofs.ReadLemmas.{keys_read}
+use Rattle.tx_handles.proofs.SumLemmas.{below}
+use Rattle.tx_handles.proofs.contents_over.MapEntries.len.Goals as goal
+
+pub returns : goal.returns
+returns g c = λ whole lie.
+    let last : c.gates.i ≡ c.args.self.now.gates.others + 1 = omega arith in
+    c.gates.invariant
+    ∙ ap (λ n. min (below (λ i. length (map_entries (slice_get c.args.self.now.held.now (c.args.self.now.gates.first + i)))) n) (2 ^ 64 - 1)) last
+    ∙ ap (λ n. min n (2 ^ 64 - 1)) (keys_read c.args.self.now.gates c.args.self.now.held.now whole lie)

@@ -1,0 +1,6 @@
+use Rattle.std.proofs.Common.{◌≡◌, map}
+use Rattle.seq_model.specs.declared.held.Held.TheVariants as held
+use Rattle.tx_handles.proofs.parts.maps_of.Given as goal
+
+abbrev pub invariant-parts : goal.invariant-parts
+invariant-parts g l = l.all.items ≡ map held.Map l.yielded

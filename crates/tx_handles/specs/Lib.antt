@@ -1,0 +1,5 @@
+pub mod Gates
+pub mod Made
+pub mod Answered
+pub mod Lanes
+pub mod Read

@@ -1,6 +1,0 @@
-use Rattle.std.proofs.Common.{refl}
-use Rattle.wolimevar.proofs.EndLemmas.{ok_then}
-use Rattle.wolimevar.proofs.client.Client.look.Goals as goal
-
-pub returns-clause-reads : goal.returns-clause-reads
-returns-clause-reads g c = ok_then c.retry_as.result (λ _ wrote. wrote refl) c.retry_as.ensures.ran.reads

@@ -1,5 +1,0 @@
-use Rattle.wolimevar.proofs.ReadLemmas.{map_read}
-use Rattle.wolimevar.proofs.contents_over.MapEntries.iter.Goals as goal
-
-pub returns : goal.returns
-returns g c = λ whole lie. map_read c.args.self.now.gates c.args.self.now.held.now whole lie

@@ -1,6 +1,0 @@
-use Rattle.std.proofs.Common.{◌≡◌, map}
-use Rattle.seq_model.specs.declared.held.Held.TheVariants as held
-use Rattle.wolimevar.proofs.layout_over.maps_of.Given as goal
-
-abbrev pub invariant-parts : goal.invariant-parts
-invariant-parts g l = l.all.items ≡ map held.Map l.yielded

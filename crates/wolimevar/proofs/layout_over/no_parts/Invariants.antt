@@ -1,7 +1,0 @@
-use Rattle.std.proofs.Common.{◌≡◌, replicate}
-use Rattle.std.specs.FinMap.{empty}
-use Rattle.wolimevar.proofs.layout_over.no_parts.Given as goal
-
--- so many maps, each empty
-abbrev pub invariant-parts : goal.invariant-parts
-invariant-parts g l = l.parts.items ≡ replicate l.counter empty
