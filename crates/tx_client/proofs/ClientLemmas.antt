@@ -17,7 +17,7 @@ use Rattle.tx_engine.specs.Requests.{OnlyKnows}
 use Rattle.tx_client.specs.Clients.{IsAtClient, shown, shown_at}
 use Rattle.tx_client.specs.Ends.{ClientShown, EndsAs}
 use Rattle.tx_client.specs.Frames.{AreBy, Frame, GoesOn, IsOfSeat}
-use Rattle.tx_client.specs.declared.failures.Failure.{Failure}
+use Rattle.seq_model.specs.declared.failure.Failure.{Failure}
 use Rattle.tx_client.specs.declared.tally.Tally.{Tally}
 use Rattle.tx_client.proofs.EndLemmas.{gained, gained_none}
 use Rattle.tx_client.proofs.FrameLemmas.{at_client, of_seat_on, own_back, own_is}

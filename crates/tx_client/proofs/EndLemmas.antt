@@ -12,8 +12,8 @@ use Rattle.tx_table.specs.Seated.{opening_of}
 use Rattle.tx_engine.specs.declared.seats.TxSeat.{TxSeat}
 use Rattle.tx_engine.specs.Ready.{HasFinished}
 use Rattle.tx_engine.specs.Requests.{KeepsReceipts}
-use Rattle.tx_client.specs.declared.failures.Failure.{Failure}
-use Rattle.tx_client.specs.declared.failures.Failure.TheVariants.{Refused, Aborted}
+use Rattle.seq_model.specs.declared.failure.Failure.{Failure}
+use Rattle.seq_model.specs.declared.failure.Failure.TheVariants.{Refused, Aborted}
 use Rattle.tx_client.specs.Frames.{calls_made, calls_of}
 use Rattle.tx_client.specs.Ends.{EndsAs, HasGained, HasGainedNone, IsAbortBy}
 

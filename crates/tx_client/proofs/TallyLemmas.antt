@@ -5,8 +5,8 @@ use Rattle.std.proofs.lemmas.List.Elements.{All-append, All-cons, All-nil}
 use Rattle.std.proofs.lemmas.List.{length_push}
 use Rattle.seq_model.specs.declared.refusal.Refusal.{Refusal}
 use Rattle.seq_model.specs.Refusals.{IsConflict}
-use Rattle.tx_client.specs.declared.failures.Failure.{Failure}
-use Rattle.tx_client.specs.declared.failures.Failure.TheVariants.{Refused}
+use Rattle.seq_model.specs.declared.failure.Failure.{Failure}
+use Rattle.seq_model.specs.declared.failure.Failure.TheVariants.{Refused}
 use Rattle.tx_client.specs.declared.tally.Tally.{Tally}
 use Rattle.tx_client.specs.Tallies.{AreCounted, with_end, with_refusal, with_refusals}
 

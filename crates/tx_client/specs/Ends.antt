@@ -4,8 +4,8 @@ use Rattle.seq_model.specs.declared.call.Call.{Call}
 use Rattle.seq_model.specs.declared.call.Reply.{Reply}
 use Rattle.seq_model.specs.declared.record.Record.{Record}
 use Rattle.seq_model.specs.declared.event.Request.{Request}
-use Rattle.tx_client.specs.declared.failures.Failure.{Failure}
-use Rattle.tx_client.specs.declared.failures.Failure.TheVariants.{Refused, Aborted}
+use Rattle.seq_model.specs.declared.failure.Failure.{Failure}
+use Rattle.seq_model.specs.declared.failure.Failure.TheVariants.{Refused, Aborted}
 use Rattle.tx_client.specs.declared.tally.Tally.{Tally}
 use Rattle.tx_table.specs.declared.seat.Seat.{Seat}
 use Rattle.tx_table.specs.Seated.{actor, view}

@@ -5,7 +5,7 @@ use Rattle.seq_model.specs.declared.call.Reply.{Reply}
 use Rattle.seq_model.specs.declared.record.Record.{Record}
 use Rattle.seq_model.specs.declared.refusal.Refusal.{Refusal}
 use Rattle.seq_model.specs.declared.refusal.Refusal.TheVariants.{Ahead}
-use Rattle.tx_client.specs.declared.failures.Failure.{Failure}
+use Rattle.seq_model.specs.declared.failure.Failure.{Failure}
 use Rattle.tx_client.specs.Asked.{HasAsked}
 use Rattle.tx_client.specs.Ends.{ClientShown, IsAbortBy}
 use Rattle.tx_client.specs.Tallies.{AreCounted}

@@ -3,8 +3,8 @@ use Rattle.std.specs.Prelude.{◌≡◌, ℕ, ◌+◌, ◌-◌, ◌^◌, ◌≤�
 use Rattle.seq_model.specs.declared.refusal.Refusal.{Refusal}
 use Rattle.seq_model.specs.declared.refusal.Refusal.TheVariants as refusal
 use Rattle.seq_model.specs.Refusals.{IsConflict}
-use Rattle.tx_client.specs.declared.failures.Failure.{Failure}
-use Rattle.tx_client.specs.declared.failures.Failure.TheVariants.{Refused, Aborted}
+use Rattle.seq_model.specs.declared.failure.Failure.{Failure}
+use Rattle.seq_model.specs.declared.failure.Failure.TheVariants.{Refused, Aborted}
 use Rattle.tx_client.specs.declared.tally.Tally.{Tally}
 
 -- one more, up to what a `u64` holds

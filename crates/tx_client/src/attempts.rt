@@ -16,11 +16,10 @@ ghost use Rattle.tx_client.specs.Tallies.{AreCounted};
 
 use crate::body::Body;
 use crate::caller::Caller;
-use crate::failures::Failure;
 use crate::scope::Scope;
 use crate::tally::Tally;
 use crate::transaction::Transaction;
-use seq_model::{Refusal, Value};
+use seq_model::{Failure, Refusal, Value};
 use std::hint::spin_loop;
 use std::marker::{Brand, PhantomData};
 use std::thread::yield_now;

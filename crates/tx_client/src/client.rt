@@ -11,11 +11,10 @@ ghost use Rattle.tx_client.specs.Tallies.{AreCounted};
 
 use crate::body::Body;
 use crate::caller::Caller;
-use crate::failures::Failure;
 use crate::runner::Runner;
 use crate::scope::Scope;
 use crate::tally::Tally;
-use seq_model::{Refusal, Value};
+use seq_model::{Failure, Refusal, Value};
 use std::marker::{Model, PhantomData};
 use tx_engine::{Receipt, TxSeat};
 use tx_table::TxTable;

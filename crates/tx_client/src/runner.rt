@@ -7,10 +7,9 @@ ghost use Rattle.tx_client.specs.Runners.{HasLearnt, HasRun};
 use crate::attempts::retry;
 use crate::body::Body;
 use crate::caller::Caller;
-use crate::failures::Failure;
 use crate::scope::Scope;
 use crate::tally::Tally;
-use seq_model::{Refusal, Value};
+use seq_model::{Failure, Refusal, Value};
 use tx_engine::{Receipt, TxSeat};
 use tx_table::TxTable;
 

@@ -2,8 +2,7 @@
 ghost use Rattle.std.specs.Prelude.{◌≡◌, ◌-◌, ◌^◌, min};
 ghost use Rattle.tx_client.specs.Tallies.{attempts, counts, one_more, refusals, with_end, with_refusal};
 
-use crate::failures::Failure;
-use seq_model::Refusal;
+use seq_model::{Failure, Refusal};
 
 /// How many attempts ended in each way. A count that is the greatest `u64` is not raised further.
 #[derive(Clone, Copy, Debug, PartialEq, Eq)]

@@ -6,10 +6,9 @@ ghost use Rattle.tx_handles.specs.Answered.{BagAnswers};
 ghost use Rattle.tx_handles.specs.Made.{room_reply, yes_reply};
 
 use crate::calls::{MakesCalls, call_at};
-use crate::changes::Full;
 use crate::gates::Gates;
 use crate::replies::{number_in, room_in, yes_in};
-use seq_model::{Op, Refusal, Value};
+use seq_model::{Full, Op, Refusal, Value};
 
 /// A multiset of `u64` elements.
 #[derive(Clone, Copy)]

@@ -3,10 +3,9 @@ ghost use Rattle.std.specs.Prelude.{◌≡◌, ◌+◌, ◌≤◌, IfOk};
 ghost use Rattle.tx_handles.specs.Lanes.{HasDoneWithLanes, HasTakenFrom, IsAdded, IsCounted, IsTaken};
 
 use crate::calls::{MakesCalls, total_len};
-use crate::changes::Full;
 use crate::gates::Gates;
 use crate::replies::{found_in, room_in};
-use seq_model::{Op, Refusal, Value};
+use seq_model::{Full, Op, Refusal, Value};
 
 /// A queue of `u64` items in lanes, for work that many threads give and take. Items are in order within a lane, and in none between lanes.
 ///

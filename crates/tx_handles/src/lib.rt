@@ -10,7 +10,6 @@
 
 mod bags;
 mod calls;
-mod changes;
 mod contents_over;
 mod gates;
 mod lanes;
@@ -25,7 +24,6 @@ mod words;
 
 pub use bags::Bag;
 pub use calls::MakesCalls;
-pub use changes::Full;
 pub use contents_over::{BagCounts, BagIter, LaneItems, MapEntries, MapIter};
 pub use gates::Gates;
 pub use lanes::Lanes;

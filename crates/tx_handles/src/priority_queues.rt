@@ -5,9 +5,8 @@ ghost use Rattle.seq_model.specs.declared.call.Op.TheVariants as op;
 ghost use Rattle.tx_handles.specs.Made.{HasMade, room_reply};
 
 use crate::calls::MakesCalls;
-use crate::changes::Full;
 use crate::replies::{found_in, room_in};
-use seq_model::{Op, Refusal, Value};
+use seq_model::{Full, Op, Refusal, Value};
 
 /// A priority queue of `u64` elements, the least first. An element may be in it more than once.
 #[derive(Clone, Copy)]

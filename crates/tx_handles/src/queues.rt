@@ -6,9 +6,8 @@ ghost use Rattle.seq_model.specs.declared.call.Reply.TheVariants as replies;
 ghost use Rattle.tx_handles.specs.Made.{HasMade, room_reply};
 
 use crate::calls::MakesCalls;
-use crate::changes::Full;
 use crate::replies::{found_in, number_in, room_in};
-use seq_model::{Op, Refusal, Value};
+use seq_model::{Full, Op, Refusal, Value};
 
 /// A queue of `u64` items, first in, first out.
 #[derive(Clone, Copy)]

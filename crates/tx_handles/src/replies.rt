@@ -4,8 +4,7 @@ ghost use Rattle.seq_model.specs.Calls.{found_reply, value_reply};
 ghost use Rattle.seq_model.specs.declared.call.Reply.TheVariants as replies;
 ghost use Rattle.tx_handles.specs.Made.{room_reply, yes_reply};
 
-use crate::changes::Full;
-use seq_model::{Refusal, Reply};
+use seq_model::{Full, Refusal, Reply};
 
 /// What a map holds, or held, at a key.
 pub fn value_in<V: Drop>(reply: Reply<V>) -> Result<Option<V>, Refusal>

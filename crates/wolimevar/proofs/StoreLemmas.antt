@@ -9,7 +9,7 @@ use Rattle.tx_table.specs.Seated.{actor, view}
 use Rattle.tx_table.specs.declared.view.TheConstants.{SHARES}
 use Rattle.tx_engine.specs.declared.seats.TxSeat.{TxSeat}
 use Rattle.tx_engine.specs.Ready.{IsReady}
-use Rattle.tx_client.specs.declared.failures.Failure.{Failure}
+use Rattle.seq_model.specs.declared.failure.Failure.{Failure}
 use Rattle.tx_client.specs.declared.tally.Tally.{Tally}
 use Rattle.tx_client.specs.Ends.{EndsAs}
 use Rattle.wolimevar.specs.Stores.{StoreShown}

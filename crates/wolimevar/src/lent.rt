@@ -11,9 +11,9 @@ ghost use Rattle.tx_client.specs.Tallies.{AreCounted};
 
 use crate::homes::Own;
 use crate::sessions::{Session, serve_one};
-use seq_model::{Refusal, Value};
+use seq_model::{Failure, Refusal, Value};
 use std::marker::{Brand, Model};
-use tx_client::{Body, Caller, Failure, Runner, Tally};
+use tx_client::{Body, Caller, Runner, Tally};
 use tx_engine::{Receipt, TxSeat};
 
 /// A client of a lender's store ([`crate::Lender::client`]), for any thread: it borrows nothing. Its calls are those of [`crate::Client`].

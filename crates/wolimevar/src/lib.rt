@@ -42,13 +42,13 @@ mod store;
 pub use layout::Layout;
 pub use lender::{Lender, StillLent};
 pub use lent::LentClient;
-pub use seq_model::{Counts, Entries, Memory, QueueItems, Refusal, Value};
+pub use seq_model::{Counts, Entries, Failure, Full, Memory, QueueItems, Refusal, Value};
 pub use serving::Serving;
 pub use sessions::Session;
 pub use store::Store;
-pub use tx_client::{Body, Client, Contents, Failure, Scope, Tally, Transaction};
+pub use tx_client::{Body, Client, Contents, Scope, Tally, Transaction};
 pub use tx_engine::Receipt;
 pub use tx_handles::{
-    Bag, BagCounts, BagIter, Full, LaneItems, Lanes, Map, MapEntries, MapIter, PriorityQueue,
+    Bag, BagCounts, BagIter, LaneItems, Lanes, Map, MapEntries, MapIter, PriorityQueue,
     Queue, Shared, Text, Word,
 };

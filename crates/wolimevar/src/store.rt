@@ -10,12 +10,12 @@ ghost use Rattle.tx_client.specs.Tallies.{AreCounted};
 
 use crate::lender::Lender;
 use crate::sessions::{Session, serve};
-use seq_model::{Memory, Refusal, Value};
+use seq_model::{Failure, Memory, Refusal, Value};
 use std::alloc::Global;
 use std::marker::Model;
 use std::sync::Arc;
 use std::thread::Threads;
-use tx_client::{Body, Caller, Contents, Failure, Tally, contents_of, retry};
+use tx_client::{Body, Caller, Contents, Tally, contents_of, retry};
 use tx_engine::{Receipt, TxSeat};
 use tx_table::TxTable;
 

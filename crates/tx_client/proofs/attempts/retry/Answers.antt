@@ -2,8 +2,8 @@ use Rattle.std.proofs.Common.{rules, ◌≡◌, Err, arith, subst}
 use Rattle.std.specs.Prelude.{OnErr, Result}
 use Rattle.seq_model.specs.declared.record.Record.{Record}
 use Rattle.seq_model.specs.Refusals.{IsConflict}
-use Rattle.tx_client.specs.declared.failures.Failure.{Failure}
-use Rattle.tx_client.specs.declared.failures.Failure.TheVariants.{Refused}
+use Rattle.seq_model.specs.declared.failure.Failure.{Failure}
+use Rattle.seq_model.specs.declared.failure.Failure.TheVariants.{Refused}
 use Rattle.tx_client.specs.Ends.{HasGainedNone}
 use Rattle.tx_client.proofs.AskedLemmas.{then_asks}
 use Rattle.tx_client.proofs.EndLemmas.{gained_none, then_ends}

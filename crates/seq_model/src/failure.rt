@@ -1,5 +1,5 @@
 //! Why a body has no receipt.
-use seq_model::Refusal;
+use crate::refusal::Refusal;
 use std::error::Error;
 use std::fmt;
 

@@ -2,7 +2,7 @@
 ghost use Rattle.std.specs.Prelude.{◌≡◌};
 ghost use Rattle.seq_model.specs.declared.refusal.Refusal.TheVariants.{TooLong};
 
-use seq_model::Refusal;
+use crate::refusal::Refusal;
 
 /// One more would pass the limit of the collection: nothing was changed, and the transaction continues.
 ///
