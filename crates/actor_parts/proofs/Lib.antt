@@ -39,3 +39,9 @@ pub mod TakingLemmas
 mod PutBackLemmas
 mod RoomLemmas
 pub mod WeighedLemmas
+pub mod AuditLemmas
+pub mod LayoutLemmas
+pub mod OpeningLemmas
+pub mod ShapeLemmas
+pub mod StateLemmas
+pub mod TableLemmas

@@ -21,3 +21,7 @@ pub mod Taking
 pub mod PutBack
 pub mod Room
 pub mod Weighed
+pub mod Tables
+pub mod Openings
+pub mod States
+pub mod Audits

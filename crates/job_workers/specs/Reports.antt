@@ -10,7 +10,7 @@ use Rattle.actor_laws.specs.Phases.{Rests}
 use Rattle.tx_table.specs.Seated.{actor, opening_of, view}
 use Rattle.tx_table.specs.declared.table.TxTable.{TxTable}
 use Rattle.tx_table.specs.declared.view.Turn.{Turn}
-use Rattle.driven_turns.specs.Begins.{begins_of}
+use Rattle.tx_turns.specs.Begins.{begins_of}
 use Rattle.tx_engine.specs.Ready.{standing}
 use Rattle.tx_engine.specs.Requests.{HasAborted, IsOpen, KeepsReceipts}
 use Rattle.seq_model.specs.declared.causes.LastAbort.{LastAbort}

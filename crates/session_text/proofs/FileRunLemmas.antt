@@ -22,8 +22,8 @@ use Rattle.client_sessions.specs.Holding.{HoldsTables, state_of}
 use Rattle.client_sessions.specs.Runs.{AreSessions, Deal, RunsAreActions, after_deals}
 use Rattle.client_sessions.specs.Refusals.{IsNoneSuch}
 use Rattle.client_sessions.specs.Sessions.{SessionProgram, session}
-use Rattle.world_table.specs.Audits.{without_actors}
-use Rattle.world_table.proofs.AuditLemmas.{audited}
+use Rattle.actor_parts.specs.Audits.{without_actors}
+use Rattle.actor_parts.proofs.AuditLemmas.{audited}
 use Rattle.text_formats.specs.declared.session_print.Line.{Line}
 use Rattle.text_formats.specs.declared.session_print.Line.TheVariants.{Done}
 use Rattle.text_formats.specs.declared.session_print.Line.TheVariants as line

@@ -24,7 +24,7 @@ use Rattle.session_text.specs.declared.run.Transcript.{Transcript}
 use Rattle.session_text.specs.Plays.{ArePlays, HasPlayed, IsKeptRun, Keeps, heard, kept_of, nobody, nothing_heard}
 use Rattle.session_text.specs.Scripts.{IsOpeningOf, IsRefusedScript, opening_of, stripes_of, world_in}
 use Rattle.session_text.specs.Worlds.{told_by}
-use Rattle.world_table.specs.Openings.{IsWithin, world_of}
+use Rattle.actor_parts.specs.Openings.{IsWithin, world_of}
 use Rattle.session_text.proofs.LeadLemmas.{reached_all}
 
 -- ---- openings

@@ -2,7 +2,7 @@
 use Rattle.std.specs.Prelude.{◌≡◌, []}
 use Rattle.seq_model.specs.declared.auditing.AuditFault.{AuditFault}
 use Rattle.seq_model.specs.Audit.{IsAuditFault, IsRunBetween}
-use Rattle.world_table.specs.Audits.{without_actors}
+use Rattle.actor_parts.specs.Audits.{without_actors}
 use Rattle.session_text.specs.declared.run.ScriptRun.{ScriptRun}
 
 -- where no commit is half done, the records are a run from the opening that results in what the trace shows

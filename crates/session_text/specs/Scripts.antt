@@ -7,7 +7,7 @@ use Rattle.seq_model.specs.Refusals.{IsTooLong}
 use Rattle.seq_model.specs.Contents.{Contents}
 use Rattle.text_formats.specs.declared.script.Script.{Script}
 use Rattle.replay_log.specs.Worlds.{World}
-use Rattle.world_table.specs.Openings.{IsWithin, world_of}
+use Rattle.actor_parts.specs.Openings.{IsWithin, world_of}
 
 -- the words and the collections of the script's header
 abbrev pub opening_of : Script → Contents ℕ

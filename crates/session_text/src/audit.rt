@@ -4,9 +4,9 @@ ghost use Rattle.step_world.specs.Traces.{IsSerialTrace};
 ghost use Rattle.session_text.specs.Audits.{HasAuditFault, IsAudited};
 
 use crate::run::ScriptRun;
+use actor_parts::audit_records;
 use seq_model::AuditFault;
 use std::alloc::Global;
-use world_table::audit_records;
 
 /// Whether the records of a run's trace are a run of the sequential model from its opening, which results in what the trace shows.
 ///

@@ -2,7 +2,7 @@
 ghost use Rattle.std.specs.Prelude.{◌≡◌, IfOk};
 ghost use Rattle.step_world.specs.Feeds.{Feeds};
 ghost use Rattle.step_world.specs.Parts.{HasWorld};
-ghost use Rattle.world_table.specs.Openings.{world_of};
+ghost use Rattle.actor_parts.specs.Openings.{world_of};
 ghost use Rattle.session_text.specs.Rows.{AreFed, AreFedBy, AreRowsOf, first_of};
 
 use crate::deed::{Deed, deed_of};

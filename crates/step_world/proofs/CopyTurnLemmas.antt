@@ -24,18 +24,18 @@ use Rattle.tx_actor.specs.Staying.{CopiesStayOwn}
 use Rattle.tx_actor.specs.declared.actor.Asked.{Asked}
 use Rattle.tx_actor.specs.declared.actor.Told.{Told}
 use Rattle.tx_actor.specs.declared.actor.TxActor.{TxActor}
-use Rattle.world_table.specs.Openings.{HasShape}
-use Rattle.world_table.specs.Tables.{HasTable}
-use Rattle.world_table.specs.declared.table.Table.{Table}
+use Rattle.actor_parts.specs.Openings.{HasShape}
+use Rattle.actor_parts.specs.Tables.{HasTable}
+use Rattle.actor_parts.specs.declared.table.Table.{Table}
 use Rattle.step_world.specs.Loading.{IsSeated}
 use Rattle.step_world.specs.Reached.{IsReached}
 use Rattle.step_world.specs.Turns.{IsTurn, KeepsOwn}
-use Rattle.actor_turns.proofs.OwnLemmas.{BlocksLaw, OthersLaw, StandLaw, others_keep}
-use Rattle.actor_turns.proofs.SeatLemmas.{next_as}
+use Rattle.tx_actor.proofs.OwnLemmas.{BlocksLaw, OthersLaw, StandLaw, others_keep}
+use Rattle.tx_actor.proofs.SeatLemmas.{next_as}
 use Rattle.step_world.proofs.TurnLemmas.{action_has}
-use Rattle.actor_turns.proofs.StepLemmas.{due_as, reached_allows}
-use Rattle.actor_turns.proofs.CopyLemmas as there
-use Rattle.actor_turns.proofs.CopyLemmas.{IsBaseIn, copy_keeps, copy_runs, due_copy}
+use Rattle.tx_actor.proofs.StepLemmas.{due_as, reached_allows}
+use Rattle.tx_actor.proofs.CopyLemmas as there
+use Rattle.tx_actor.proofs.CopyLemmas.{IsBaseIn, copy_keeps, copy_runs, due_copy}
 
 module _ {V : Type 0} where
   -- the base of the table is that of the collection in its world

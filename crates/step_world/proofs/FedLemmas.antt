@@ -14,7 +14,7 @@ use Rattle.step_core.specs.Shown.{is_actor}
 use Rattle.replay_log.specs.WorldProgress.{whose}
 use Rattle.replay_log.specs.Worlds.{After, World, happens, opened}
 use Rattle.replay_log.proofs.EventLemmas.{run-append}
-use Rattle.world_table.specs.Openings.{world_of}
+use Rattle.actor_parts.specs.Openings.{world_of}
 use Rattle.step_world.specs.declared.parts.Parts.{Parts}
 use Rattle.step_world.specs.Feeds.{Feeds, fed, fed_all}
 use Rattle.step_world.specs.Parts.{HasWorld, IsWorld}

@@ -24,8 +24,8 @@ use Rattle.step_world.specs.declared.parts.Parts.{Parts}
 use Rattle.step_world.specs.declared.opening.TheConstants.{ACTORS}
 use Rattle.step_world.specs.Feeds.{AllocatesNothing, Feeds, MayAllocate, allocates_at, fed}
 use Rattle.step_world.specs.Parts.{Happens, HasWorld, IsWorld}
-use Rattle.actor_turns.proofs.CopyLemmas.{copying_is}
-use Rattle.actor_turns.proofs.StepLemmas.{first_is, nothing_is}
+use Rattle.tx_actor.proofs.CopyLemmas.{copying_is}
+use Rattle.tx_actor.proofs.StepLemmas.{first_is, nothing_is}
 
 -- what holds anyway
 pub on_err : {T E P : Type 0} → (r : Result T E) → P → OnErr r P

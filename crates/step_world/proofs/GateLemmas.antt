@@ -27,14 +27,14 @@ use Rattle.actor_parts.specs.Dispatch.{is_loading, next_of}
 use Rattle.actor_parts.specs.declared.next.Next.TheVariants as next
 use Rattle.tx_actor.specs.Running.{Runs, stage_of}
 use Rattle.tx_actor.specs.declared.actor.TxActor.{TxActor}
-use Rattle.world_table.specs.declared.table.Table.{Table}
+use Rattle.actor_parts.specs.declared.table.Table.{Table}
 use Rattle.step_world.specs.Reached.{IsReached}
 use Rattle.step_world.specs.Turns.{KeepsRoom}
 use Rattle.step_world.proofs.RoomLemmas.{gate_left, linked_after, room_none, room_same}
-use Rattle.actor_turns.proofs.SeatLemmas.{loading_as, next_as}
-use Rattle.actor_turns.proofs.StepLemmas.{reached_linked}
-use Rattle.actor_turns.proofs.CopyLemmas.{copy_is}
-use Rattle.actor_turns.proofs.GatesLemmas.{no_word}
+use Rattle.tx_actor.proofs.SeatLemmas.{loading_as, next_as}
+use Rattle.tx_actor.proofs.StepLemmas.{reached_linked}
+use Rattle.tx_actor.proofs.CopyLemmas.{copy_is}
+use Rattle.tx_actor.proofs.GatesLemmas.{no_word}
 
 not_has : (j k : ℕ) → j ≢ k → has (k ∷ []) j ≡ false
 not_has j k ne = elim (cases_Bool (eqb j k)) [

@@ -28,14 +28,14 @@ use Rattle.tx_actor.specs.declared.actor.Stage as own
 use Rattle.tx_actor.specs.declared.actor.Told.{Told}
 use Rattle.tx_actor.specs.declared.actor.TxActor.{TxActor}
 use Rattle.actor_parts.specs.declared.next.Next.TheVariants as next
-use Rattle.world_table.specs.Tables.{HasTable}
-use Rattle.world_table.specs.declared.table.Table.{Table}
+use Rattle.actor_parts.specs.Tables.{HasTable}
+use Rattle.actor_parts.specs.declared.table.Table.{Table}
 use Rattle.step_world.specs.Homes.{IsHomeTurn, MayGoHome}
 use Rattle.step_world.specs.Reached.{IsReached}
-use Rattle.actor_turns.proofs.StepLemmas.{GoesOn}
-use Rattle.actor_turns.proofs.HomeLemmas as there
-use Rattle.actor_turns.proofs.HomeLemmas.{FewEditions, Logs, Within, home_due, home_runs, own_log}
-use Rattle.actor_turns.proofs.CopyLemmas.{block_here}
+use Rattle.tx_actor.proofs.StepLemmas.{GoesOn}
+use Rattle.tx_actor.proofs.HomeLemmas as there
+use Rattle.tx_actor.proofs.HomeLemmas.{FewEditions, Logs, Within, home_due, home_runs, own_log}
+use Rattle.tx_actor.proofs.CopyLemmas.{block_here}
 
 -- ---- what stands at a place
 item_here : {A : Type 0} (xs : List A) (k : ℕ) → k < length xs → (x : A) × (slice_get xs k ≡ Some x)

@@ -29,20 +29,20 @@ use Rattle.tx_actor.specs.declared.actor.Stage as own
 use Rattle.tx_actor.specs.declared.actor.Stage.TheVariants as stage
 use Rattle.tx_actor.specs.declared.actor.Told.{Told}
 use Rattle.tx_actor.specs.declared.actor.TxActor.{TxActor}
-use Rattle.world_table.specs.Openings.{HasShape}
-use Rattle.world_table.specs.declared.table.Table.{Table}
+use Rattle.actor_parts.specs.Openings.{HasShape}
+use Rattle.actor_parts.specs.declared.table.Table.{Table}
 use Rattle.step_world.specs.declared.parts.Parts.{Parts}
 use Rattle.step_world.specs.Homes.{HasRoomAt, IsHomeTurn, MayGoHome, homes_left}
 use Rattle.step_world.specs.Parts.{HasWorld}
 use Rattle.step_world.specs.Reached.{IsReached}
 use Rattle.step_world.specs.Turns.{IsTurn, KeepsOwn, KeepsRoom}
-use Rattle.actor_turns.proofs.CopyLemmas.{block_here}
-use Rattle.actor_turns.proofs.HomeLemmas.{home_due, home_is, homing_is, quiet_home}
-use Rattle.actor_turns.proofs.NameLemmas.{named_home}
-use Rattle.actor_turns.proofs.OwnLemmas.{OthersLaw, StandLaw, StaysLaw, others_keep, reached_stays}
+use Rattle.tx_actor.proofs.CopyLemmas.{block_here}
+use Rattle.tx_actor.proofs.HomeLemmas.{home_due, home_is, homing_is, quiet_home}
+use Rattle.tx_actor.proofs.NameLemmas.{named_home}
+use Rattle.tx_actor.proofs.OwnLemmas.{OthersLaw, StandLaw, StaysLaw, others_keep, reached_stays}
 use Rattle.step_world.proofs.PartsLemmas.{EndsNone}
 use Rattle.step_world.proofs.RoomLemmas.{gate_left, left_from, linked_after, not_first, of_each, room_at}
-use Rattle.actor_turns.proofs.SeatLemmas.{stage_by}
+use Rattle.tx_actor.proofs.SeatLemmas.{stage_by}
 
 module _ {V : Type 0} where
   -- ---- the actor, where a base of its commit is put back next

@@ -21,14 +21,14 @@ use Rattle.tx_actor.specs.Staying.{LoadsStayOwn}
 use Rattle.tx_actor.specs.Seated.{SeatsActors}
 use Rattle.tx_actor.specs.declared.actor.Told.{Told}
 use Rattle.tx_actor.specs.declared.actor.TxActor.{TxActor}
-use Rattle.world_table.specs.declared.table.Table.{Table}
+use Rattle.actor_parts.specs.declared.table.Table.{Table}
 use Rattle.step_world.specs.Loading.{IsSeated}
 use Rattle.step_world.specs.Turns.{IsTurn, KeepsOwn}
-use Rattle.actor_turns.proofs.OwnLemmas.{OthersLaw, StandLaw, others_keep}
+use Rattle.tx_actor.proofs.OwnLemmas.{OthersLaw, StandLaw, others_keep}
 use Rattle.step_world.proofs.TurnLemmas.{StepsWords, action_has}
-use Rattle.actor_turns.proofs.StepLemmas.{due_as, due_word}
-use Rattle.actor_turns.proofs.LoadLemmas as there
-use Rattle.actor_turns.proofs.LoadLemmas.{load_keeps, load_next, load_runs}
+use Rattle.tx_actor.proofs.StepLemmas.{due_as, due_word}
+use Rattle.tx_actor.proofs.LoadStepLemmas as there
+use Rattle.tx_actor.proofs.LoadStepLemmas.{load_keeps, load_next, load_runs}
 
 module _ {V : Type 0} where
   -- the load may be heard, as it may in a world that shows the actor

@@ -14,14 +14,14 @@ use Rattle.tx_actor.specs.Keeping.{IsCallAt, NamesAmong}
 use Rattle.tx_actor.specs.Running.{KnowsHomes}
 use Rattle.tx_actor.specs.declared.actor.Stage as own
 use Rattle.tx_actor.specs.declared.actor.TxActor.{TxActor}
-use Rattle.world_table.specs.Openings.{HasShape, blocks_of, world_of}
-use Rattle.world_table.specs.Tables.{HasTable}
+use Rattle.actor_parts.specs.Openings.{HasShape, blocks_of, world_of}
+use Rattle.actor_parts.specs.Tables.{HasTable}
 use Rattle.step_world.specs.declared.parts.Parts.{Parts}
 use Rattle.step_world.specs.declared.trace.Ended.{Ended}
 use Rattle.step_world.specs.Homes.{HaveRoom, homes_left}
 use Rattle.step_world.specs.Openings.{AreIdle, IsIdle}
 use Rattle.step_world.specs.Parts.{IsWorld, ended_of, total_owed}
-use Rattle.actor_turns.proofs.SeatLemmas.{idle_as}
+use Rattle.tx_actor.proofs.SeatLemmas.{idle_as}
 
 module _ {V : Type 0} where
   pub AreIdle-push : (rs : List (TxActor V)) (r : TxActor V) → IsIdle r → AreIdle rs → AreIdle (rs ++ r ∷ [])

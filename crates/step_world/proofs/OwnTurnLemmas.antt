@@ -9,8 +9,8 @@ use Rattle.actor_laws.proofs.Others.{others}
 use Rattle.actor_parts.specs.Blocks.{BlocksView}
 use Rattle.actor_parts.specs.Dispatch.{is_loading}
 use Rattle.actor_laws.proofs.OneStep.{one_step}
-use Rattle.world_table.specs.declared.table.Table.{Table}
-use Rattle.world_table.proofs.TableLemmas.{still_has}
+use Rattle.actor_parts.specs.declared.table.Table.{Table}
+use Rattle.actor_parts.proofs.TableLemmas.{still_has}
 use Rattle.actor_parts.specs.Copied.{BeginsWithNothing}
 use Rattle.actor_parts.specs.Staying.{EventsStay}
 use Rattle.tx_actor.specs.Calls.{AsksAt}
@@ -19,9 +19,9 @@ use Rattle.tx_actor.specs.Running.{seat_of, stage_of}
 use Rattle.tx_actor.specs.declared.actor.Told.{Told}
 use Rattle.tx_actor.specs.declared.actor.TxActor.{TxActor}
 use Rattle.step_world.specs.Turns.{IsTurn, KeepsOwn}
-use Rattle.actor_turns.proofs.OwnLemmas.{AllLaw, Apart, AskedLaw, BegunLaw, CallsLaw, JoinsLaw, OthersLaw, StandLaw, StaysLaw, StepsLaw}
-use Rattle.actor_turns.proofs.OwnLemmas.{ask_keeps}
-use Rattle.actor_turns.proofs.OwnLemmas.{ask_runs, others_keep, starve_keeps, step_keeps}
+use Rattle.tx_actor.proofs.OwnLemmas.{AllLaw, Apart, AskedLaw, BegunLaw, CallsLaw, JoinsLaw, OthersLaw, StandLaw, StaysLaw, StepsLaw}
+use Rattle.tx_actor.proofs.OwnLemmas.{ask_keeps}
+use Rattle.tx_actor.proofs.OwnLemmas.{ask_runs, others_keep, starve_keeps, step_keeps}
 
 module _ {V : Type 0} where
   pub keeps_step : StepsLaw V → BegunLaw V → EventsStay V → BeginsWithNothing V → StandLaw V → OthersLaw V → (b : BlocksView) (a : ℕ)

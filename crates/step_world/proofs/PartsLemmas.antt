@@ -37,19 +37,19 @@ use Rattle.tx_actor.specs.declared.actor.Stage.TheVariants as stage
 use Rattle.tx_actor.specs.declared.actor.Told.{Told}
 use Rattle.tx_actor.specs.declared.actor.TxActor.{TxActor}
 use Rattle.actor_parts.specs.declared.next.Next.TheVariants as next
-use Rattle.world_table.specs.Openings.{HasShape}
-use Rattle.world_table.specs.declared.table.Table.{Table}
+use Rattle.actor_parts.specs.Openings.{HasShape}
+use Rattle.actor_parts.specs.declared.table.Table.{Table}
 use Rattle.step_world.specs.declared.parts.Parts.{Parts}
 use Rattle.step_world.specs.declared.trace.Ended.{Ended}
 use Rattle.step_world.specs.Parts.{Happens, IsStarved, Stays, ended_of}
 use Rattle.step_world.specs.Homes.{HasRoomLeft}
 use Rattle.step_world.specs.Reached.{IsReached}
 use Rattle.step_world.specs.Turns.{IsTurn, KeepsOwn, KeepsRoom}
-use Rattle.actor_turns.proofs.SeatLemmas.{seat_loading, seated_by, stage_by}
+use Rattle.tx_actor.proofs.SeatLemmas.{seat_loading, seated_by, stage_by}
 use Rattle.step_world.proofs.TurnLemmas.{starve_turns}
-use Rattle.actor_turns.proofs.StepLemmas.{first_is}
+use Rattle.tx_actor.proofs.StepLemmas.{first_is}
 use Rattle.step_world.proofs.OwnTurnLemmas.{ask_turns}
-use Rattle.actor_turns.proofs.OwnLemmas.{CallsLaw}
+use Rattle.tx_actor.proofs.OwnLemmas.{CallsLaw}
 use Rattle.step_world.proofs.WorldLemmas.{stood, turned}
 
 module _ {V : Type 0} where

@@ -19,9 +19,9 @@ use Rattle.actor_parts.specs.Logs.{changes_had}
 use Rattle.actor_parts.specs.declared.copies.CopyOf.{CopyOf}
 use Rattle.tx_actor.specs.declared.actor.Stage as own
 use Rattle.tx_actor.specs.declared.actor.Stage.TheVariants as stage
-use Rattle.world_table.specs.Openings.{HasShape}
-use Rattle.world_table.specs.Tables.{HasTable, holder}
-use Rattle.world_table.specs.declared.table.Table.{Table}
+use Rattle.actor_parts.specs.Openings.{HasShape}
+use Rattle.actor_parts.specs.Tables.{HasTable, holder}
+use Rattle.actor_parts.specs.declared.table.Table.{Table}
 use Rattle.std.specs.declared.alloc.Global.{Global}
 use Rattle.std.specs.declared.collections.VecDeque.{VecDeque}
 use Rattle.std.specs.declared.vec.Vec.{Vec}

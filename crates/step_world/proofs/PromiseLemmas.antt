@@ -25,8 +25,8 @@ use Rattle.replay_log.specs.WorldSerial.{AreUpTo}
 use Rattle.replay_log.specs.Worlds.{After, Beginning, Seat, Stage, World, happens, opened, run}
 use Rattle.actor_laws.specs.Own.{Alike}
 use Rattle.actor_laws.proofs.Alike.{alike_same}
-use Rattle.actor_turns.proofs.HomeLemmas.{reached_blocks}
-use Rattle.world_table.specs.Openings.{AreStripeCounts, blocks_of}
+use Rattle.tx_actor.proofs.HomeLemmas.{reached_blocks}
+use Rattle.actor_parts.specs.Openings.{AreStripeCounts, blocks_of}
 use Rattle.step_world.specs.declared.parts.Parts.{Parts}
 use Rattle.step_world.specs.Feeds.{Feeds, fed}
 use Rattle.step_world.specs.Parts.{HasWorld, IsWorld}

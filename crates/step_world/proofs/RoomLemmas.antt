@@ -38,13 +38,13 @@ use Rattle.tx_actor.specs.Running.{Runs, stage_of}
 use Rattle.tx_actor.specs.declared.actor.Stage as own
 use Rattle.tx_actor.specs.declared.actor.Stage.TheVariants as stage
 use Rattle.tx_actor.specs.declared.actor.TxActor.{TxActor}
-use Rattle.world_table.specs.declared.table.Table.{Table}
+use Rattle.actor_parts.specs.declared.table.Table.{Table}
 use Rattle.step_world.specs.Homes.{HasRoomAt, HasRoomDue, HasRoomLeft, homes_left}
 use Rattle.step_world.specs.Reached.{IsReached}
 use Rattle.step_world.specs.Turns.{KeepsRoom}
-use Rattle.actor_turns.proofs.OwnLemmas.{Apart, open_or, open_stage}
-use Rattle.actor_turns.proofs.SeatLemmas.{stage_by}
-use Rattle.actor_turns.proofs.StepLemmas.{first_is, reached_linked}
+use Rattle.tx_actor.proofs.OwnLemmas.{Apart, open_or, open_stage}
+use Rattle.tx_actor.proofs.SeatLemmas.{stage_by}
+use Rattle.tx_actor.proofs.StepLemmas.{first_is, reached_linked}
 
 -- ---- what is among these
 pub has_in : (ks : List ℕ) (k : ℕ) → Contains ks k → has ks k ≡ true

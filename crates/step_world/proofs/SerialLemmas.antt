@@ -13,8 +13,8 @@ use Rattle.replay_log.specs.Worlds.{World, is_half_done}
 use Rattle.replay_log.specs.WorldSerial.{AllSaw, SawAt}
 use Rattle.tx_actor.specs.Running.{seat_of, stage_of}
 use Rattle.tx_actor.specs.declared.actor.TxActor.{TxActor}
-use Rattle.world_table.specs.States.{held_in}
-use Rattle.world_table.proofs.StateLemmas as tables
+use Rattle.actor_parts.specs.States.{held_in}
+use Rattle.actor_parts.proofs.StateLemmas as tables
 use Rattle.step_world.specs.declared.parts.Parts.{Parts}
 use Rattle.step_world.specs.declared.trace.Trace.{Trace}
 use Rattle.step_world.specs.Feeds.{Feeds, fed}
@@ -23,9 +23,9 @@ use Rattle.step_world.specs.Reached.{IsReached}
 use Rattle.step_world.specs.Serial.{IsFrom, IsSerialFrom, NoneIsHalf}
 use Rattle.step_world.specs.Traces.{IsSerialTrace, seat_at, seat_found}
 use Rattle.step_world.proofs.FedLemmas.{reached_fed}
-use Rattle.actor_turns.proofs.SeatLemmas.{saw_as}
+use Rattle.tx_actor.proofs.SeatLemmas.{saw_as}
 use Rattle.step_world.proofs.TraceLemmas.{SerialLaw, StateLaw, seat_like, serial_at, state_left}
-use Rattle.actor_turns.proofs.StepLemmas.{reached_linked}
+use Rattle.tx_actor.proofs.StepLemmas.{reached_linked}
 
 module _ {V : Type 0} where
   found_free : (o : Option (TxActor V)) → ((r : TxActor V) → o ≡ Some r → is_half_done (stage_of r.stage) ≡ false)

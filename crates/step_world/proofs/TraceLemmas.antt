@@ -34,11 +34,11 @@ use Rattle.step_world.specs.Parts.{HasWorld, IsWorld, ended_of}
 use Rattle.step_world.specs.Reached.{IsReached}
 use Rattle.step_world.specs.Traces.{IsSerialTrace, IsTraceOf, is_half, seat_at, seat_found, with_number}
 use Rattle.actor_parts.proofs.BlocksLemmas.{end_behind}
-use Rattle.actor_turns.proofs.SeatLemmas.{IsLike, like_as}
-use Rattle.actor_turns.proofs.StepLemmas.{reached_linked}
+use Rattle.tx_actor.proofs.SeatLemmas.{IsLike, like_as}
+use Rattle.tx_actor.proofs.StepLemmas.{reached_linked}
 use Rattle.actor_laws.specs.Limits.{HoldsWithinLimits}
-use Rattle.world_table.specs.States.{held_in}
-use Rattle.world_table.proofs.StateLemmas as tables
+use Rattle.actor_parts.specs.States.{held_in}
+use Rattle.actor_parts.proofs.StateLemmas as tables
 use Rattle.step_world.proofs.WorldLemmas.{shape_laid}
 
 -- one number more after the others, and one in front

@@ -41,14 +41,14 @@ use Rattle.tx_actor.specs.Running.{Runs, seat_at, seat_of, stage_of}
 use Rattle.tx_actor.specs.declared.actor.Told.{Told}
 use Rattle.tx_actor.specs.declared.actor.TxActor.{TxActor}
 use Rattle.actor_parts.specs.declared.next.Next.TheVariants as next
-use Rattle.world_table.specs.Tables.{HasTable}
-use Rattle.world_table.specs.declared.table.Table.{Table}
-use Rattle.world_table.proofs.TableLemmas.{still_has}
+use Rattle.actor_parts.specs.Tables.{HasTable}
+use Rattle.actor_parts.specs.declared.table.Table.{Table}
+use Rattle.actor_parts.proofs.TableLemmas.{still_has}
 use Rattle.step_world.specs.Turns.{IsTurn}
-use Rattle.actor_turns.proofs.SeatLemmas.{next_as, ready_as, stage_by, starved_as}
-use Rattle.actor_turns.proofs.StepLemmas.{GoesOn, due_as, due_put, due_try, due_word, first_is, knows_moved, knows_ready, may_move}
-use Rattle.actor_turns.proofs.StepLemmas.{put_runs}
-use Rattle.actor_turns.proofs.StepLemmas.{reached_allows, reached_goes_on, reached_linked, same_action, same_world, try_runs}
+use Rattle.tx_actor.proofs.SeatLemmas.{next_as, ready_as, stage_by, starved_as}
+use Rattle.tx_actor.proofs.StepLemmas.{GoesOn, due_as, due_put, due_try, due_word, first_is, knows_moved, knows_ready, may_move}
+use Rattle.tx_actor.proofs.StepLemmas.{put_runs}
+use Rattle.tx_actor.proofs.StepLemmas.{reached_allows, reached_goes_on, reached_linked, same_action, same_world, try_runs}
 
 -- an actor that owes less afterwards, and one that owed more before
 pub grows_less : (t u : Cells) (x y z : running.Actor) → Grows t x u y → owed z.place ≤ owed y.place → Grows t x u z

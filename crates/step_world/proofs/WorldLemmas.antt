@@ -29,9 +29,9 @@ use Rattle.tx_actor.specs.Running.{Runs}
 use Rattle.tx_actor.specs.declared.actor.Stage as own
 use Rattle.tx_actor.specs.declared.actor.Told.{Told}
 use Rattle.tx_actor.specs.declared.actor.TxActor.{TxActor}
-use Rattle.world_table.specs.Openings.{HasShape}
-use Rattle.world_table.specs.Tables.{HasTable}
-use Rattle.world_table.specs.declared.table.Table.{Table}
+use Rattle.actor_parts.specs.Openings.{HasShape}
+use Rattle.actor_parts.specs.Tables.{HasTable}
+use Rattle.actor_parts.specs.declared.table.Table.{Table}
 use Rattle.step_world.specs.declared.parts.Parts.{Parts}
 use Rattle.step_world.specs.declared.trace.Ended.{Ended}
 use Rattle.step_world.specs.Loading.{IsSeated}
@@ -40,7 +40,7 @@ use Rattle.step_world.specs.Reached.{IsReached}
 use Rattle.tx_actor.specs.Having.{HasCopies}
 use Rattle.step_world.specs.Homes.{HasRoomLeft}
 use Rattle.step_world.specs.Turns.{IsTurn, KeepsOwn, KeepsRoom}
-use Rattle.actor_turns.proofs.SeatLemmas.{runs_stand}
+use Rattle.tx_actor.proofs.SeatLemmas.{runs_stand}
 
 owed_one : (p : Place) → owed p ≤ 1
 owed_one place.Open = omega arith

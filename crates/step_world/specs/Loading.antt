@@ -6,8 +6,8 @@ use Rattle.actor_parts.specs.Blocks.{BlocksView, IsLaid}
 use Rattle.tx_actor.specs.Having.{HasCopies}
 use Rattle.tx_actor.specs.Running.{Runs}
 use Rattle.tx_actor.specs.declared.actor.TxActor.{TxActor}
-use Rattle.world_table.specs.Tables.{HasTable}
-use Rattle.world_table.specs.declared.table.Table.{Table}
+use Rattle.actor_parts.specs.Tables.{HasTable}
+use Rattle.actor_parts.specs.declared.table.Table.{Table}
 use Rattle.step_world.specs.Reached.{IsReached}
 
 -- There is a world that events have reached, which is laid out as v and of which t is the table, and in which r is one of the actors and

@@ -20,8 +20,8 @@ use Rattle.tx_actor.specs.declared.actor.Stage as own
 use Rattle.tx_actor.specs.declared.actor.Told.{Told}
 use Rattle.tx_actor.specs.declared.actor.TxActor.{TxActor}
 use Rattle.actor_parts.specs.declared.next.Next.{Next}
-use Rattle.world_table.specs.Openings.{HasShape}
-use Rattle.world_table.specs.Tables.{HasTable}
+use Rattle.actor_parts.specs.Openings.{HasShape}
+use Rattle.actor_parts.specs.Tables.{HasTable}
 use Rattle.step_world.specs.declared.parts.Parts.{Parts}
 use Rattle.step_world.specs.declared.trace.Ended.{Ended}
 use Rattle.step_world.specs.Homes.{HasRoomLeft}

@@ -1,2 +1,2 @@
 -- The worlds that events lead to from an opening.
-pub use Rattle.actor_turns.specs.Reached.{IsReached}
+pub use Rattle.tx_actor.specs.Reached.{IsReached}

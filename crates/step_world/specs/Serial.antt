@@ -6,7 +6,7 @@ use Rattle.replay_log.specs.Worlds.{World, is_half_done}
 use Rattle.replay_log.specs.WorldSerial.{AllSaw, SawAt}
 use Rattle.tx_actor.specs.Running.{seat_of, stage_of}
 use Rattle.tx_actor.specs.declared.actor.TxActor.{TxActor}
-use Rattle.world_table.specs.States.{held_in}
+use Rattle.actor_parts.specs.States.{held_in}
 use Rattle.step_world.specs.declared.parts.Parts.{Parts}
 use Rattle.step_world.specs.Parts.{IsWorld, ended_of}
 use Rattle.step_world.specs.Reached.{IsReached}

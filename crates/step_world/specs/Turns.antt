@@ -10,8 +10,8 @@ use Rattle.tx_actor.specs.Keeping.{IsRunning}
 use Rattle.tx_actor.specs.Running.{Runs, notice_of}
 use Rattle.tx_actor.specs.declared.actor.Told.{Told}
 use Rattle.tx_actor.specs.declared.actor.TxActor.{TxActor}
-use Rattle.world_table.specs.Tables.{HasTable}
-use Rattle.world_table.specs.declared.table.Table.{Table}
+use Rattle.actor_parts.specs.Tables.{HasTable}
+use Rattle.actor_parts.specs.declared.table.Table.{Table}
 use Rattle.step_world.specs.Homes.{HasRoomLeft}
 use Rattle.step_world.specs.Reached.{IsReached}
 

@@ -8,17 +8,16 @@ ghost use Rattle.tx_actor.specs.Having.{KeepsCopies};
 ghost use Rattle.tx_actor.specs.Keeping.{IsRunning, KeepsIn};
 ghost use Rattle.tx_actor.specs.Running.{stage_of};
 ghost use Rattle.tx_actor.specs.declared.actor.Told.TheVariants as told;
-ghost use Rattle.world_table.specs.Openings.{HasShape};
+ghost use Rattle.actor_parts.specs.Openings.{HasShape};
 ghost use Rattle.step_world.specs.Loading.{IsSeated};
 ghost use Rattle.step_world.specs.Turns.{IsTurn, KeepsOwn};
 
 use actor_parts::word_laws::steps_as_worlds;
-use actor_parts::{Blocks, Next, copied_as_worlds, copies_go_on, copies_stay, sizes_copies};
+use actor_parts::{Blocks, Next, Table, copied_as_worlds, copies_go_on, copies_stay, sizes_copies};
 use seq_model::{Memory, Value};
 use std::alloc::Global;
 use tx_actor::laws::{copied_stay_own, copies_by_stage, copies_stay_own};
 use tx_actor::{Told, TxActor};
-use world_table::Table;
 
 /// What the call of an actor touches of its collection's base is copied, and the gate is put back. Where there is no memory for it the
 /// table is unchanged, and the call is aborted as one that starves, which holds its gate.

@@ -7,17 +7,16 @@ ghost use Rattle.tx_actor.specs.Having.{KeepsFrom};
 ghost use Rattle.tx_actor.specs.Keeping.{KeepsIn, NamesAmong};
 ghost use Rattle.actor_parts.specs.Logs.{OthersStand};
 ghost use Rattle.tx_actor.specs.Running.{stage_of};
-ghost use Rattle.world_table.specs.Openings.{HasShape};
+ghost use Rattle.actor_parts.specs.Openings.{HasShape};
 ghost use Rattle.step_world.specs.Homes.{AreAlike, HasRoomAt, HasRoomDue, HaveRoom, IsHomeTurn, MayGoHome};
 
-use actor_parts::Next;
 use actor_parts::copy_laws::logs_as_worlds;
 use actor_parts::word_laws::{goes_on_as_worlds, steps_as_worlds};
+use actor_parts::{Next, Table};
 use seq_model::{Memory, Value};
 use std::alloc::Global;
 use std::collections::VecDeque;
 use tx_actor::{Stage, Told, TxActor};
-use world_table::Table;
 
 fn prepare_base<V: Value>(table: &mut Table<V>, actor: &TxActor<V>, k: u32) -> Result<(), Memory>
     requires { k < length table.old.bases.items }

@@ -8,18 +8,15 @@ ghost use Rattle.actor_parts.specs.Blocks.{BlocksView};
 ghost use Rattle.actor_parts.specs.Dispatch.{is_loading};
 ghost use Rattle.tx_actor.specs.Keeping.{IsRunning};
 ghost use Rattle.tx_actor.specs.Running.{stage_of};
-ghost use Rattle.world_table.specs.Openings.{HasShape};
+ghost use Rattle.actor_parts.specs.Openings.{HasShape};
 ghost use Rattle.step_world.specs.Loading.{IsSeated};
 ghost use Rattle.step_world.specs.Turns.{IsTurn, KeepsOwn};
 
 use actor_parts::word_laws::steps_as_worlds;
-use actor_parts::{Blocks, copies_stay};
+use actor_parts::{Blocks, Table, copies_stay};
 use seq_model::Value;
-use tx_actor::laws::{
-    copies_by_stage, loads_as_worlds, loads_keep_running, loads_stay_own, seats_as_actors,
-};
+use tx_actor::laws::{copies_by_stage, loads_as_worlds, loads_keep_running, loads_stay_own, seats_as_actors};
 use tx_actor::{Told, TxActor};
-use world_table::Table;
 
 /// The next step of an actor's words while the locations of its call are read.
 pub fn load_word<V: Value>(table: &mut Table<V>, actor: &mut TxActor<V>, blocks: &Blocks) -> Told<V>

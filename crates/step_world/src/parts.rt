@@ -1,7 +1,7 @@
 //! The parts of a world.
 ghost use Rattle.std.specs.Prelude.{◌≡◌, ◌≢◌, IfErr, IfOk, IsOk, length};
 ghost use Rattle.seq_model.specs.Refusals.{IsNoSuchOrTooLong};
-ghost use Rattle.world_table.specs.Openings.{IsWithin, world_of};
+ghost use Rattle.actor_parts.specs.Openings.{IsWithin, world_of};
 ghost use Rattle.step_world.specs.Parts.{HasWorld, IsWorld};
 ghost use Rattle.seq_model.specs.Contents.{Contents};
 ghost use Rattle.replay_log.specs.Seats.{World};
@@ -12,12 +12,11 @@ ghost use Rattle.step_world.specs.Traces.{IsSerialTrace, IsTraceOf};
 use crate::opening::actors;
 use crate::trace::{Ended, Trace, copy_of_aborted, copy_of_records, half_done};
 use actor_laws::limit_laws::bases_are_within_limits;
-use actor_parts::Blocks;
+use actor_parts::{Blocks, Table, lay};
 use replay_log::laws::{numbers, serial_worlds, traces};
 use seq_model::{Items, Memory, Record, Refusal, Shape, State, Value};
 use std::alloc::Global;
 use tx_actor::TxActor;
-use world_table::{Table, lay};
 
 /// The parts of a world.
 #[derive(Drop)]

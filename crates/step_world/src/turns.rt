@@ -11,17 +11,16 @@ ghost use Rattle.actor_parts.specs.Dispatch.{is_loading, next_of};
 ghost use Rattle.tx_actor.specs.Having.{KeepsCopies};
 ghost use Rattle.tx_actor.specs.Keeping.{IsRunning, KeepsIn};
 ghost use Rattle.tx_actor.specs.Running.{stage_of};
-ghost use Rattle.world_table.specs.Openings.{HasShape};
+ghost use Rattle.actor_parts.specs.Openings.{HasShape};
 ghost use Rattle.step_world.specs.Turns.{IsTurn};
 
 use crate::trace::Ended;
 use actor_parts::word_laws::{goes_on_as_worlds, steps_as_worlds};
-use actor_parts::{Blocks, Next};
+use actor_parts::{Blocks, Next, Table};
 use seq_model::{Items, Memory, Record, Value};
 use std::alloc::Global;
 use std::mem;
 use tx_actor::{Stage, Told, TxActor};
-use world_table::Table;
 
 /// The next step of an actor's words.
 pub fn step_word<V: Value>(table: &mut Table<V>, actor: &mut TxActor<V>, blocks: &Blocks) -> Told<V>

@@ -5,7 +5,7 @@ ghost use Rattle.seq_model.specs.Refusals.{IsNoSuchOrTooLong};
 ghost use Rattle.replay_log.specs.Seats.{World as PureWorld};
 ghost use Rattle.replay_log.specs.WorldProgress.{AreSmall};
 ghost use Rattle.replay_log.specs.WorldSerial.{IsSerial};
-ghost use Rattle.world_table.specs.Openings.{IsWithin, world_of};
+ghost use Rattle.actor_parts.specs.Openings.{IsWithin, world_of};
 ghost use Rattle.step_world.specs.Feeds.{AllocatesNothing, Feeds, fed_all};
 ghost use Rattle.step_world.specs.Parts.{IsWorld};
 ghost use Rattle.step_world.specs.Reached.{IsReached};

@@ -4,7 +4,7 @@ use Rattle.tx_table.specs.declared.table.TxTable.{TxTable}
 use Rattle.tx_table.specs.Seated.{opening_of}
 use Rattle.actor_laws.specs.Phases.{Rests}
 use Rattle.tx_engine.proofs.ReadyLemmas.{rests_since}
-use Rattle.driven_turns.specs.Driven.{standing}
+use Rattle.tx_turns.specs.Driven.{standing}
 use Rattle.tx_engine.specs.Ready.{IsReady}
 use Rattle.tx_engine.specs.declared.seats.TxSeat.{TxSeat}
 use Rattle.table_tests.specs.Fit.{IsFit}

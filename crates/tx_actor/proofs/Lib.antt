@@ -21,3 +21,11 @@ mod GoneLemmas
 pub mod OwnLoadLemmas
 pub mod OwnCopyLemmas
 mod BehindLemmas
+pub mod SeatLemmas
+pub mod StepLemmas
+pub mod OwnLemmas
+pub mod LoadStepLemmas
+pub mod CopyLemmas
+pub mod HomeLemmas
+pub mod NameLemmas
+pub mod GatesLemmas

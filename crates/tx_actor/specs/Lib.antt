@@ -14,3 +14,5 @@ pub mod Seated
 pub mod Having
 pub mod Staying
 pub mod Taking
+pub mod Reached
+pub mod Kept

@@ -7,8 +7,8 @@ use Rattle.seq_model.specs.declared.call.Op.{Op}
 use Rattle.seq_model.specs.declared.call.Reply.{Reply}
 use Rattle.seq_model.specs.declared.record.Record.{Record}
 use Rattle.seq_model.specs.declared.event.Request.TheVariants as request
-use Rattle.driven_turns.specs.Driven.{is_declared}
-use Rattle.driven_turns.specs.Requested.{requests_of}
+use Rattle.tx_turns.specs.Driven.{is_declared}
+use Rattle.tx_turns.specs.Requested.{requests_of}
 use Rattle.seq_model.specs.declared.refusal.Refusal.{Refusal}
 use Rattle.replay_log.specs.Seats.{World}
 use Rattle.actor_laws.specs.Phases.{Rests}

@@ -10,8 +10,8 @@ use Rattle.tx_table.specs.declared.table.TxTable.{TxTable}
 use Rattle.tx_table.specs.Seated.{actor, opening_of, view}
 use Rattle.tx_engine.specs.declared.seats.TxSeat.{TxSeat}
 use Rattle.tx_engine.specs.Ready.{HasBegunSince, IsReady, standing}
-use Rattle.driven_turns.specs.Driven.{is_declared}
-use Rattle.driven_turns.specs.Requested.{requests_of}
+use Rattle.tx_turns.specs.Driven.{is_declared}
+use Rattle.tx_turns.specs.Requested.{requests_of}
 use Rattle.tx_engine.specs.Requests.{KeepsReceipts}
 use Rattle.tx_client.specs.Asked.{HasAsked}
 use Rattle.tx_handles.specs.Made.{TransactionShown}

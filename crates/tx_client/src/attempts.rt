@@ -5,8 +5,8 @@
 //! belongs ([`crate::Scope`]).
 ghost use Rattle.std.specs.Prelude.{◌≡◌, IfErr, IfOk, Err, Ok, Some, false, true};
 ghost use Rattle.tx_table.specs.Seated.{opening_of};
-ghost use Rattle.driven_turns.specs.Driven.{is_declared};
-ghost use Rattle.driven_turns.specs.Requested.{requests_of};
+ghost use Rattle.tx_turns.specs.Driven.{is_declared};
+ghost use Rattle.tx_turns.specs.Requested.{requests_of};
 ghost use Rattle.tx_engine.specs.Ready.{HasBegunSince, IsReady};
 ghost use Rattle.tx_engine.specs.Requests.{KeepsReceipts};
 ghost use Rattle.tx_client.specs.Asked.{HasAsked};

@@ -25,7 +25,7 @@ use Rattle.tx_table.specs.declared.seat.Seat as table
 use Rattle.tx_table.specs.declared.table.TxTable.{TxTable}
 use Rattle.tx_table.specs.declared.view.View.{View}
 use Rattle.tx_table.proofs.Turned.{asked_calm}
-use Rattle.driven_turns.specs.Driven.{aborted_for, seat_in, standing}
+use Rattle.tx_turns.specs.Driven.{aborted_for, seat_in, standing}
 use Rattle.tx_engine.specs.Requests.{IsAbortedFor, IsLastAborted}
 use Rattle.tx_engine.specs.Aborted.{SeesOneState, ShownBy, WasAborted, WasAbortedFor}
 use Rattle.tx_engine.specs.Records.{HasAborted, ShowsSeats}

@@ -10,8 +10,8 @@ use Rattle.seq_model.specs.declared.refusal.Refusal.TheVariants.{Memory as OutOf
 use Rattle.replay_log.specs.Seats.{World}
 use Rattle.tx_table.specs.declared.seat.Seat.{Seat}
 use Rattle.actor_laws.specs.Phases.{Rests}
-use Rattle.driven_turns.specs.Driven.{standing}
-use Rattle.driven_turns.specs.Requested.{requests_of}
+use Rattle.tx_turns.specs.Driven.{standing}
+use Rattle.tx_turns.specs.Requested.{requests_of}
 use Rattle.tx_engine.specs.Requests.{HasAskedFor, HasAskedToBegin, IsOpen, begin_request}
 
 module _ {V : Type 0} where

@@ -35,7 +35,7 @@ use Rattle.tx_engine.proofs.CallLemmas.{stands_at}
 pub use Rattle.tx_engine.proofs.RequestLemmas.{keeps_self}
 use Rattle.tx_engine.proofs.RequestLemmas.{then_keeps, told_later, told_on}
 use Rattle.tx_engine.specs.Ready.{standing}
-use Rattle.driven_turns.specs.Begins.{begins_of}
+use Rattle.tx_turns.specs.Begins.{begins_of}
 use Rattle.tx_engine.specs.Requests.{CallsTo, CommitsTo, HasAborted, HasCommitted, HasSameAborted, IsAnswered, IsBegun, IsLastAborted}
 use Rattle.tx_engine.specs.Requests.{IsOpen, KeepsReceipts, told_of}
 use Rattle.tx_engine.proofs.GainLemmas.{aborts_still, gains, gains_broken, gains_for}

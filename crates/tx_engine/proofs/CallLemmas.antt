@@ -37,12 +37,12 @@ use Rattle.actor_laws.proofs.CourseLemmas.{ends_at}
 use Rattle.actor_laws.proofs.PhaseLemmas.{asks_move}
 use Rattle.actor_laws.specs.Courses.{ComesTo, EndsFrom, IsUnderWay, IsUnderWayFrom}
 use Rattle.actor_laws.specs.Phases.{AskMoves, CallMoves, Phase, Rests, Begins, Stands, Calls, Ends, IsMistaken, phase, phase_at}
-use Rattle.driven_turns.proofs.EndedLemmas.{IsGoing}
-use Rattle.driven_turns.proofs.KeptLemmas.{Keeps, asks_keep}
+use Rattle.tx_turns.proofs.EndedLemmas.{IsGoing}
+use Rattle.tx_turns.proofs.KeptLemmas.{Keeps, asks_keep}
 use Rattle.tx_engine.proofs.KindLemmas.{call_given_up, call_mistaken, call_without_memory}
 use Rattle.tx_engine.proofs.RequestLemmas.{asked_aborted, asked_keeps, asked_reader, ended_back, found_told, noted_for, then_keeps}
 use Rattle.tx_engine.proofs.RequestLemmas.{told_back, turns_keep}
-use Rattle.driven_turns.specs.Driven.{Driven, IsCallCause, IsReason, IsTrue, is_declared, seat_in, standing}
+use Rattle.tx_turns.specs.Driven.{Driven, IsCallCause, IsReason, IsTrue, is_declared, seat_in, standing}
 use Rattle.tx_engine.specs.Requests.{CallLeaves, CallsTo, HasAborted, IsCallRefusal, IsCallTold, IsDriven, IsOpen, KeepsReceipts}
 use Rattle.tx_engine.specs.Requests.{IsAbortedFor, IsLastAborted}
 use Rattle.tx_engine.specs.Requests.{told_of}

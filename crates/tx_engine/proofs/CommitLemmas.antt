@@ -38,13 +38,13 @@ use Rattle.tx_table.specs.Seated as seated
 use Rattle.actor_laws.specs.Courses.{ComesTo, EndsFrom, IsUnderWay, IsUnderWayFrom}
 use Rattle.actor_laws.specs.Phases.{Phase, Rests, Stands, Commits, phase, phase_at}
 use Rattle.tx_engine.proofs.CallLemmas.{stands_at}
-use Rattle.driven_turns.proofs.EndedLemmas.{IsGoing}
-use Rattle.driven_turns.proofs.KeptLemmas.{Keeps, asks_keep}
+use Rattle.tx_turns.proofs.EndedLemmas.{IsGoing}
+use Rattle.tx_turns.proofs.KeptLemmas.{Keeps, asks_keep}
 use Rattle.tx_engine.proofs.KindLemmas.{commit_given_up, commit_without_memory}
 use Rattle.tx_engine.proofs.RequestLemmas.{asked_aborted, asked_keeps, ended_back, found_told, noted_for, then_keeps, told_back}
 use Rattle.tx_engine.proofs.RequestLemmas.{turns_keep}
-use Rattle.driven_turns.specs.Driven.{Driven, HasTold, IsNumberOf, IsStamped, IsStampedAt, IsTrue, KnowsNumber}
-use Rattle.driven_turns.specs.Driven.{is_closing, is_declared, seat_in, standing}
+use Rattle.tx_turns.specs.Driven.{Driven, HasTold, IsNumberOf, IsStamped, IsStampedAt, IsTrue, KnowsNumber}
+use Rattle.tx_turns.specs.Driven.{is_closing, is_declared, seat_in, standing}
 use Rattle.tx_engine.specs.Requests.{CommitsTo, HasAborted, HasCommitted, HasSameAborted, IsCommitRefusal, IsCommitTold, IsEnded}
 use Rattle.tx_engine.specs.Requests.{IsLastAborted, KeepsReceipts, has_some, has_written}
 use Rattle.tx_turns.proofs.OwnLemmas.{own_ok}

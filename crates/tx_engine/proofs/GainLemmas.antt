@@ -13,7 +13,7 @@ use Rattle.seq_model.specs.declared.job.Ask.{Ask}
 use Rattle.actor_laws.specs.Phases.{IsMistaken, Rests, Stands, phase_at}
 use Rattle.tx_table.specs.Seated.{actor, acts}
 use Rattle.tx_table.specs.declared.seat.Seat.{Seat}
-use Rattle.driven_turns.specs.Driven.{IsExhausted, aborted_for, seat_in}
+use Rattle.tx_turns.specs.Driven.{IsExhausted, aborted_for, seat_in}
 use Rattle.tx_engine.proofs.RequestLemmas.{then_keeps}
 use Rattle.tx_engine.specs.Ready.{standing}
 use Rattle.tx_engine.specs.Requests.{HasSameAborted, IsAbortedFor, IsEnded, IsLastAborted, IsOpen}

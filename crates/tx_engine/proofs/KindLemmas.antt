@@ -7,7 +7,7 @@ use Rattle.seq_model.specs.declared.refusal.Refusal.{Refusal}
 use Rattle.seq_model.specs.declared.refusal.Refusal.TheVariants.{Busy, GateBusy, Invalid, Moved, NoSuch, NoTransaction, Memory as OutOfMemory, Stale}
 use Rattle.seq_model.specs.declared.refusal.Refusal.TheVariants.{TooLong}
 use Rattle.actor_laws.specs.Phases.{IsMistaken}
-use Rattle.driven_turns.specs.Driven.{IsCallCause, IsCommitCause}
+use Rattle.tx_turns.specs.Driven.{IsCallCause, IsCommitCause}
 use Rattle.tx_engine.specs.Requests.{IsCallRefusal, IsCommitRefusal}
 
 -- ---- a call

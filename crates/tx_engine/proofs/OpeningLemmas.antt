@@ -11,8 +11,8 @@ use Rattle.replay_log.specs.Contents.{HaveStripes}
 use Rattle.replay_log.specs.Seats.{World}
 use Rattle.replay_log.specs.WorldProgress.{AreSmall, most_by}
 use Rattle.actor_laws.proofs.Alike.{alike_same}
-use Rattle.world_table.specs.Openings.{AreStripeCounts, IsWithin, blocks_of, world_of}
-use Rattle.world_table.proofs.OpeningLemmas.{suits}
+use Rattle.actor_parts.specs.Openings.{AreStripeCounts, IsWithin, blocks_of, world_of}
+use Rattle.actor_parts.proofs.OpeningLemmas.{suits}
 use Rattle.tx_table.specs.declared.table.TxTable.{TxTable}
 use Rattle.tx_table.specs.Seated.{opening_of}
 use Rattle.tx_table.specs.Shown.{IsReached}

@@ -30,17 +30,17 @@ use Rattle.actor_laws.specs.Phases.{Rests, phase}
 use Rattle.tx_engine.proofs.AskLemmas.{asked_still}
 use Rattle.tx_engine.proofs.KindLemmas.{call_without_transaction, commit_without_transaction}
 use Rattle.tx_engine.proofs.RequestLemmas.{is_idle, is_open, keeps_self}
-use Rattle.driven_turns.proofs.RequestedLemmas.{same_begins, same_requests}
-use Rattle.driven_turns.specs.Begins.{begins_of}
-use Rattle.driven_turns.specs.Driven.{HasTold, IsNumberOf, seat_in, standing}
-use Rattle.driven_turns.specs.Requested.{requests_of}
+use Rattle.tx_turns.proofs.RequestedLemmas.{same_begins, same_requests}
+use Rattle.tx_turns.specs.Begins.{begins_of}
+use Rattle.tx_turns.specs.Driven.{HasTold, IsNumberOf, seat_in, standing}
+use Rattle.tx_turns.specs.Requested.{requests_of}
 use Rattle.tx_engine.specs.Ready.{CanDrive, HasBegunSince, HasCalled, HasFinished, HasOpened, IsNew, IsReady}
 use Rattle.tx_engine.specs.Requests.{CallLeaves, CallsTo, CommitsTo, HasAskedFor, HasCommitted, IsBegun, IsNotBegun, IsOpen, OnlyKnows}
 use Rattle.tx_engine.specs.declared.seats.TxSeat.{TxSeat}
 use Rattle.tx_turns.specs.Ties.{Ties, laid_in}
-use Rattle.driven_turns.specs.Bases.{AreBases, gates_at}
-use Rattle.driven_turns.specs.Own.{HasOwn}
-use Rattle.driven_turns.proofs.RestLemmas.{IsFree, free_own}
+use Rattle.tx_turns.specs.Bases.{AreBases, gates_at}
+use Rattle.tx_turns.specs.Own.{HasOwn}
+use Rattle.tx_turns.proofs.RestLemmas.{IsFree, free_own}
 
 module _ {V : Type 0} where
   -- ---- a new seat

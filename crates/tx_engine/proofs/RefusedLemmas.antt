@@ -46,9 +46,9 @@ use Rattle.tx_table.specs.Turns.{asked_all, found_at, lone, own, spot, stage_of,
 use Rattle.tx_table.specs.declared.view.Turn.{Turn}
 use Rattle.tx_table.specs.declared.seat.Seat as table
 use Rattle.tx_table.proofs.Turned.{found_alike, lone_snoc}
-use Rattle.driven_turns.proofs.RequestedLemmas.{first_begins}
-use Rattle.driven_turns.specs.Begins.{begins_asked, begins_taken}
-use Rattle.driven_turns.specs.Driven.{HasTold}
+use Rattle.tx_turns.proofs.RequestedLemmas.{first_begins}
+use Rattle.tx_turns.specs.Begins.{begins_asked, begins_taken}
+use Rattle.tx_turns.specs.Driven.{HasTold}
 use Rattle.tx_engine.proofs.HeldLemmas.{keeps_locks, leaves_bare}
 use Rattle.tx_engine.proofs.TurnLemmas.{lone_append}
 use Rattle.tx_engine.specs.Refused.{AllGiveBack, GaveUp, GivesBack, IsEndTold, IsGivenUpFor}

@@ -26,7 +26,7 @@ use Rattle.replay_log.specs.Seats.{World, Seat, Stage, Cancelling, Leaving, acto
 use Rattle.replay_log.specs.Worlds.{ask_at, happens, is_leaving, why}
 use Rattle.actor_laws.proofs.OneStep.{one_step}
 use Rattle.actor_parts.specs.Dispatch.{is_loading}
-use Rattle.actor_turns.proofs.SeatLemmas.{loading_as}
+use Rattle.tx_actor.proofs.SeatLemmas.{loading_as}
 use Rattle.tx_actor.specs.Running.{notice_of, stage_of}
 use Rattle.tx_actor.specs.declared.actor.Stage as own
 use Rattle.tx_actor.specs.declared.actor.Stage.TheVariants as stage
@@ -41,18 +41,18 @@ use Rattle.tx_table.specs.declared.view.Turn.{Turn}
 use Rattle.actor_laws.proofs.PhaseLemmas.{asks_move}
 use Rattle.actor_laws.specs.Courses.{EndsFrom, IsUnderWay, IsUnderWayFrom}
 use Rattle.actor_laws.specs.Phases.{AskMoves, Phase, Rests, Begins, Stands, Calls, Ends, phase, phase_at}
-use Rattle.driven_turns.specs.Bases.{gates_at}
-use Rattle.driven_turns.specs.Own.{HasOwn}
-use Rattle.driven_turns.proofs.DeclaredLemmas.{reader_asks}
-use Rattle.driven_turns.proofs.RequestedLemmas.{more_begins, taken_requests}
-use Rattle.driven_turns.proofs.EndedLemmas.{IsGoing}
-use Rattle.driven_turns.proofs.GivenUpLemmas.{none_ends}
-use Rattle.driven_turns.proofs.KeptLemmas.{Keeps, Same, asks_keep}
-use Rattle.driven_turns.proofs.RestLemmas.{IsFree, bare_out, free_own, taken_bare}
-use Rattle.driven_turns.proofs.SinceLemmas as since
-use Rattle.driven_turns.specs.Begins.{begins_in, begins_of}
-use Rattle.driven_turns.specs.Driven.{Driven, HasFound, HasTold, IsReason, IsTrue, as_receipts, is_declared, seat_in, standing}
-use Rattle.driven_turns.specs.Requested.{requests_of}
+use Rattle.tx_turns.specs.Bases.{gates_at}
+use Rattle.tx_turns.specs.Own.{HasOwn}
+use Rattle.tx_turns.proofs.DeclaredLemmas.{reader_asks}
+use Rattle.tx_turns.proofs.RequestedLemmas.{more_begins, taken_requests}
+use Rattle.tx_turns.proofs.EndedLemmas.{IsGoing}
+use Rattle.tx_turns.proofs.GivenUpLemmas.{none_ends}
+use Rattle.tx_turns.proofs.KeptLemmas.{Keeps, Same, asks_keep}
+use Rattle.tx_turns.proofs.RestLemmas.{IsFree, bare_out, free_own, taken_bare}
+use Rattle.tx_turns.proofs.SinceLemmas as since
+use Rattle.tx_turns.specs.Begins.{begins_in, begins_of}
+use Rattle.tx_turns.specs.Driven.{Driven, HasFound, HasTold, IsReason, IsTrue, as_receipts, is_declared, seat_in, standing}
+use Rattle.tx_turns.specs.Requested.{requests_of}
 use Rattle.tx_engine.specs.Requests.{BeginsTo, HasAborted, IsBeginTold, IsBegun, IsEnded, IsFoundAndTold, IsNotBegun, KeepsReceipts}
 use Rattle.tx_engine.specs.Requests.{IsLastAborted, begin_of}
 use Rattle.tx_turns.proofs.OwnLemmas.{own_ok}

@@ -32,8 +32,8 @@ use Rattle.tx_table.specs.Seated.{acts, kept, list_of}
 use Rattle.tx_table.specs.Shown.{IsReached, Opens}
 use Rattle.tx_table.specs.Turns.{asked_all, own, stage_of}
 use Rattle.tx_table.specs.declared.seat.Seat as table
-use Rattle.driven_turns.proofs.RestLemmas.{IsCalm}
-use Rattle.driven_turns.specs.Driven.{standing}
+use Rattle.tx_turns.proofs.RestLemmas.{IsCalm}
+use Rattle.tx_turns.specs.Driven.{standing}
 use Rattle.tx_engine.specs.Requests.{IsOpen}
 use Rattle.tx_engine.specs.Seats.{HasNothing, HoldsNothing}
 

@@ -25,9 +25,9 @@ use Rattle.actor_laws.specs.Phases.{Rests, phase_at}
 use Rattle.tx_turns.proofs.OwnLemmas.{own_gates}
 use Rattle.tx_turns.specs.Ties.{Ties}
 use Rattle.tx_engine.proofs.CallLemmas.{stands_at}
-use Rattle.driven_turns.specs.Own.{HasOwn}
+use Rattle.tx_turns.specs.Own.{HasOwn}
 use Rattle.tx_engine.proofs.ReadyLemmas.{stays_between, stays_own, stays_standing, stays_tied}
-use Rattle.driven_turns.specs.Driven.{seat_in, standing}
+use Rattle.tx_turns.specs.Driven.{seat_in, standing}
 use Rattle.tx_engine.specs.Ready.{IsReady}
 use Rattle.tx_engine.specs.Requests.{IsOpen}
 use Rattle.tx_engine.specs.declared.seats.TxSeat.{TxSeat}

@@ -27,8 +27,8 @@ use Rattle.tx_table.specs.Seated.{acts, list_of, view}
 use Rattle.tx_table.specs.Shown.{IsReached, Opens}
 use Rattle.tx_table.specs.Turns.{asked_all, lone, own, stage_of}
 use Rattle.tx_table.specs.declared.seat.Seat as table
-use Rattle.driven_turns.proofs.RestLemmas.{IsCalm}
-use Rattle.driven_turns.specs.Driven.{HasFound, standing}
+use Rattle.tx_turns.proofs.RestLemmas.{IsCalm}
+use Rattle.tx_turns.specs.Driven.{HasFound, standing}
 use Rattle.tx_engine.specs.Tries.{AreVain, WasTriedInVain}
 use Rattle.tx_engine.proofs.TurnLemmas.{Tried, asked_tried, lone_append, run_tried, tries_at}
 

@@ -21,7 +21,7 @@ use Rattle.tx_table.specs.declared.seat.Seat.{Seat}
 use Rattle.tx_table.specs.declared.table.TxTable.{TxTable}
 use Rattle.tx_table.specs.declared.view.View.{View}
 use Rattle.tx_engine.specs.Ready.{standing}
-use Rattle.driven_turns.specs.Driven.{seat_in}
+use Rattle.tx_turns.specs.Driven.{seat_in}
 
 module _ {V : Type 0} where
   -- Whenever the rule of the table t holds between two of its steps and the seat u stands in it with what it knows, the table shows a world

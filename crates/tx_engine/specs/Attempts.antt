@@ -14,8 +14,8 @@ use Rattle.seq_model.specs.Programs.{replies_of}
 use Rattle.tx_table.specs.declared.seat.Seat.{Seat}
 use Rattle.tx_table.specs.Seated.{actor, acts, view}
 use Rattle.actor_laws.specs.Phases.{IsMistaken, Rests, Stands}
-use Rattle.driven_turns.specs.Begins.{begins_of}
-use Rattle.driven_turns.specs.Driven.{aborted_for}
+use Rattle.tx_turns.specs.Begins.{begins_of}
+use Rattle.tx_turns.specs.Driven.{aborted_for}
 use Rattle.tx_engine.specs.Ready.{standing}
 use Rattle.tx_engine.specs.Requests.{CallsTo, HasAborted, HasCommitted, IsBegun, IsCommitRefusal, IsEnded, IsNotBegun, IsOpen}
 use Rattle.tx_engine.specs.Requests.{KeepsReceipts, has_written}

@@ -6,9 +6,9 @@ use Rattle.replay_log.specs.Seats.{World}
 use Rattle.tx_table.specs.declared.table.TxTable.{TxTable}
 use Rattle.tx_table.specs.Seated.{opening_of}
 use Rattle.actor_laws.specs.Phases.{Rests}
-use Rattle.driven_turns.specs.Begins.{begins_of}
-use Rattle.driven_turns.specs.Driven.{standing}
-use Rattle.driven_turns.specs.Requested.{requests_of}
+use Rattle.tx_turns.specs.Begins.{begins_of}
+use Rattle.tx_turns.specs.Driven.{standing}
+use Rattle.tx_turns.specs.Requested.{requests_of}
 use Rattle.tx_engine.specs.declared.seats.TxSeat.{TxSeat}
 use Rattle.tx_engine.specs.Ready.{IsReady}
 use Rattle.tx_engine.specs.Requests.{HasAborted, HasAskedToBegin, IsBegun, IsLastAborted, IsNotBegun, IsOpen, KeepsReceipts}

@@ -13,12 +13,12 @@ use Rattle.tx_table.specs.declared.table.TxTable.{TxTable}
 use Rattle.tx_table.specs.Seated.{Owns, blocks_in, list_of, opening_of, out, view}
 use Rattle.tx_table.specs.Shown.{IsReached}
 use Rattle.tx_turns.specs.Ties.{Ties}
-use Rattle.driven_turns.specs.Own.{HasOwn}
+use Rattle.tx_turns.specs.Own.{HasOwn}
 use Rattle.actor_laws.specs.Phases.{Rests}
 use Rattle.tx_engine.specs.declared.seats.TxSeat.{TxSeat}
-pub use Rattle.driven_turns.specs.Driven.{standing}
-use Rattle.driven_turns.specs.Begins.{begins_of}
-use Rattle.driven_turns.specs.Driven.{seat_in}
+pub use Rattle.tx_turns.specs.Driven.{standing}
+use Rattle.tx_turns.specs.Begins.{begins_of}
+use Rattle.tx_turns.specs.Driven.{seat_in}
 use Rattle.tx_engine.specs.Requests.{CallsTo, CommitsTo, HasAskedFor, IsCallRefusal, IsOpen}
 
 module _ {V : Type 0} where

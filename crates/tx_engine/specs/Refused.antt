@@ -19,8 +19,8 @@ use Rattle.tx_table.specs.declared.seat.Seat.{Seat}
 use Rattle.tx_table.specs.Seated.{actor, view}
 use Rattle.tx_table.specs.Turns.{asked_all, lone, stage_of, took}
 use Rattle.tx_table.specs.declared.view.Turn.{Turn}
-use Rattle.driven_turns.specs.Begins.{begins_taken}
-use Rattle.driven_turns.specs.Driven.{IsTurnFrom}
+use Rattle.tx_turns.specs.Begins.{begins_taken}
+use Rattle.tx_turns.specs.Driven.{IsTurnFrom}
 
 -- the causes for which a transaction is aborted
 abbrev pub IsGivenUpFor : Refusal → Type 0

@@ -21,9 +21,9 @@ use Rattle.tx_table.specs.Seated.{IsSameSeat, actor, acts, out, view}
 use Rattle.tx_table.specs.declared.view.Turn.{Turn}
 use Rattle.tx_turns.specs.Asked.{Answers}
 use Rattle.actor_laws.specs.Phases.{Rests, Stands, Calls, IsMistaken}
-use Rattle.driven_turns.specs.Driven.{Driven, HasFound, HasTold, IsExhausted, IsLoading, IsNumberOf, IsOnCollection, is_declared, seat_in}
-use Rattle.driven_turns.specs.Driven.{aborted_for, standing}
-use Rattle.driven_turns.specs.Requested.{requests_of}
+use Rattle.tx_turns.specs.Driven.{Driven, HasFound, HasTold, IsExhausted, IsLoading, IsNumberOf, IsOnCollection, is_declared, seat_in}
+use Rattle.tx_turns.specs.Driven.{aborted_for, standing}
+use Rattle.tx_turns.specs.Requested.{requests_of}
 
 -- there is some entry
 abbrev pub has_some : Entries → Bool

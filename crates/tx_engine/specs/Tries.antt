@@ -9,7 +9,7 @@ use Rattle.tx_table.specs.declared.seat.Seat.{Seat}
 use Rattle.tx_table.specs.Seated.{actor, view}
 use Rattle.tx_table.specs.Turns.{asked_all, lone, took}
 use Rattle.tx_table.specs.declared.view.Turn.{Turn}
-use Rattle.driven_turns.specs.Driven.{IsTurnFrom}
+use Rattle.tx_turns.specs.Driven.{IsTurnFrom}
 
 module _ {V : Type 0} where
   -- From w, the world with a alone, on, each of these turns tries the gate of k, and finds its word not free.

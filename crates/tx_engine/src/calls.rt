@@ -4,21 +4,21 @@ ghost use Rattle.replay_log.specs.WorldAnswers.{IsAdmitted};
 ghost use Rattle.tx_table.specs.Seated.{actor as actor_of, acts, opening_of};
 ghost use Rattle.actor_laws.specs.Phases.{Rests};
 ghost use Rattle.tx_turns.specs.Asked.{Answers, HasAsked};
-ghost use Rattle.driven_turns.specs.Begins.{begins_of};
-ghost use Rattle.driven_turns.specs.Driven.{is_declared, standing};
-ghost use Rattle.driven_turns.specs.Requested.{requests_of};
+ghost use Rattle.tx_turns.specs.Begins.{begins_of};
+ghost use Rattle.tx_turns.specs.Driven.{is_declared, standing};
+ghost use Rattle.tx_turns.specs.Requested.{requests_of};
 ghost use Rattle.tx_engine.specs.Ready.{CanDrive};
 ghost use Rattle.tx_engine.specs.Requests.{CallsTo, HasAborted, HasAskedFor, IsCallTold, IsCalling, IsDriven, IsOpen, KeepsReceipts};
 ghost use Rattle.tx_engine.specs.Requests.{IsLastAborted, told_of};
 
 use crate::requests::abort;
 use actor_parts::Boxed;
-use driven_turns::{ask, drive_call};
 use replay_log::Base;
 use seq_model::{Answer, Call, Refusal, Reply, Request, Value};
 use std::alloc::Global;
 use tx_actor::{Told, TxActor};
 use tx_table::{Seat, TxTable};
+use tx_turns::{ask, drive_call};
 
 /// The result of a call that is answered so.
 fn reply_told<V: Value>(told: Told<V>) -> Result<Reply<V>, Refusal>

@@ -1,7 +1,7 @@
 //! The table opens, splits, joins and closes with seats that run transactions.
 ghost use Rattle.std.specs.Prelude.{◌≡◌, ◌≢◌, ◌<◌, ◌≤◌, IfErr, IfOk, IsOk, length};
 ghost use Rattle.seq_model.specs.Refusals.{IsNoSuchOrTooLong};
-ghost use Rattle.world_table.specs.Openings.{IsWithin};
+ghost use Rattle.actor_parts.specs.Openings.{IsWithin};
 ghost use Rattle.tx_table.specs.Seated.{view};
 ghost use Rattle.tx_engine.specs.Holder.{Closes, Joins, Opens, Splits};
 ghost use Rattle.tx_engine.specs.Ready.{IsReady};

@@ -18,7 +18,7 @@ ghost use Rattle.tx_table.specs.Shown.{Opens, Slot};
 ghost use Rattle.tx_table.specs.declared.table.TxTable.{TxTable};
 ghost use Rattle.tx_table.specs.declared.view.Opening.{Opening};
 ghost use Rattle.tx_table.specs.declared.view.View.{View};
-ghost use Rattle.driven_turns.specs.Driven.{HasTold};
+ghost use Rattle.tx_turns.specs.Driven.{HasTold};
 ghost use Rattle.tx_engine.specs.Ready.{HasCalled, HasFinished, IsReady, standing};
 ghost use Rattle.tx_engine.specs.Requests.{IsFoundAndTold, IsLastAborted};
 ghost use Rattle.tx_engine.specs.declared.seats.TxSeat.{TxSeat};

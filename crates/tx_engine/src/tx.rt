@@ -6,7 +6,7 @@ ghost use Rattle.seq_model.specs.declared.refusal.Refusal.TheVariants.{Ahead};
 ghost use Rattle.tx_table.specs.Seated.{opening_of, view};
 ghost use Rattle.tx_engine.specs.contracts.seats.TxSeat.{the_row};
 ghost use Rattle.tx_engine.specs.Borrowed.{IsAborted, IsBegunSince, IsRefusedBegin};
-ghost use Rattle.driven_turns.specs.Driven.{standing};
+ghost use Rattle.tx_turns.specs.Driven.{standing};
 ghost use Rattle.tx_engine.specs.Ready.{HasBegunSince, HasCalled, HasFinished, IsReady};
 ghost use Rattle.tx_engine.specs.Requests.{KeepsReceipts, OnlyKnows};
 

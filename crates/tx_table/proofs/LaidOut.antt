@@ -12,10 +12,10 @@ use Rattle.tx_machine.specs.Cells.{Cell, ClockCell, LockCell, ValueCell, cell}
 use Rattle.replay_log.specs.Collections.{Suit}
 use Rattle.replay_log.specs.Contents.{HaveStripes}
 use Rattle.replay_log.proofs.ContentLemmas.{end_above}
-use Rattle.world_table.specs.declared.table.Table.{Table as Laid}
-use Rattle.world_table.specs.Openings.{HasShape, IsWithin, blocks_of, world_of}
-use Rattle.world_table.proofs.OpeningLemmas.{as_many}
-use Rattle.world_table.specs.Tables.{HasTable}
+use Rattle.actor_parts.specs.declared.table.Table.{Table as Laid}
+use Rattle.actor_parts.specs.Openings.{HasShape, IsWithin, blocks_of, world_of}
+use Rattle.actor_parts.proofs.OpeningLemmas.{as_many}
+use Rattle.actor_parts.specs.Tables.{HasTable}
 use Rattle.tx_table.specs.declared.view.Opening.{Opening}
 use Rattle.tx_table.specs.Layout.{address, gate_address, IsInside, IsLaidOut, width}
 use Rattle.tx_table.specs.Opening.{Holds, blocks_at, locations_at, words_at, world_at}

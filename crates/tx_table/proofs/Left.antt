@@ -24,7 +24,7 @@ use Rattle.replay_log.specs.Seats.{World}
 use Rattle.replay_log.specs.WorldTraces.{held_from, state}
 use Rattle.replay_log.proofs.ContentLemmas.{end_above, home_is, not_plain}
 use Rattle.actor_laws.specs.Bases.{IsBaseOf}
-use Rattle.world_table.proofs.StateLemmas.{Shows, all_held}
+use Rattle.actor_parts.proofs.StateLemmas.{Shows, all_held}
 use Rattle.tx_table.specs.Ends.{bases_in}
 use Rattle.tx_table.specs.Layout.{address, values_in}
 use Rattle.tx_table.specs.Shown.{Slot, Table}

@@ -4,7 +4,7 @@ use Rattle.atomic_table.specs.Table.{State}
 use Rattle.replay_log.specs.Collections.{Suit}
 use Rattle.replay_log.specs.Contents.{Block, HaveStripes, end_of}
 use Rattle.replay_log.specs.Seats.{World}
-use Rattle.world_table.specs.Openings.{blocks_of, world_of}
+use Rattle.actor_parts.specs.Openings.{blocks_of, world_of}
 use Rattle.tx_table.specs.declared.view.Opening.{Opening}
 use Rattle.tx_table.specs.Shown.{View, Slot, Rule}
 

@@ -3,7 +3,7 @@ ghost use Rattle.std.specs.Prelude.{◌≡◌, ◌≢◌, ◌<◌, ◌≤◌, �
 ghost use Rattle.seq_model.specs.Contents.{Contents};
 ghost use Rattle.seq_model.specs.Refusals.{IsNoSuchOrTooLong};
 ghost use Rattle.seq_model.specs.declared.event.Shape.{Shape};
-ghost use Rattle.world_table.specs.Openings.{IsWithin};
+ghost use Rattle.actor_parts.specs.Openings.{IsWithin};
 ghost use Rattle.tx_table.specs.Seated.{view};
 ghost use Rattle.tx_table.specs.declared.closed.Closed.{Closed};
 ghost use Rattle.tx_table.specs.declared.seat.Seat.{Seat};

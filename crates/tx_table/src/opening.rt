@@ -3,7 +3,7 @@ ghost use Rattle.actor_parts.specs.declared.blocks.TheConstants.{COLLECTION_LIMI
 ghost use Rattle.std.specs.Prelude.{◌≡◌, ◌≤◌, ◌≢◌, [], IfErr, IfOk, IfSome, IsOk, Some, length, map};
 ghost use Rattle.replay_log.specs.Contents.{HaveStripes};
 ghost use Rattle.seq_model.specs.Refusals.{IsNoSuchOrTooLong};
-ghost use Rattle.world_table.specs.Openings.{IsWithin, blocks_of, world_of};
+ghost use Rattle.actor_parts.specs.Openings.{IsWithin, blocks_of, world_of};
 ghost use Rattle.tx_table.specs.Layout.{IsLaidOut};
 ghost use Rattle.tx_table.specs.Shown.{first as first_view};
 ghost use Rattle.tx_table.specs.Seated.{Owns, blocks_in, contents_in, list_of, opening_of};
@@ -14,12 +14,11 @@ use crate::rule::Whole;
 use crate::seat::{Asked, Seat};
 use crate::table::TxTable;
 use crate::view::{Opening, SHARES};
-use actor_parts::{Blocks, Boxed};
+use actor_parts::{Blocks, Boxed, lay};
 use replay_log::Base;
 use seq_model::{Memory, Refusal, Shape, State, Value};
 use std::alloc::Global;
 use std::snapshot::Snapshot;
-use world_table::lay;
 
 // The words of a table that opens with this clock and these values.
 fn laid_out(alloc: Global, clock: u64, values: &[u64], gates: usize) -> Result<Vec<u64>, Memory>
@@ -96,7 +95,7 @@ impl<V: Value> TxTable<V> {
         };
         let words = state.words().len();
         let blocks = blocks_for(alloc, shape, &state);
-        let laid = world_table::Table::open(alloc, shape, state)?;
+        let laid = actor_parts::Table::open(alloc, shape, state)?;
         let Some(blocks) = blocks else {
             return Err(Refusal::Memory);
         };

@@ -39,7 +39,7 @@ use Rattle.tx_table.specs.Turns.{asked_all, lone}
 use Rattle.tx_table.specs.Turns as turns
 use Rattle.tx_turns.specs.Asked.{Answers, HasAsked, HasTaken, Starved}
 use Rattle.tx_turns.specs.Ties.{Ties, laid_in}
-use Rattle.actor_turns.proofs.SeatLemmas.{asked_as, starved_as}
+use Rattle.tx_actor.proofs.SeatLemmas.{asked_as, starved_as}
 use Rattle.tx_turns.proofs.TurnLemmas.{own_place}
 
 module _ {V : Type 0} where

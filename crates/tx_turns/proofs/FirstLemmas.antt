@@ -59,7 +59,7 @@ use Rattle.tx_turns.proofs.TurnDueLemmas.{becomes_is, clock_left, spot_is}
 use Rattle.tx_turns.proofs.FoundLemmas.{found_cell, learns_found, may_release, runs_found, step_gates, step_learns_cell, step_tells_cell}
 use Rattle.tx_turns.proofs.FoundLemmas.{tells_found}
 use Rattle.tx_turns.proofs.TurnLemmas.{laid_as, own_held, own_place, own_stage, some_word, tied}
-use Rattle.actor_turns.proofs.StepLemmas.{first_is, knows_ready}
+use Rattle.tx_actor.proofs.StepLemmas.{first_is, knows_ready}
 
 some_first : (x : machine.Actor) (es : Entries) → IsSomeEntry es → first_store x es ≡ Rests → ⊥
 some_first x [] h e = h

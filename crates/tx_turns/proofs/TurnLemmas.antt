@@ -51,12 +51,12 @@ use Rattle.tx_turns.proofs.OwnLemmas.{own_due, own_gates, own_ok}
 use Rattle.tx_turns.specs.Dues.{IsDeed}
 use Rattle.tx_turns.specs.Touches.{Finds, IsNext, StepsWords}
 use Rattle.tx_turns.specs.declared.due.Due.{Due}
-use Rattle.actor_turns.proofs.SeatLemmas.{next_as, seat_by, stage_by}
+use Rattle.tx_actor.proofs.SeatLemmas.{next_as, seat_by, stage_by}
 use Rattle.tx_turns.specs.Ties.{IsOnWord, Ties, Turned, commits, commits_at, laid_in}
 use Rattle.tx_turns.proofs.TurnDueLemmas.{clock_left, next_is, word_spot}
 use Rattle.tx_turns.proofs.FoundLemmas.{LocksAt, found_cell, knows_moved, learns_found, may_go_on, runs_found, step_gates, step_learns_cell}
 use Rattle.tx_turns.proofs.FoundLemmas.{step_tells_cell, tells_found}
-use Rattle.actor_turns.proofs.StepLemmas.{running_made}
+use Rattle.tx_actor.proofs.StepLemmas.{running_made}
 
 -- a deed that does not rest is on a word
 pub some_word : (e : Deed) → (e ≡ Rests → ⊥) → (c : Cell) × (word_of e ≡ Some c)

@@ -2,3 +2,11 @@ pub mod Dues
 pub mod Touches
 pub mod Ties
 pub mod Asked
+pub mod Bases
+pub mod Own
+pub mod Laws
+pub mod Refused
+pub mod Requested
+pub mod Begins
+pub mod Driven
+pub mod Straight

@@ -1,16 +1,18 @@
-//! What holds of the lone world of a seat's actor.
-ghost use Rattle.std.specs.Prelude.{◌≡◌, ℕ};
-ghost use Rattle.tx_machine.specs.World.{Rests, plan};
-ghost use Rattle.replay_log.specs.Seats.{World, actor_of};
-ghost use Rattle.actor_parts.specs.Dispatch.{next_of};
-ghost use Rattle.actor_parts.specs.declared.next.Next.TheVariants.{Word};
-ghost use Rattle.tx_table.specs.declared.view.Opening.{Opening};
-ghost use Rattle.tx_table.specs.Opening.{world_at};
-ghost use Rattle.tx_table.specs.Shown.{IsReached};
+//! What is unchanged of a seat's bases over the turns on words of `tx_turns`.
+ghost use Rattle.tx_turns.specs.Laws.{StarvesKeep, WordsKeep};
 
-/// Where a step of the words is next in a lone world that is, to its actor, one that events have reached, the word actor is not idle:
-/// [`crate::step_words`] may be called.
-pub fn steps_are_due<V>()
-    ensures { (key : Opening V) (a : ℕ) (u : World V) → IsReached (world_at key) a u → next_of (u.seats a).stage ≡ Word →
-        plan (actor_of u a) (actor_of u a).place ≡ Rests → ⊥ }
-{}
+use actor_parts::word_laws::steps_as_worlds;
+use seq_model::Value;
+use tx_actor::laws::copies_by_stage;
+use tx_actor::turn_laws::events_keep_copies;
+
+/// A turn on the words, and a failed allocation, leave what a seat has out of the table, and its actor has of collections what its next
+/// stage asks. The first value store asks more, and is [`crate::commit`]; so do the loads for a call ([`crate::load_word`]).
+pub fn turns_keep_own<V: Value>()
+    ensures words { WordsKeep V }
+    ensures starves { StarvesKeep V }
+{
+    steps_as_worlds::<V>();
+    events_keep_copies::<V>();
+    copies_by_stage::<V>();
+}

@@ -9,7 +9,7 @@ use Rattle.vac_model.specs.declared.action.Action.TheVariants.{QueryItem}
 use Rattle.vac_model.specs.declared.item.Kind.TheVariants.{Car}
 use Rattle.client_sessions.specs.declared.entry.Entry.{Entry}
 use Rattle.client_sessions.specs.Holding.{state_of}
-use Rattle.world_table.specs.Openings.{blocks_of, world_of}
+use Rattle.actor_parts.specs.Openings.{blocks_of, world_of}
 use Rattle.step_world.specs.Parts.{IsWorld}
 use Rattle.step_world.specs.declared.parts.Parts.{Parts}
 use Rattle.vacation_core.specs.Turns.{HasOpened}

@@ -5,7 +5,7 @@ use Rattle.conflict.specs.Refusals.{IsStripeCount}
 use Rattle.vac_model.specs.Balanced.{IsBalanced}
 use Rattle.vac_model.specs.Holdings.{Holdings}
 use Rattle.client_sessions.specs.Holding.{state_of}
-use Rattle.world_table.specs.Openings.{blocks_of, world_of}
+use Rattle.actor_parts.specs.Openings.{blocks_of, world_of}
 use Rattle.step_world.specs.Parts.{IsWorld}
 use Rattle.step_world.specs.declared.opening.TheConstants.{ACTORS}
 use Rattle.actor_laws.specs.Phases.{Rests}

@@ -10,13 +10,13 @@ use Rattle.vac_model.specs.Balanced.{IsBalanced}
 use Rattle.vac_model.specs.Holdings.{Holdings, queue}
 use Rattle.vac_model.specs.declared.item.Kind.TheVariants.{Car, Flight, Room}
 use Rattle.client_sessions.specs.Holding.{HaveIndexes, state_of}
-use Rattle.world_table.specs.Openings.{blocks_of}
+use Rattle.actor_parts.specs.Openings.{blocks_of}
 use Rattle.seq_model.specs.Contents.{Contents}
 use Rattle.seq_model.specs.Refusals.{IsNoSuchOrTooLong}
 use Rattle.seq_model.specs.declared.refusal.Refusal.{Refusal}
 use Rattle.seq_model.specs.declared.refusal.Refusal.TheVariants.{NoSuch, Memory as OutOfMemory, TooLong}
 use Rattle.client_sessions.specs.declared.entry.Entry.{Entry}
-use Rattle.world_table.specs.Openings.{IsWithin}
+use Rattle.actor_parts.specs.Openings.{IsWithin}
 use Rattle.vacation_core.specs.Stripes.{eight}
 
 pub have_indexes : (tables : Holdings) → IsBalanced tables → HaveIndexes tables

@@ -1,6 +1,6 @@
 -- What a running world of clients opens as.
 use Rattle.std.specs.Prelude.{◌≡◌, ℕ, List, [], ◌∷◌, None}
-use Rattle.world_table.specs.Openings.{blocks_of}
+use Rattle.actor_parts.specs.Openings.{blocks_of}
 use Rattle.vac_model.specs.Holdings.{Holdings}
 use Rattle.client_sessions.specs.Holding.{state_of}
 use Rattle.vacation_core.specs.declared.client.Client.{Client}

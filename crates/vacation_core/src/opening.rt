@@ -4,7 +4,7 @@ ghost use Rattle.conflict.specs.Refusals.{IsStripeCount};
 ghost use Rattle.step_world.specs.Parts.{IsWorld};
 ghost use Rattle.vac_model.specs.Balanced.{IsBalanced};
 ghost use Rattle.client_sessions.specs.Holding as holding;
-ghost use Rattle.world_table.specs.Openings.{world_of};
+ghost use Rattle.actor_parts.specs.Openings.{world_of};
 ghost use Rattle.vacation_core.specs.Stripes.{eight};
 
 use client_sessions::{Entry, state_of};

@@ -6,7 +6,7 @@
 ghost use Rattle.std.specs.Prelude.{◌≡◌, ℕ, ◌+◌, ◌<◌, ◌≤◌, ◌++◌, [], All, IfErr, IfOk, OnErr, Some, length, map, slice_index_or};
 ghost use Rattle.std.specs.Vec.{vec_capacity};
 ghost use Rattle.tx_table.specs.Seated.{actor, view};
-ghost use Rattle.driven_turns.specs.Requested.{requests_of};
+ghost use Rattle.tx_turns.specs.Requested.{requests_of};
 ghost use Rattle.tx_engine.specs.Ready.{IsReady};
 ghost use Rattle.tx_client.specs.Frames.{AreBy};
 ghost use Rattle.wolimevar.specs.Sessions.{IsFinished, HaveServed, IsServed, IsWhy, IsWaiting, joined, receipts_at};
@@ -14,8 +14,8 @@ ghost use Rattle.wolimevar.specs.Sessions.{IsFinished, HaveServed, IsServed, IsW
 use seq_model::{Refusal, Value};
 use std::alloc::Global;
 use std::marker::Brand;
-use std::thread;
 use std::thread::Threads;
+use std::thread;
 use tx_client::{Caller, Client, Scope, client_of, seat_of};
 use tx_engine::TxSeat;
 use tx_table::{SHARES, TxTable};

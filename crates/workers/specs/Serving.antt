@@ -17,7 +17,7 @@ use Rattle.client_sessions.specs.declared.entry.Entry.{Entry}
 use Rattle.client_sessions.specs.Holding.{state_of}
 use Rattle.client_sessions.specs.Sessions.{session}
 use Rattle.vacation_core.specs.Served.{AreServedInOrder, Receipt}
-use Rattle.world_table.specs.Openings.{world_of}
+use Rattle.actor_parts.specs.Openings.{world_of}
 use Rattle.vacation_core.specs.Stripes.{eight}
 use Rattle.tx_engine.specs.Jobs.{IsWholeJob}
 use Rattle.tx_table.specs.declared.closed.Closed.{Closed}

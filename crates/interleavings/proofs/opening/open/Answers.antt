@@ -2,7 +2,7 @@ use Rattle.std.proofs.Common.{ℕ, List, refl}
 use Rattle.std.specs.Prelude.{IfOk, IsOk, Result, Ok, Err}
 use Rattle.seq_model.specs.declared.refusal.Refusal.{Refusal}
 use Rattle.seq_model.specs.Contents.{Contents}
-use Rattle.world_table.specs.Openings.{world_of}
+use Rattle.actor_parts.specs.Openings.{world_of}
 use Rattle.step_world.specs.declared.parts.Parts.{Parts}
 use Rattle.step_world.specs.Parts.{HasWorld, IsWorld}
 use Rattle.step_world.specs.Reached.{IsReached}

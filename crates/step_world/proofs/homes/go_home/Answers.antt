@@ -13,7 +13,7 @@ use Rattle.tx_actor.specs.declared.actor.Stage.{Stage}
 use Rattle.tx_actor.specs.declared.actor.TxActor.{TxActor}
 use Rattle.step_world.specs.Homes.{IsHomeTurn}
 use Rattle.step_world.proofs.HomeLemmas.{home_turns, log_below, log_within}
-use Rattle.actor_turns.proofs.HomeLemmas.{quiet_home, recorded_home}
+use Rattle.tx_actor.proofs.HomeLemmas.{quiet_home, recorded_home}
 use Rattle.step_world.proofs.homes.go_home.Goals as goal
 
 pub go_home-requires-clause-prepared : goal.go_home-requires-clause-prepared

@@ -1,5 +1,5 @@
 use Rattle.step_world.proofs.TurnLemmas.{turns_made}
-use Rattle.actor_turns.proofs.StepLemmas.{running_made}
+use Rattle.tx_actor.proofs.StepLemmas.{running_made}
 use Rattle.step_world.proofs.turns.commit.Goals as goal
 
 pub returns-clause-turns : goal.returns-clause-turns

@@ -2,7 +2,7 @@ use Rattle.std.proofs.Common.{◌∙◌, arith, sym, subst}
 use Rattle.tx_actor.specs.Running.{stage_of}
 use Rattle.step_core.specs.Sound.{Fits}
 use Rattle.step_world.proofs.TurnLemmas.{first_turns, grows_less, grows_more}
-use Rattle.actor_turns.proofs.StepLemmas.{quiet_first, running_moved, still_quiet}
+use Rattle.tx_actor.proofs.StepLemmas.{quiet_first, running_moved, still_quiet}
 use Rattle.tx_actor.specs.Having.{KeepsFrom}
 use Rattle.tx_actor.specs.declared.actor.TxActor.{TxActor}
 use Rattle.step_world.proofs.turns.first_store.Goals as goal

@@ -1,5 +1,5 @@
 use Rattle.step_world.proofs.TurnLemmas.{put_turns}
-use Rattle.actor_turns.proofs.StepLemmas.{quiet_put}
+use Rattle.tx_actor.proofs.StepLemmas.{quiet_put}
 use Rattle.tx_actor.specs.Running.{stage_of}
 use Rattle.step_world.proofs.turns.put_gate.Goals as goal
 

@@ -1,7 +1,7 @@
 use Rattle.std.proofs.Common.{◌∙◌, sym, subst}
 use Rattle.step_core.specs.Sound.{Fits}
 use Rattle.step_world.proofs.TurnLemmas.{grows_less, word_turns}
-use Rattle.actor_turns.proofs.StepLemmas.{running_moved}
+use Rattle.tx_actor.proofs.StepLemmas.{running_moved}
 use Rattle.step_world.proofs.turns.step_word.Goals as goal
 
 pub step-told-requires-clause-fits : goal.step-told-requires-clause-fits

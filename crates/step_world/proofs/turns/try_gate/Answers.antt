@@ -1,5 +1,5 @@
 use Rattle.step_world.proofs.TurnLemmas.{try_turns}
-use Rattle.actor_turns.proofs.StepLemmas.{quiet_try}
+use Rattle.tx_actor.proofs.StepLemmas.{quiet_try}
 use Rattle.tx_actor.specs.Running.{stage_of}
 use Rattle.step_world.proofs.turns.try_gate.Goals as goal
 

@@ -1,5 +1,5 @@
 use Rattle.std.proofs.Common.{refl, subst}
-use Rattle.world_table.specs.Openings.{world_of}
+use Rattle.actor_parts.specs.Openings.{world_of}
 use Rattle.step_world.specs.Feeds.{Feeds, fed_all}
 use Rattle.step_world.proofs.FedLemmas.{fits_as, has_all, has_one, memory_refused}
 use Rattle.step_world.proofs.TraceLemmas.{serial_at}

@@ -1,5 +1,5 @@
 use Rattle.std.proofs.Common.{take}
-use Rattle.world_table.specs.Openings.{world_of}
+use Rattle.actor_parts.specs.Openings.{world_of}
 use Rattle.step_world.proofs.FedLemmas.{HasFed}
 use Rattle.step_world.proofs.world.run_world.Given as goal
 

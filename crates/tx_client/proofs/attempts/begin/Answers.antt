@@ -1,6 +1,6 @@
 use Rattle.std.proofs.Common.{rules, ◌≡◌, true, false, true≢false, subst, sym, ◌∙◌}
 use Rattle.tx_table.specs.Seated.{opening_of}
-use Rattle.driven_turns.specs.Requested.{requests_of}
+use Rattle.tx_turns.specs.Requested.{requests_of}
 use Rattle.tx_client.specs.Asked.{HasAsked}
 use Rattle.tx_client.proofs.AskedLemmas.{asks_to_begin}
 use Rattle.tx_client.proofs.attempts.begin.Goals as goal

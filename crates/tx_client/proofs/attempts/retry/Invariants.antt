@@ -1,6 +1,6 @@
 use Rattle.std.proofs.Common.{◌≡◌, ◌≤◌}
 use Rattle.std.specs.Prelude.{IfOk, false, max, true}
-use Rattle.driven_turns.specs.Requested.{requests_of}
+use Rattle.tx_turns.specs.Requested.{requests_of}
 use Rattle.tx_engine.specs.Ready.{IsReady}
 use Rattle.tx_client.specs.Asked.{HasAsked}
 use Rattle.tx_client.specs.Ends.{EndsAs}

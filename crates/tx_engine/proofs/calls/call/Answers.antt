@@ -9,8 +9,8 @@ use Rattle.tx_engine.proofs.AskLemmas.{aborted_for, asked_for}
 use Rattle.tx_engine.proofs.RequestLemmas.{asks_one, begins_none}
 use Rattle.tx_engine.proofs.CallLemmas.{at_once, call_starved, call_told, calls_on, driven_calls}
 use Rattle.tx_engine.specs.Requests.{CallsTo}
-use Rattle.driven_turns.proofs.RequestedLemmas.{same_begins}
-use Rattle.driven_turns.proofs.RestLemmas.{bare_out}
+use Rattle.tx_turns.proofs.RequestedLemmas.{same_begins}
+use Rattle.tx_turns.proofs.RestLemmas.{bare_out}
 use Rattle.tx_turns.specs.Asked.{Answers}
 use Rattle.tx_engine.proofs.calls.call.Goals as goal
 

@@ -2,7 +2,7 @@ use Rattle.std.proofs.Common.{subst}
 use Rattle.tx_actor.specs.declared.actor.Told.{Told}
 use Rattle.tx_table.specs.Seated.{opening_of}
 use Rattle.tx_engine.proofs.CallLemmas.{call_said, under_call}
-use Rattle.driven_turns.specs.Driven.{Driven, seat_in}
+use Rattle.tx_turns.specs.Driven.{Driven, seat_in}
 use Rattle.tx_engine.proofs.calls.driven_call.Goals as goal
 
 pub drive_call-told-requires-clause-under : goal.drive_call-told-requires-clause-under

@@ -3,7 +3,7 @@ use Rattle.seq_model.specs.declared.event.Answer.TheVariants.{Aborted}
 use Rattle.seq_model.specs.declared.refusal.Refusal.{Refusal}
 use Rattle.tx_actor.specs.declared.actor.Told.TheVariants.{Answered, Refused}
 use Rattle.tx_table.specs.Seated.{actor, acts, opening_of}
-use Rattle.driven_turns.specs.Driven.{HasTold}
+use Rattle.tx_turns.specs.Driven.{HasTold}
 use Rattle.tx_engine.proofs.RefusedLemmas.{gave_up}
 use Rattle.tx_engine.proofs.SeatLemmas.{opening_linked}
 use Rattle.tx_engine.proofs.laws.given_up_seats_change_nothing.Goals as goal

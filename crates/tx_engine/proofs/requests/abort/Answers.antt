@@ -1,10 +1,10 @@
 use Rattle.std.proofs.Common.{◌∙◌, refl, sym}
 use Rattle.seq_model.specs.declared.event.Request.TheVariants.{Abort}
 use Rattle.tx_table.specs.Seated.{opening_of}
-use Rattle.driven_turns.proofs.GivenUpLemmas.{under_ends}
-use Rattle.driven_turns.proofs.RequestedLemmas.{same_begins}
-use Rattle.driven_turns.proofs.RestLemmas.{bare_out}
-use Rattle.driven_turns.specs.Driven.{seat_in}
+use Rattle.tx_turns.proofs.GivenUpLemmas.{under_ends}
+use Rattle.tx_turns.proofs.RequestedLemmas.{same_begins}
+use Rattle.tx_turns.proofs.RestLemmas.{bare_out}
+use Rattle.tx_turns.specs.Driven.{seat_in}
 use Rattle.tx_engine.proofs.RequestLemmas.{abort_ends, abort_noted, abort_own, abort_told, asked_keeps, asked_reader, asks_one, begins_none}
 use Rattle.tx_engine.proofs.CallLemmas.{stands_at}
 use Rattle.tx_engine.proofs.RequestLemmas.{ends_to, is_open, then_keeps}

@@ -2,9 +2,9 @@ use Rattle.std.proofs.Common.{◌∙◌, ap, false, subst, sym}
 use Rattle.seq_model.specs.declared.event.Request.TheVariants.{Begin}
 use Rattle.tx_actor.specs.declared.actor.Stage as own
 use Rattle.tx_table.specs.Seated.{opening_of}
-use Rattle.driven_turns.specs.Bases.{gates_at}
-use Rattle.driven_turns.specs.Driven.{is_declared}
-use Rattle.driven_turns.proofs.RestLemmas.{IsFree, bare_out, free_own}
+use Rattle.tx_turns.specs.Bases.{gates_at}
+use Rattle.tx_turns.specs.Driven.{is_declared}
+use Rattle.tx_turns.proofs.RestLemmas.{IsFree, bare_out, free_own}
 use Rattle.tx_engine.proofs.RequestLemmas.{asked_begin, asked_keeps, asks_one, begins_more, begun_as, begun_since, is_idle, then_keeps}
 use Rattle.tx_engine.proofs.RequestLemmas.{asked_aborted}
 use Rattle.tx_engine.proofs.requests.begin.Goals as goal

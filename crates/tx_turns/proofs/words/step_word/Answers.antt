@@ -1,7 +1,7 @@
 use Rattle.tx_turns.proofs.TurnLemmas.{word_is_due, word_is_next, word_turned}
 use Rattle.tx_turns.specs.Ties.{laid_in}
 use Rattle.tx_turns.proofs.words.step_word.Goals as goal
-use Rattle.actor_turns.proofs.StepLemmas.{running_moved}
+use Rattle.tx_actor.proofs.StepLemmas.{running_moved}
 
 pub step_words-told-requires-clause-own : goal.step_words-told-requires-clause-own
 step_words-told-requires-clause-own g c = c.requires.ties.owns

@@ -5,7 +5,7 @@ use Rattle.tx_actor.specs.declared.actor.TxActor.{TxActor}
 use Rattle.tx_turns.proofs.FirstLemmas.{first_next, first_turned, is_asked, records_ready, running_asked}
 use Rattle.tx_turns.specs.Ties.{laid_in}
 use Rattle.tx_turns.proofs.words.store_first.Goals as goal
-use Rattle.actor_turns.proofs.StepLemmas.{running_moved}
+use Rattle.tx_actor.proofs.StepLemmas.{running_moved}
 
 pub step_words-told-requires-clause-some : goal.step_words-told-requires-clause-some
 step_words-told-requires-clause-some g c =

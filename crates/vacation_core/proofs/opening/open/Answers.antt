@@ -2,7 +2,7 @@ use Rattle.std.proofs.Common.{◌≡◌, ℕ, List, ◌∙◌, subst}
 use Rattle.seq_model.specs.Contents.{Contents}
 use Rattle.client_sessions.specs.declared.entry.Entry.{Entry}
 use Rattle.step_world.specs.Parts.{IsWorld}
-use Rattle.world_table.specs.Openings.{world_of}
+use Rattle.actor_parts.specs.Openings.{world_of}
 use Rattle.vacation_core.specs.Stripes.{eight}
 use Rattle.vacation_core.proofs.StripeLemmas.{never_refused}
 use Rattle.vacation_core.proofs.opening.open.Goals as goal

@@ -1,7 +1,7 @@
 use Rattle.std.proofs.Common.{◌≡◌, ◌∙◌, List, ℕ, ap}
 use Rattle.seq_model.specs.Contents.{Contents}
 use Rattle.client_sessions.specs.declared.entry.Entry.{Entry}
-use Rattle.world_table.specs.Openings.{world_of}
+use Rattle.actor_parts.specs.Openings.{world_of}
 use Rattle.vacation_core.specs.Stripes.{eight}
 use Rattle.vacation_core.proofs.StripeLemmas.{never_refused}
 use Rattle.workers.proofs.served.open.Goals as goal

@@ -1,10 +1,10 @@
 use Rattle.std.proofs.Common.{inl, refl, arith}
 use Rattle.std.proofs.lemmas.Option.{slice_get_read}
 use Rattle.step_world.proofs.OwnTurnLemmas.{keeps_ask}
-use Rattle.actor_turns.proofs.OwnLemmas.{can_call, may_call, refused_ask}
+use Rattle.tx_actor.proofs.OwnLemmas.{can_call, may_call, refused_ask}
 use Rattle.step_world.proofs.PartsLemmas.{ask_happens, stays_by}
 use Rattle.step_world.proofs.RoomLemmas.{room_ask, room_stands}
-use Rattle.actor_turns.proofs.StepLemmas.{no_reads}
+use Rattle.tx_actor.proofs.StepLemmas.{no_reads}
 use Rattle.step_world.proofs.parts.Parts.ask.Goals as goal
 
 pub asks-requires : goal.asks-requires

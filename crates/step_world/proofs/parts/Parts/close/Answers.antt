@@ -5,11 +5,11 @@ use Rattle.step_world.proofs.PartsLemmas.{closing_ends, closing_record, more_rec
 use Rattle.step_world.proofs.TraceLemmas.{serial_at}
 use Rattle.step_world.proofs.WorldLemmas.{may_take, shape_laid}
 use Rattle.step_world.proofs.OwnTurnLemmas.{keeps_step}
-use Rattle.actor_turns.proofs.OwnLemmas.{calm_at}
+use Rattle.tx_actor.proofs.OwnLemmas.{calm_at}
 use Rattle.step_world.proofs.RoomLemmas.{not_first, room_kept}
 use Rattle.tx_actor.specs.Running.{stage_of}
 use Rattle.actor_parts.specs.declared.next.Next.TheVariants as next
-use Rattle.actor_turns.proofs.StepLemmas.{stage_due, stage_quiet}
+use Rattle.tx_actor.proofs.StepLemmas.{stage_due, stage_quiet}
 use Rattle.tx_actor.specs.declared.actor.Stage.TheVariants as stage
 use Rattle.step_world.proofs.parts.Parts.close.Goals as goal
 

@@ -10,13 +10,13 @@ use Rattle.step_world.proofs.RoomLemmas.{room_first}
 use Rattle.step_world.proofs.TraceLemmas.{serial_at}
 use Rattle.step_world.proofs.WorldLemmas.{may_take, shape_laid}
 use Rattle.step_world.proofs.OwnTurnLemmas.{keeps_step}
-use Rattle.actor_turns.proofs.OwnLemmas.{calm_at, refused_store}
+use Rattle.tx_actor.proofs.OwnLemmas.{calm_at, refused_store}
 use Rattle.tx_actor.specs.Keeping.{NamesAmong}
 use Rattle.tx_actor.specs.Running.{stage_of}
 use Rattle.tx_actor.specs.declared.actor.TxActor.{TxActor}
 use Rattle.step_world.specs.Homes.{HasRoomDue, HasRoomLeft}
 use Rattle.actor_parts.specs.declared.next.Next.TheVariants as next
-use Rattle.actor_turns.proofs.StepLemmas.{quiet_first}
+use Rattle.tx_actor.proofs.StepLemmas.{quiet_first}
 use Rattle.step_world.proofs.parts.Parts.commit.Goals as goal
 
 pub commit-requires-clause-running : goal.commit-requires-clause-running

@@ -4,10 +4,10 @@ use Rattle.seq_model.specs.declared.event.Event.TheVariants.{Starve}
 use Rattle.tx_actor.specs.Running.{asked_of, stage_of}
 use Rattle.tx_actor.specs.declared.actor.Stage.{Stage}
 use Rattle.tx_actor.specs.declared.actor.Told.TheVariants.{Quiet}
-use Rattle.world_table.specs.declared.table.Table.{Table}
+use Rattle.actor_parts.specs.declared.table.Table.{Table}
 use Rattle.step_world.specs.Parts.{Happens}
-use Rattle.actor_turns.proofs.CopyLemmas.{copying_is, quiet_copy}
-use Rattle.actor_turns.proofs.NameLemmas.{named_copy}
+use Rattle.tx_actor.proofs.CopyLemmas.{copying_is, quiet_copy}
+use Rattle.tx_actor.proofs.NameLemmas.{named_copy}
 use Rattle.step_world.proofs.OwnTurnLemmas.{keeps_starve}
 use Rattle.step_world.proofs.PartsLemmas.{none_copying, passes, same_cells, starve_happens, with_turn}
 use Rattle.step_world.proofs.GateLemmas.{room_copy}

@@ -3,11 +3,11 @@ use Rattle.std.proofs.lemmas.Option.{slice_get_read}
 use Rattle.step_world.proofs.PartsLemmas.{leaving_ends, leaving_record, more_aborted, starved_then, step_happens, with_turn}
 use Rattle.step_world.proofs.WorldLemmas.{may_take, shape_laid}
 use Rattle.step_world.proofs.OwnTurnLemmas.{keeps_step}
-use Rattle.actor_turns.proofs.OwnLemmas.{calm_at}
+use Rattle.tx_actor.proofs.OwnLemmas.{calm_at}
 use Rattle.step_world.proofs.RoomLemmas.{not_first, room_kept}
 use Rattle.tx_actor.specs.Running.{stage_of}
 use Rattle.actor_parts.specs.declared.next.Next.TheVariants as next
-use Rattle.actor_turns.proofs.StepLemmas.{stage_due, stage_quiet}
+use Rattle.tx_actor.proofs.StepLemmas.{stage_due, stage_quiet}
 use Rattle.tx_actor.specs.declared.actor.Stage.TheVariants as stage
 use Rattle.step_world.proofs.parts.Parts.leave.Goals as goal
 

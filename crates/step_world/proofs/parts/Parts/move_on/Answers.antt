@@ -3,7 +3,7 @@ use Rattle.std.proofs.lemmas.Option.{slice_get_read}
 use Rattle.step_world.proofs.PartsLemmas.{none_at_word, passes}
 use Rattle.step_world.proofs.WorldLemmas.{may_take, shape_laid}
 use Rattle.step_world.proofs.OwnTurnLemmas.{keeps_step}
-use Rattle.actor_turns.proofs.OwnLemmas.{calm_at}
+use Rattle.tx_actor.proofs.OwnLemmas.{calm_at}
 use Rattle.step_world.proofs.RoomLemmas.{not_first, room_kept}
 use Rattle.tx_actor.specs.Running.{stage_of}
 use Rattle.actor_parts.specs.declared.next.Next.TheVariants as next

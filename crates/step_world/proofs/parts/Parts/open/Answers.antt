@@ -1,5 +1,5 @@
 use Rattle.std.proofs.Common.{refl, [], List, ℕ, ap, ◌∙◌, length}
-use Rattle.world_table.specs.Openings.{blocks_of}
+use Rattle.actor_parts.specs.Openings.{blocks_of}
 use Rattle.step_world.proofs.OpeningLemmas.{opens}
 use Rattle.step_world.proofs.parts.Parts.open.Goals as goal
 

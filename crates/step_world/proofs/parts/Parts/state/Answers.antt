@@ -1,5 +1,5 @@
 use Rattle.std.proofs.Common.{◌≤◌, ℕ, length, subst, sym, ◌∙◌}
-use Rattle.actor_turns.proofs.StepLemmas.{reached_linked}
+use Rattle.tx_actor.proofs.StepLemmas.{reached_linked}
 use Rattle.step_world.proofs.TraceLemmas.{never_too_long, words_fit}
 use Rattle.step_world.proofs.parts.Parts.state.Goals as goal
 

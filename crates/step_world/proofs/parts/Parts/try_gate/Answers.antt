@@ -2,11 +2,11 @@ use Rattle.std.proofs.Common.{arith, length, refl}
 use Rattle.std.proofs.lemmas.Option.{slice_get_read}
 use Rattle.tx_actor.specs.Running.{stage_of}
 use Rattle.step_world.proofs.PartsLemmas.{none_at_try, passes, same_cells}
-use Rattle.actor_turns.proofs.StepLemmas.{quiet_try}
+use Rattle.tx_actor.proofs.StepLemmas.{quiet_try}
 use Rattle.step_world.proofs.WorldLemmas.{shape_laid}
-use Rattle.actor_turns.proofs.NameLemmas.{named_try}
+use Rattle.tx_actor.proofs.NameLemmas.{named_try}
 use Rattle.step_world.proofs.OwnTurnLemmas.{keeps_step}
-use Rattle.actor_turns.proofs.OwnLemmas.{calm_at}
+use Rattle.tx_actor.proofs.OwnLemmas.{calm_at}
 use Rattle.step_world.proofs.RoomLemmas.{not_first, room_kept}
 use Rattle.actor_parts.specs.declared.next.Next.TheVariants as next
 use Rattle.step_world.proofs.parts.Parts.try_gate.Goals as goal

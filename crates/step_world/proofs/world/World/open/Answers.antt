@@ -1,5 +1,5 @@
 use Rattle.std.proofs.Common.{refl}
-use Rattle.world_table.specs.Openings.{world_of}
+use Rattle.actor_parts.specs.Openings.{world_of}
 use Rattle.step_world.proofs.FedLemmas.{opened_well}
 use Rattle.step_world.proofs.PromiseLemmas.{few_locations, small_opened}
 use Rattle.step_world.proofs.SerialLemmas.{serial_from}

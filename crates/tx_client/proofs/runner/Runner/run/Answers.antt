@@ -1,5 +1,5 @@
 use Rattle.std.proofs.Common.{rules, ◌≡◌, Some, ap, refl, subst, sym, ◌∙◌}
-use Rattle.driven_turns.specs.Requested.{requests_of}
+use Rattle.tx_turns.specs.Requested.{requests_of}
 use Rattle.tx_client.specs.Asked.{HasAsked}
 use Rattle.tx_client.specs.Backs.{shares_at}
 use Rattle.tx_client.specs.Clients.{shown_at}

@@ -1,6 +1,6 @@
 use Rattle.std.proofs.Common.{◌≡◌, ◌∙◌, ℕ, ap, arith, length, refl, subst, sym}
 use Rattle.replay_log.specs.Contents.{HaveStripes}
-use Rattle.world_table.specs.Openings.{blocks_of, world_of}
+use Rattle.actor_parts.specs.Openings.{blocks_of, world_of}
 use Rattle.seq_model.specs.Contents.{Contents}
 use Rattle.tx_table.specs.Layout.{width}
 use Rattle.tx_table.specs.Opening.{blocks_at}

@@ -1,5 +1,5 @@
 use Rattle.std.proofs.Common.{rules, ◌≡◌, Some, ap, subst}
-use Rattle.driven_turns.specs.Requested.{requests_of}
+use Rattle.tx_turns.specs.Requested.{requests_of}
 use Rattle.tx_client.specs.Asked.{HasAsked}
 use Rattle.wolimevar.specs.Stores.{StoreShown}
 use Rattle.tx_client.specs.Tallies.{AreCounted}

@@ -1,8 +1,0 @@
-pub mod Bases
-pub mod Own
-pub mod Laws
-pub mod Refused
-pub mod Requested
-pub mod Begins
-pub mod Driven
-pub mod Straight

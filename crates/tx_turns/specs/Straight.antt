@@ -1,0 +1,70 @@
+-- Steps that are taken in straight code: between them the actor is a term of the proof, which the program stores nowhere.
+use Rattle.replay_log.specs.declared.base.Base.{Base}
+use Rattle.std.specs.Prelude.{ℕ, ◌≤◌, List, Option, Some, None, Bool, true, false}
+use Rattle.vlock_word.specs.declared.lock_word.LockWord.{LockWord}
+use Rattle.vlock_word.specs.declared.lock_word.LockWord.TheVariants.{Free, Locked}
+use Rattle.step_core.specs.declared.actor.Place.{Place}
+use Rattle.tx_actor.specs.declared.actor.Stage as own
+use Rattle.tx_actor.specs.declared.actor.Stage.TheVariants as stage
+use Rattle.tx_actor.specs.declared.actor.Told.{Told}
+use Rattle.tx_actor.specs.declared.actor.TxActor.{TxActor}
+use Rattle.tx_table.specs.declared.seat.Seat.{Seat}
+use Rattle.tx_table.specs.declared.table.TxTable.{TxTable}
+use Rattle.tx_table.specs.Seated.{opening_of}
+use Rattle.tx_turns.specs.Ties.{Ties}
+use Rattle.tx_turns.specs.Own.{HasOwn}
+use Rattle.tx_turns.specs.Driven.{Driven, LeadsOn, Stops}
+use Rattle.seq_model.specs.declared.record.Record.{Record}
+use Rattle.replay_log.specs.Seats.{World}
+use Rattle.tx_actor.specs.declared.actor.Told.TheVariants as told
+
+-- A location that was read passes the check of a transaction that began at rv: its lock word is no newer, and it is free, or locked by the
+-- transaction itself, which has it in its write set.
+abbrev pub Passes : ℕ → LockWord → Option ℕ → Type 0
+Passes rv (Free k) own = k ≤ rv
+Passes rv (Locked k) (Some value) = k ≤ rv
+Passes rv (Locked k) None = ⊥
+
+-- the locks of a commit are taken, and what it has read is checked
+abbrev pub is_locking : {V : Type 0} → own.Stage V → Bool
+is_locking (stage.Locking homes) = true
+is_locking s = false
+
+-- the values of a commit are stored, after the first
+abbrev pub is_storing : {V : Type 0} → own.Stage V → Bool
+is_storing (stage.Storing homes) = true
+is_storing s = false
+
+module _ {V : Type 0} where
+  -- r, whose word actor stands at this place
+  abbrev pub at_place : TxActor V → Place → TxActor V
+  at_place r p = record r { words = record r.words { place = p } }
+
+  -- The seat s took turns that made no record, and is u now, which runs r; the last answered n, and none before it answered anything.
+  pub record HasLed (t : TxTable V) (s u : Seat V) (r : TxActor V) (n : Told V) (bs : List (Base V)) : Type 0 where
+    pub ties : Ties t u r
+    pub own : HasOwn t u r bs
+    pub leads : LeadsOn (opening_of t) s u n
+
+  -- Turns that led to the seat u, answered m and made this record, if any, lead on to z so.
+  abbrev pub LeadsFrom : World V → Seat V → Seat V → (m n : Told V) → (before now : Option (Record V)) → Type 0
+  LeadsFrom o u z m n before now = (s : Seat V) → Driven o s u m before → Driven o s z n now
+
+  -- and those that answered nothing
+  abbrev pub LeadsBy : World V → Seat V → Seat V → Told V → (before now : Option (Record V)) → Type 0
+  LeadsBy o u z n before now = LeadsFrom o u z told.Quiet n before now
+
+  -- and so whatever record they made, which is unchanged
+  abbrev pub LeadsAllFrom : World V → Seat V → Seat V → (m n : Told V) → Type 0
+  LeadsAllFrom o u z m n = (d : Option (Record V)) → LeadsFrom o u z m n d d
+
+  abbrev pub LeadsAll : World V → Seat V → Seat V → Told V → Type 0
+  LeadsAll o u z n = LeadsAllFrom o u z told.Quiet n
+
+  -- or they stop there as an allocation fails
+  abbrev pub WantsBy : World V → Seat V → Seat V → Option (Record V) → Type 0
+  WantsBy o u z before = (s : Seat V) → Driven o s u told.Quiet before → Stops o s z
+
+  -- Turns have led to the seat u that answered n and made this record.
+  abbrev pub IsLedTo : World V → Seat V → Told V → Option (Record V) → Type 0
+  IsLedTo o u n d = (s : Seat V) × Driven o s u n d

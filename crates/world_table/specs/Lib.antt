@@ -1,4 +1,0 @@
-pub mod Tables
-pub mod Openings
-pub mod States
-pub mod Audits
