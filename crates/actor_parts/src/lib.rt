@@ -1,15 +1,13 @@
-//! What a running actor is made of: what it asks of its word actor, what it knows of its world, and what its transaction has of collections.
+//! What a running actor is made of, and the table that it runs on in a world of one thread.
 //!
-//! The *next* step of an actor, and how the locations of a world lie ([`Blocks`]), are known by its seat and its word actor alone
-//! ([`word_laws`]). Of each collection that its calls touched the transaction has a *copy*, with the changes of its accepted calls. A call
-//! on a copy is *weighed* before anything is read for it: its outcome, the locations that are to be judged, the writes of its acceptance
-//! ([`copy_laws`]). A large value that goes from function to function moves as a pointer ([`Boxed`]).
-//!
-//! The table of a world on one thread: its words, the gates of its collections, and their bases.
-//!
-//! An actor's step is a load, a store, a compare_exchange or a fetch_add of one word of it, or an exchange of one gate with its base.
-//! The contracts say so of every world of the definitions that has this table; what the step makes of the actor is no matter of the
-//! table.
+//! - The *next* step of an actor, and how the locations of a world lie ([`Blocks`]), are known by its seat and its word actor alone
+//!   ([`word_laws`]).
+//! - Of each collection that its calls touched the transaction has a *copy*, with the changes of its accepted calls. A call on a copy is
+//!   *weighed* before anything is read for it: its outcome, the locations that are to be judged, the writes of its acceptance
+//!   ([`copy_laws`]). A large value that goes from function to function moves as a pointer ([`Boxed`]).
+//! - The [`Table`] of a world on one thread has its words, the gates of its collections, and their bases. An actor's step is a load, a store,
+//!   a compare_exchange or a fetch_add of one word of it, or an exchange of one gate with its base. The contracts say so of every world of
+//!   the definitions that has this table.
 #![tactic(auto)]
 
 mod auditing;

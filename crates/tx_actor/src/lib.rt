@@ -1,13 +1,8 @@
 //! One running actor of a world of words and collections.
 //!
-//! What an actor keeps stands here, and what each of its steps makes of it, given what the step found:
-//! no word, gate or base is inside it.
-//!
-//! What an event makes of its actor, in each world that events have reached, on whatever table it runs.
-//!
-//! A running actor of `tx_actor` is one of a world, and has of collections what its stage asks for. The laws here say that what its methods
-//! make of it is what the definitions' event makes of that world, and that it has of collections what its next stage asks. The tables on
-//! which actors run, of one thread and shared, both stand on them.
+//! What an actor keeps stands here, and what each of its steps makes of it, given what the step found: no word, gate or base is inside it.
+//! The laws of [`turn_laws`] say that what its methods make of it is what the definitions' event makes of a world that events have reached,
+//! and that it has of collections what its next stage asks. The tables on which actors run, of one thread and shared, both stand on them.
 #![tactic(auto)]
 
 mod actor;

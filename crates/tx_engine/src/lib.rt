@@ -1,6 +1,6 @@
 //! Transactions that threads run on the shared table: [`begin`] gives a [`Tx`], which borrows its [`TxSeat`].
 //!
-//! A *seat* of the table has a running actor beside it, to which it is tied (`tx_turns`). A request is asked, and driven (`driven_turns`):
+//! A *seat* of the table has a running actor beside it, to which it is tied (`tx_turns`). A request is asked, and driven there:
 //! its turns are taken, one atomic step on the table each, until it is answered or refused. Its result is what the definitions say of it
 //! in a world with the seat's actor alone, which to that actor is one that events have reached. Between two requests no gate is held.
 //!
