@@ -1,7 +1,7 @@
 //! What is unchanged of an actor from event to event.
 ghost use Rattle.tx_actor.specs.Kept.{AsksKeep, StarvesKeep, StepsKeep};
 
-use crate::turn_laws::copies_by_stage;
+use crate::laws::copies_by_stage;
 use actor_parts::copies_stay;
 use actor_parts::copy_laws::{begins_with_nothing, calls_as_worlds};
 use seq_model::Value;

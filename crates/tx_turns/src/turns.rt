@@ -14,7 +14,7 @@ use crate::gates::{copy_base, put_gate, try_gate};
 use crate::homes::{commit, go_home};
 use crate::laws::turns_keep_own;
 use crate::loading::load_word;
-use crate::requests::starve;
+use crate::asks::starve;
 use crate::words::{close, step_word};
 use actor_parts::{Boxed, Next};
 use replay_log::Base;
