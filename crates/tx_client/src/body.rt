@@ -9,7 +9,7 @@ use seq_model::Refusal;
 ///
 /// - A refusal of a call is passed on by `?`. After a conflict the body is attempted again, from its beginning: so it may run more than
 ///   once, and should change nothing but what the transaction changes.
-/// - A body aborts by returning an error of its own (`Error`), which reaches the caller as [`crate::Failure::Aborted`]; what it changed is
+/// - A body aborts by returning an error of its own (`Error`), which reaches the caller as `Failure::Aborted`; what it changed is
 ///   undone. A body that never does so has `type Error = Refusal`.
 /// - What it returns (`Out`) reaches the caller once the transaction has committed.
 ///
