@@ -35,8 +35,14 @@ while [ "${1:-}" = --on ]; do
 done
 first=${1:-1}
 last=${2:-0}
-source "$(dirname "$0")/refused_allocation.sh"
-cd "$(dirname "$0")/../crates/$crate" || exit 2
+cd "$(dirname "$0")/.." || exit 2
+folder=$(mktemp -d)
+trap 'rm -rf "$folder"' EXIT
+if ! scripts/build_unproved.sh --refusing "$crate" "$folder/program"; then
+    echo "$crate: its program was not built"
+    exit 1
+fi
+cd "crates/$crate" || exit 2
 
 # take_input [INPUT]: sets words, stdin and wanted, to the stored ones where there is no INPUT.
 take_input() {
@@ -84,8 +90,8 @@ refuse_sections() {
 refuse_each() {
     local refused=0 quiet=0 n=$first output status
     while [ "$quiet" -lt 40 ] && { [ "$last" -eq 0 ] || [ "$n" -le "$last" ]; }; do
-        refuse "$n"
-        output=$(run_refusing "${words[@]}" < "$stdin" 2>&1)
+        # (for at most as long as the gate runs a program)
+        output=$(timeout 120 env -i REFUSED_ALLOCATION="$n" "$folder/program" "${words[@]}" < "$stdin" 2>&1)
         status=$?
         if [ "$status" -eq 0 ] && [ "$output" = "$wanted" ]; then
             quiet=$((quiet + 1))
@@ -104,12 +110,6 @@ refuse_each() {
 }
 
 take_input ${inputs[0]:+"${inputs[0]}"}
-# What the interpreter makes of the run beside is not looked at, so it ends soon.
-if ! keep_program --steps 1000 -- "${words[@]}" < "$stdin"; then
-    tail -n 20 "$folder/output"
-    echo "$crate: its program was not built"
-    exit 1
-fi
 total=0
 if [ -n "$sections" ]; then
     refuse_sections
