@@ -25,11 +25,19 @@ use std::thread::Threads;
 /// The status of a run that could not read its rows or print its answers.
 const FAILED: u8 = 1;
 
+/// The status of a run that was refused memory.
+const MEMORY: u8 = 2;
+
 fn main(rt: HostRuntime) -> ExitCode {
-    match run(&rt, &rt) {
-        Ok(()) => ExitCode::from(0),
-        Err(_) => ExitCode::from(FAILED),
-    }
+    let status = match run(&rt, &rt) {
+        Ok(()) => 0,
+        Err(error) if error.kind() == io::ErrorKind::OutOfMemory => {
+            let _ = rt.print("Memory\n");
+            MEMORY
+        }
+        Err(_) => FAILED,
+    };
+    ExitCode::from(status)
 }
 
 // The handle on threads is the runtime, too. All is answered before anything is printed.
