@@ -25,7 +25,7 @@ use std::thread::Threads;
 /// The status of a run that could not read its rows or print its answers.
 const FAILED: u8 = 1;
 
-/// The status of a run that was refused memory.
+/// The status of a run that was out of memory. It has printed nothing else.
 const MEMORY: u8 = 2;
 
 fn main(rt: HostRuntime) -> ExitCode {
