@@ -3,7 +3,7 @@
 
     scripts/plant.py NAME [--only WORD] [--max N] [--minutes N] [--jobs N] [--all]
 
-`rt plant` sums up the files of a library once for each way through crates.txt that leads to it, which takes twenty minutes near
+`rt plant` sums up the files of a library once for each way through crates.txt that leads to it, which takes minutes near
 the top before it checks anything. Here each sum is made once, as no file below the crate changes while it runs, and so is each
 list of the libraries below a crate; all else is that of `rt plant --help`. The libraries that the crate stands on have to be
 built, as `rt check` in its folder does. RT names the command, `rt` by default.

@@ -3,7 +3,7 @@
 
     scripts/run_gate.py
 
-Kit 13b sums up the files of all that a crate stands on once for each path of crates.txt that leads there, which takes it half an hour of a
+Kit 13b sums up the files of all that a crate stands on once for each path of crates.txt that leads there, which takes it some minutes of a
 run. Here each is looked for once, and all else is what `rt ci` does, with its last line. RT_JOBS=4 has it work at four things at once, one
 process each, which takes the fewest processor minutes. At the end it says how many it took.
 """
