@@ -53,7 +53,9 @@ pub use known::{is_change, is_known};
 pub use layout::lay;
 pub use next::{Next, at_place, next_home, next_load, next_put, next_try};
 pub use notice::{WordNotice, of_told};
-pub use requests::{close_words, fits_one, lock_words, read_word, seek_word, store_words, write_word};
+pub use requests::{
+    close_words, fits_one, lock_words, read_word, seek_word, store_words, write_word,
+};
 pub use sizes::sizes_copies;
 pub use spares::Spares;
 pub use staying::copies_stay;

@@ -15,7 +15,9 @@ ghost use Rattle.step_world.specs.Turns.{IsTurn, KeepsOwn};
 use actor_parts::word_laws::steps_as_worlds;
 use actor_parts::{Blocks, Table, copies_stay};
 use seq_model::Value;
-use tx_actor::laws::{copies_by_stage, loads_as_worlds, loads_keep_running, loads_stay_own, seats_as_actors};
+use tx_actor::laws::{
+    copies_by_stage, loads_as_worlds, loads_keep_running, loads_stay_own, seats_as_actors,
+};
 use tx_actor::{Told, TxActor};
 
 /// The next step of an actor's words while the locations of its call are read.

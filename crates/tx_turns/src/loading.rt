@@ -11,7 +11,9 @@ use actor_parts::word_laws::steps_as_worlds;
 use actor_parts::{Boxed, copies_stay};
 use replay_log::Base;
 use seq_model::Value;
-use tx_actor::laws::{copies_by_stage, loads_as_worlds, loads_keep_running, loads_stay_own, seats_as_actors};
+use tx_actor::laws::{
+    copies_by_stage, loads_as_worlds, loads_keep_running, loads_stay_own, seats_as_actors,
+};
 use tx_actor::{Told, TxActor};
 use tx_table::{Seat, TxTable};
 

@@ -16,7 +16,9 @@ use actor_parts::word_laws::steps_as_worlds;
 use replay_log::Base;
 use seq_model::Value;
 use step_core::Place;
-use tx_actor::laws::{copies_by_stage, loads_as_worlds, loads_keep_running, loads_stay_own, seats_as_actors};
+use tx_actor::laws::{
+    copies_by_stage, loads_as_worlds, loads_keep_running, loads_stay_own, seats_as_actors,
+};
 use tx_actor::{Stage, Told, TxActor};
 use tx_table::{Seat, TxTable};
 use vlock_word::LockWord;

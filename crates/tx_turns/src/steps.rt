@@ -17,7 +17,9 @@ use actor_parts::{Boxed, Next};
 use replay_log::Base;
 use seq_model::Value;
 use step_core::{WordAnswer, WordRefusal};
-use tx_actor::laws::{copies_by_stage, loads_as_worlds, loads_keep_running, loads_stay_own, seats_as_actors};
+use tx_actor::laws::{
+    copies_by_stage, loads_as_worlds, loads_keep_running, loads_stay_own, seats_as_actors,
+};
 use tx_actor::{Stage, Told, TxActor};
 use tx_table::{Seat, TxTable};
 

@@ -10,11 +10,11 @@ ghost use Rattle.tx_turns.specs.Refused.{IsGivenUp};
 ghost use Rattle.actor_laws.specs.Courses.{latest};
 ghost use Rattle.tx_turns.specs.Driven.{IsOnGate, MakesReceipt, WantsMemory, as_receipts, told_in};
 
+use crate::asks::starve;
 use crate::gates::{copy_base, put_gate, try_gate};
 use crate::homes::{commit, go_home};
 use crate::laws::turns_keep_own;
 use crate::loading::load_word;
-use crate::asks::starve;
 use crate::words::{close, step_word};
 use actor_parts::{Boxed, Next};
 use replay_log::Base;

@@ -49,6 +49,6 @@ pub use store::Store;
 pub use tx_client::{Body, Client, Contents, Scope, Tally, Transaction};
 pub use tx_engine::Receipt;
 pub use tx_handles::{
-    Bag, BagCounts, BagIter, LaneItems, Lanes, Map, MapEntries, MapIter, PriorityQueue,
-    Queue, Shared, Text, Word,
+    Bag, BagCounts, BagIter, LaneItems, Lanes, Map, MapEntries, MapIter, PriorityQueue, Queue,
+    Shared, Text, Word,
 };

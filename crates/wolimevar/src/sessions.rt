@@ -14,8 +14,8 @@ ghost use Rattle.wolimevar.specs.Sessions.{IsFinished, HaveServed, IsServed, IsW
 use seq_model::{Refusal, Value};
 use std::alloc::Global;
 use std::marker::Brand;
-use std::thread::Threads;
 use std::thread;
+use std::thread::Threads;
 use tx_client::{Caller, Client, Scope, client_of, seat_of};
 use tx_engine::TxSeat;
 use tx_table::{SHARES, TxTable};
