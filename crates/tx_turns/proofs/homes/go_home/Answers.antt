@@ -28,25 +28,28 @@ first-base-requires g c =
 
 pub folds-requires-clause-prepared : goal.folds-requires-clause-prepared
 folds-requires-clause-prepared g c =
-    subst (λ (d : Base g.row.V.Denot). IsPreparedFor (changes_had (copy_of c.args.actor.now.copies.items c.args.k)) d) (sym c.get_mut.ensures.value)
+    let had = copy_of c.args.actor.now.copies.items c.args.k in
+    subst (λ (d : Base g.row.V.Denot). IsPreparedFor (changes_had had) d) (sym c.get_mut.ensures.value)
     (home_base c.args.table.now c.args.seat.now c.args.actor.now c.args.k c.args.bases.now.items c.first-base.new.bases.items
     c.first-base.result c.requires.due c.requires.own c.first-base.ensures).1.0
 
 pub folds-requires-clause-within : goal.folds-requires-clause-within
 folds-requires-clause-within g c =
-    subst (λ (d : Base g.row.V.Denot). All (λ location. location < locations_of (stripes_of d) (shown_of d)) (locations_had (copy_of c.args.actor.now.copies.items c.args.k)))
+    let had = copy_of c.args.actor.now.copies.items c.args.k in
+    subst (λ (d : Base g.row.V.Denot). All (λ location. location < locations_of (stripes_of d) (shown_of d)) (locations_had had))
     (sym c.get_mut.ensures.value)
     (home_within c.logs_as_worlds.ensures.log c.args.table.now c.args.seat.now c.args.actor.now c.args.k c.args.bases.now.items
     c.first-base.new.bases.items c.first-base.result c.requires.due c.requires.ties c.requires.own c.first-base.ensures
-    c.logs_as_worlds.ensures.within c.copies_by_stage.ensures.others (locations_had (copy_of c.args.actor.now.copies.items c.args.k)) refl)
+    c.logs_as_worlds.ensures.within c.copies_by_stage.ensures.others (locations_had had) refl)
 
 pub folds-requires-clause-below : goal.folds-requires-clause-below
 folds-requires-clause-below g c =
-    subst (λ (d : Base g.row.V.Denot). All (λ location. slice_index (editions_of d) location < 2 ^ 63) (locations_had (copy_of c.args.actor.now.copies.items c.args.k)))
+    let had = copy_of c.args.actor.now.copies.items c.args.k in
+    subst (λ (d : Base g.row.V.Denot). All (λ location. slice_index (editions_of d) location < 2 ^ 63) (locations_had had))
     (sym c.get_mut.ensures.value)
     (home_below c.logs_as_worlds.ensures.log c.args.table.now c.args.seat.now c.args.actor.now c.args.k c.args.bases.now.items
     c.first-base.new.bases.items c.first-base.result c.requires.due c.requires.ties c.requires.own c.first-base.ensures
-    c.logs_as_worlds.ensures.editions c.copies_by_stage.ensures.others (locations_had (copy_of c.args.actor.now.copies.items c.args.k)) refl)
+    c.logs_as_worlds.ensures.editions c.copies_by_stage.ensures.others (locations_had had) refl)
 
 pub put_gate-requires-clause-own : goal.put_gate-requires-clause-own
 put_gate-requires-clause-own g c = c.requires.ties.owns
@@ -65,16 +68,17 @@ put_gate-requires-clause-held g c =
 
 pub put_gate-requires-clause-due : goal.put_gate-requires-clause-due
 put_gate-requires-clause-due g c =
+    let had = copy_of c.args.actor.now.copies.items c.args.k in
     let e = c.folds.ensures in
     let same = c.get_mut.ensures.value in
     let shown = subst (λ (d : Base g.row.V.Denot).
-    shown_of c.folds.new.base ≡ after (changes_had (copy_of c.args.actor.now.copies.items c.args.k)) (shown_of d)) same e.shown in
+    shown_of c.folds.new.base ≡ after (changes_had had) (shown_of d)) same e.shown in
     let stripes = subst (λ (d : Base g.row.V.Denot). stripes_of c.folds.new.base ≡ stripes_of d) same e.stripes in
     let editions = subst (λ (d : Base g.row.V.Denot).
-    AreRaised (locations_had (copy_of c.args.actor.now.copies.items c.args.k)) (editions_of d) (editions_of c.folds.new.base)) same e.editions in
+    AreRaised (locations_had had) (editions_of d) (editions_of c.folds.new.base)) same e.editions in
     home_may c.logs_as_worlds.ensures.log c.args.table.now c.args.seat.now c.args.actor.now c.args.k c.args.bases.now.items
     c.first-base.new.bases.items c.first-base.result c.requires.due c.requires.ties c.requires.own c.first-base.ensures
-    c.steps_as_worlds.ensures (changes_had (copy_of c.args.actor.now.copies.items c.args.k)) (locations_had (copy_of c.args.actor.now.copies.items c.args.k)) c.folds.new.base refl refl shown stripes editions
+    c.steps_as_worlds.ensures (changes_had had) (locations_had had) c.folds.new.base refl refl shown stripes editions
 
 pub returns-clause-turned : goal.returns-clause-turned
 returns-clause-turned g c =
