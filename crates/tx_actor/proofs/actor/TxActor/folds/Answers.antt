@@ -1,5 +1,5 @@
-use Rattle.std.proofs.Common.{rules, ℕ, [], ◌≡◌, ◌<◌, ◌^◌, All, None, List, refl, slice_index, sym, subst, ◌∙◌}
-use Rattle.replay_log.specs.Base.{IsPreparedFor, after, editions_of, locations_of, shown_of, stripes_of}
+use Rattle.std.proofs.Common.{arith, rules, ℕ, [], ◌≡◌, ◌<◌, ◌^◌, All, None, List, refl, slice_index, sym, subst, ◌∙◌}
+use Rattle.replay_log.specs.Base.{IsPreparedFor, Shown, OfMap, OfBag, OfPq, OfQueue, after, editions_of, locations_of, shown_of, stripes_of}
 use Rattle.replay_log.specs.Contents.{end_of}
 use Rattle.replay_log.specs.Log.{AreRaised}
 use Rattle.actor_parts.specs.declared.copies.CopyOf.{CopyOf}
@@ -12,8 +12,15 @@ use Rattle.actor_parts.proofs.LogLemmas.{found_at, others_stand}
 use Rattle.tx_actor.proofs.RunsLemmas.{left_alike}
 use Rattle.tx_actor.proofs.actor.TxActor.folds.Goals as goal
 
+-- no change makes nothing
+after_none : {V : Type 0} (s : Shown V) → after [] s ≡ s
+after_none (OfMap b) = refl
+after_none (OfBag b) = refl
+after_none (OfPq b) = refl
+after_none (OfQueue b) = refl
+
 raised_none : (es : List ℕ) → AreRaised [] es es
-raised_none es = ([], tt, λ l. (λ h. h, λ h. h), refl)
+raised_none es = ([], λ k h. absurd (omega (arith, h)), λ l. (λ h. h, λ h. h), refl)
 
 pub fold-requires-clause-prepared : goal.fold-requires-clause-prepared
 fold-requires-clause-prepared g c =
@@ -70,7 +77,8 @@ returns-in-None-clause-shown g c =
     let at : IsPlaceOf c.args.self.now.copies.items c.args.collection c.place_of.result = search rules in
     let none : copy_of c.args.self.now.copies.items c.args.collection ≡ None =
     subst (IsPlaceOf c.args.self.now.copies.items c.args.collection) c.in-None.is at in
-    subst (λ x. shown_of c.args.base.now ≡ after (changes_had x) (shown_of c.args.base.now)) (sym none) refl
+    subst (λ x. shown_of c.args.base.now ≡ after (changes_had x) (shown_of c.args.base.now)) (sym none)
+    (sym (after_none (shown_of c.args.base.now)))
 
 pub returns-in-None-clause-editions : goal.returns-in-None-clause-editions
 returns-in-None-clause-editions g c =

@@ -2,8 +2,8 @@ use Rattle.std.proofs.Common.{ℕ, refl, subst}
 use Rattle.actor_parts.specs.Taking.{IsTakenAt}
 use Rattle.tx_actor.proofs.actor.TxActor.takes_from.Goals as goal
 
-pub returns-in_ok-place-clause-ok : goal.returns-in_ok-place-clause-ok
-returns-in_ok-place-clause-ok g c =
+pub returns-clause-ok : goal.returns-clause-ok
+returns-clause-ok g c =
     let can = c.requires in
     let now = c.take_from.new.copies in
     let taken = c.in_ok-place.ensures.ok in
