@@ -3,7 +3,12 @@ use Rattle.std.specs.Prelude.{◌≡◌, ℕ, ◌<◌, ◌≤◌, ◌++◌, Bool
 use Rattle.seq_model.specs.declared.call.Op.{Op}
 use Rattle.conflict.specs.declared.outcome.Outcome.{Outcome}
 use Rattle.replay_log.specs.declared.base.Base.{Base}
-use Rattle.replay_log.specs.Base.{shown_of}
+use Rattle.replay_log.specs.declared.touch.Touch.{Touch}
+use Rattle.replay_log.specs.declared.touch.Touched.TheVariants as touched
+use Rattle.replay_log.specs.Base.{OfMap, shown_of}
+use Rattle.replay_log.specs.Touches.{summed_by}
+use Rattle.std.specs.FinMap.{FinMap, get}
+use Rattle.std.specs.Ordering.{nat_cmp}
 use Rattle.replay_log.specs.Contents.{shifted}
 use Rattle.replay_log.specs.Parts.{kind_of}
 use Rattle.replay_log.specs.Worlds as worlds
@@ -23,6 +28,14 @@ module _ {V : Type 0} where
   abbrev pub fits_base : Actor → Base V → (f : ℕ) → Outcome V → Bool
   fits_base y base f o =
       worlds.has_room (words.actor_of y) (shifted f (base_reads base o)) (shifted f (base_writes base o))
+
+  -- a key that was touched with this value, if it has one, and the edition e of its location l
+  abbrev pub key_touch : (k : ℕ) → Option V → (l e : ℕ) → Touch V
+  key_touch k value l e = record { editions = (l, e) ∷ []; held = touched.Entry k value }
+
+  -- the call touches this key of every map
+  abbrev pub IsOnKey : ℕ → Op V → Type 0
+  IsOnKey k op = (n : ℕ) (m : FinMap nat_cmp V) → summed_by n op (OfMap m) ≡ Some (touched.Entry k (get m k))
 
   -- the copy of a collection with this in place of what there was
   abbrev pub copy_with : ℕ → Copied V → CopyOf V
@@ -66,3 +79,9 @@ TakenBack V =
     → ((c : Copied V) → copy_of before k ≡ Some c → kind_of (shown_of (base_in c)) ≡ kind_of (shown_of base))
     → holds_of (copy_of before k) op ≡ false → IsTakenAt n k x i before now → AreKept now ready
     → TakesBack (length before) i op ready after → HaveSame before after
+
+-- What the call touches of the base of collection k, in n stripes, is taken: there is a copy of it at place i.
+pub record IsTakenFrom {V : Type 0} (n k : ℕ) (base : Base V) (op : Op V) (i : ℕ) (before now : List (CopyOf V)) : Type 0 where
+  pub found : Found V
+  pub is : IsFound base op found
+  pub at : IsTakenAt n k found i before now

@@ -1,9 +1,12 @@
 //! What a transaction has of collections: what it touched of each map and multiset, and a copy of each priority queue and queue.
-ghost use Rattle.std.specs.Prelude.{◌≡◌, ◌≤◌, IfOk, IfErr, IsSome, OnOk, OnErr, None, length};
+ghost use Rattle.std.specs.Prelude.{◌≡◌, ◌<◌, ◌≤◌, ◌^◌, All, IfOk, IfErr, IsSome, OnOk, OnErr, None, length, slice_index};
 ghost use Rattle.seq_model.specs.Calls.{IsRefusal};
 ghost use Rattle.seq_model.specs.Entries.{inserts};
-ghost use Rattle.replay_log.specs.Base.{IsPreparedFor, StaysPrepared, editions_of, shown_of, stripes_of};
+ghost use Rattle.replay_log.specs.Base.{IsPreparedFor, StaysPrepared, after, editions_of, locations_of, shown_of, stripes_of};
+ghost use Rattle.replay_log.specs.Log.{AreRaised};
 ghost use Rattle.actor_parts.specs.Copies.{IsAccepted, IsForgotten, IsFound, IsKept, IsLearnt, IsReady, answer_of, changes_in, holds_call};
+ghost use Rattle.actor_parts.specs.Copies.{locations_in};
+ghost use Rattle.actor_parts.specs.Taking.{key_touch};
 
 use crate::boxed::Boxed;
 use crate::spares::Spares;
@@ -76,6 +79,30 @@ impl<V: Value> Copied<V> {
         Ok(editions)
     }
 
+    /// What `learn` does, of a map's key with its value, if it has one, and the edition of its location.
+    #[inline(always)]
+    pub(crate) fn learn_key(
+        &mut self,
+        key: u64,
+        value: Option<V>,
+        location: u32,
+        edition: u64,
+    ) -> Result<(), Memory>
+        ensures learnt { OnOk result (IsLearnt (key_touch key value location edition) self.old self.new) }
+        ensures err { OnErr result (IsKept self.old self.new) }
+    {
+        match self {
+            Copied::Keys(memo, known) => {
+                let known = known.get_mut();
+                known.reserve(1)?;
+                memo.get_mut().add_entry(key, value)?;
+                known.insert_reserved(location as u64, edition);
+            }
+            Copied::Whole(_) => {}
+        }
+        Ok(())
+    }
+
     /// Has no more what the call touches, and takes so back what was learnt for a call that is not made. The editions that are known are
     /// kept. It takes no memory.
     pub fn forget(&mut self, op: &Op<V>)
@@ -119,6 +146,22 @@ impl<V: Value> Copied<V> {
         match self {
             Copied::Keys(memo, _) => memo.get().changes(),
             Copied::Whole(shadow) => shadow.get().changes(),
+        }
+    }
+
+    /// The changes of the accepted calls are made in a base that was prepared for them, and the editions of the locations that they write
+    /// are raised by one. It takes no memory and is never refused. What there is of the collection is left open, in its memory.
+    pub fn fold(&mut self, base: &mut Base<V>)
+        requires prepared { IsPreparedFor (changes_in self.old) base.old }
+        requires within { All (λ location. location < locations_of (stripes_of base.old) (shown_of base.old)) (locations_in self.old) }
+        requires below { All (λ location. slice_index (editions_of base.old) location < 2 ^ 63) (locations_in self.old) }
+        ensures shown { shown_of base.new ≡ after (changes_in self.old) (shown_of base.old) }
+        ensures stripes { stripes_of base.new ≡ stripes_of base.old }
+        ensures editions { AreRaised (locations_in self.old) (editions_of base.old) (editions_of base.new) }
+    {
+        match self {
+            Copied::Keys(memo, _) => memo.get_mut().fold(base),
+            Copied::Whole(shadow) => shadow.get_mut().fold(base),
         }
     }
 

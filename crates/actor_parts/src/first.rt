@@ -2,6 +2,7 @@
 ghost use Rattle.std.specs.Prelude.{◌≡◌, IfOk};
 ghost use Rattle.actor_parts.specs.declared.copies.Found.TheVariants as found;
 ghost use Rattle.actor_parts.specs.First.{IsFirst, IsFirstTouch, memo_kind};
+ghost use Rattle.actor_parts.specs.Taking.{key_touch};
 
 use crate::copies::{Copied, Found};
 use crate::spares::Spares;
@@ -32,6 +33,24 @@ fn first_touch<V: Value>(
     let mut copied = Copied::Keys(blank.memo, blank.editions);
     let editions = copied.learn(touch)?;
     spares.keep_editions(editions);
+    Ok(copied)
+}
+
+/// What there is of a map in so many stripes once a key was found to have this value, if it has one, and its location this edition.
+pub(crate) fn first_key<V: Value>(
+    spares: &mut Spares<V>,
+    alloc: Global,
+    stripes: u32,
+    key: u64,
+    value: Option<V>,
+    location: u32,
+    edition: u64,
+) -> Result<Copied<V>, Refusal>
+    ensures { IfOk result (λ copied. IsFirstTouch stripes (key_touch key value location edition) copied) }
+{
+    let blank = spares.blank(alloc, stripes, MemoKind::Map)?;
+    let mut copied = Copied::Keys(blank.memo, blank.editions);
+    copied.learn_key(key, value, location, edition)?;
     Ok(copied)
 }
 

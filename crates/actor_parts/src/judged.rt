@@ -21,6 +21,7 @@ pub enum Judged {
 }
 
 /// Judges locations with copied editions, from the first, and takes those off that the set has with that edition.
+#[inline(always)]
 pub fn judge(reads: &ReadSet, left: &mut VecDeque<(u32, u64)>) -> Judged
     ensures judged { result ≡ judged reads.now.entries left.old.items }
     ensures left { left.new.items ≡ left_after reads.now.entries left.old.items }

@@ -60,6 +60,6 @@ pub use sizes::sizes_copies;
 pub use spares::Spares;
 pub use staying::copies_stay;
 pub use table::Table;
-pub use taking::{fits_base, take, take_back, taken_back};
+pub use taking::{fits_base, take, take_back, take_from, taken_back};
 pub use weighed::weigh;
 pub use writes::{Writes, reserve_words, write_all};

@@ -131,9 +131,28 @@ impl<V: Drop> Spares<V> {
         }
     }
 
-    fn keep_copied(&mut self, copied: Copied<V>) {
-        let log = self.log_of(copied);
-        self.keep_log(log);
+    // A memo whose log was handed out has the memory of a kept one, where there is some.
+    fn lend_log(&mut self, memo: &mut Memo<V>) {
+        if memo.lacks_log() {
+            if let Some(log) = self.logs.pop() {
+                memo.take_memory(log);
+            }
+        }
+    }
+
+    /// Keeps the memory of what a transaction had of a collection, which goes. It is not refused.
+    pub fn keep_copied(&mut self, copied: Copied<V>) {
+        match copied {
+            Copied::Keys(memo, editions) => {
+                let mut memo = memo;
+                memo.get_mut().clear();
+                self.keep(memo, editions);
+            }
+            Copied::Whole(shadow) => {
+                let log = self.log_of(Copied::Whole(shadow));
+                self.keep_log(log);
+            }
+        }
     }
 
     /// What a transaction had of collections goes, and its memory is kept. It is not refused.
@@ -192,7 +211,8 @@ impl<V: Value> Spares<V> {
                     mut editions,
                 } = spare;
                 editions.get_mut().clear();
-                memo.get_mut().renew(stripes, kind, self.log(alloc))?;
+                self.lend_log(memo.get_mut());
+                memo.get_mut().renew(stripes, kind)?;
                 Ok(Spare { memo, editions })
             }
             None => first_spare(alloc, stripes, kind),

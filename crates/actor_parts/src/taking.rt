@@ -1,19 +1,24 @@
 //! What a call touches joins what a transaction has of collections, while the gate of its collection is held, and is taken back where
 //! the call is not made.
-ghost use Rattle.std.specs.Prelude.{◌≡◌, ◌+◌, ◌<◌, ◌≤◌, ◌^◌, IfOk, OnErr, OnOk, Some, false, length};
+ghost use Rattle.std.specs.Prelude.{◌≡◌, ◌+◌, ◌<◌, ◌≤◌, ◌^◌, IfOk, IfSome, OnErr, OnOk, Some, false, length, slice_index};
+ghost use Rattle.std.specs.FinMap.{get};
 ghost use Rattle.std.specs.Vec.{vec_capacity, vec_len};
+ghost use Rattle.conflict.specs.Footprints.{key_place};
 ghost use Rattle.conflict.specs.declared.outcome.Outcome.{Outcome};
 ghost use Rattle.replay_log.specs.Base.{locations_of, outcome_of, shown_of, stripes_of};
 ghost use Rattle.actor_parts.specs.Copies.{IsKept};
 ghost use Rattle.actor_parts.specs.Kept.{HaveSame};
 ghost use Rattle.actor_parts.specs.Sizes.{HasAtMost, is_on_key};
-ghost use Rattle.actor_parts.specs.Taking.{IsAdded, IsPushed, IsTakenAt, TakenBack, TakesBack, fits_base};
+ghost use Rattle.actor_parts.specs.Taking.{IsAdded, IsOnKey, IsPushed, IsTakenAt, IsTakenFrom, TakenBack, TakesBack, fits_base};
+ghost use Rattle.actor_parts.specs.Taking.{key_touch};
+ghost use Rattle.actor_parts.specs.declared.copies.Found.TheVariants.{Keys};
 
-use crate::copies::{Copied, CopyOf, Found};
-use crate::first::first_copy;
+use crate::copies::{Copied, CopyOf, Found, find};
+use crate::first::{first_copy, first_key};
 use crate::footprints::{all_read, place_of};
 use crate::room::{has_room, has_room_below, surely_fits};
 use crate::spares::Spares;
+use base_map::MapBase;
 use replay_log::Base;
 use seq_model::{Memory, Op, Value};
 use std::alloc::Global;
@@ -179,6 +184,125 @@ pub fn take<V: Value>(
             push_first(copies, spares, alloc, stripes, collection, found)?;
             Ok(place)
         }
+    }
+}
+
+#[inline(never)]
+fn push_key<V: Value>(
+    copies: &mut Vec<CopyOf<V>>,
+    spares: &mut Spares<V>,
+    alloc: Global,
+    stripes: u32,
+    collection: u32,
+    key: u64,
+    value: Option<V>,
+    location: u32,
+    edition: u64,
+) -> Result<(), Memory>
+    ensures ok { OnOk result
+        (IsPushed stripes collection (Keys (key_touch key value location edition)) copies.old.items copies.new.items) }
+    ensures err { OnErr result (copies.new.items ≡ copies.old.items) }
+{
+    make_room(copies, spares)?;
+    match first_key(spares, alloc, stripes, key, value, location, edition) {
+        Ok(copied) => {
+            copies.push_reserved(CopyOf { collection, copied });
+            Ok(())
+        }
+        Err(_) => Err(Memory),
+    }
+}
+
+/// What the map has of the key is taken, as by `take`.
+fn take_key<V: Value>(
+    copies: &mut Vec<CopyOf<V>>,
+    spares: &mut Spares<V>,
+    alloc: Global,
+    stripes: u32,
+    collection: u32,
+    map: &MapBase<V>,
+    key: u64,
+) -> Result<usize, Memory>
+    ensures ok { IfOk result (λ place. IsTakenAt stripes collection
+        (Keys (key_touch key (get map.now.shown key) (key_place map.now.stripes key)
+        (slice_index map.now.editions (key_place map.now.stripes key))))
+        place copies.old.items copies.new.items) }
+    ensures err { OnErr result (HaveSame copies.old.items copies.new.items) }
+{
+    let location = map.place(key);
+    let edition = map.edition(location);
+    let value = map.entry(key)?;
+    match place_of(copies, collection) {
+        Some(place) => {
+            copies[place]
+                .copied
+                .learn_key(key, value, location, edition)?;
+            Ok(place)
+        }
+        None => {
+            let place = copies.len();
+            push_key(
+                copies, spares, alloc, stripes, collection, key, value, location, edition,
+            )?;
+            Ok(place)
+        }
+    }
+}
+
+fn take_found<V: Value>(
+    copies: &mut Vec<CopyOf<V>>,
+    spares: &mut Spares<V>,
+    alloc: Global,
+    stripes: u32,
+    collection: u32,
+    base: &Base<V>,
+    op: &Op<V>,
+) -> Result<usize, Memory>
+    ensures ok { IfOk result (λ place. IsTakenFrom stripes collection base.now op.now place copies.old.items copies.new.items) }
+    ensures err { OnErr result (HaveSame copies.old.items copies.new.items) }
+{
+    match find(spares, alloc, base, op) {
+        Ok(found) => {
+            let place = take(copies, spares, alloc, stripes, collection, found)?;
+            Ok(place)
+        }
+        Err(_) => Err(Memory),
+    }
+}
+
+/// The key that a call on a map is on, if it is on one.
+fn map_key<V>(op: &Op<V>) -> Option<u64>
+    ensures { IfSome result (λ key. IsOnKey key op.now) }
+{
+    match op {
+        Op::Get(key) | Op::Put(key, _) | Op::Remove(key) => Some(*key),
+        _ => None,
+    }
+}
+
+/// What the call touches of the base is found and taken. `Memory`, where an allocation fails or the call is of another kind, leaves the
+/// pieces that there were.
+pub fn take_from<V: Value>(
+    copies: &mut Vec<CopyOf<V>>,
+    spares: &mut Spares<V>,
+    alloc: Global,
+    stripes: u32,
+    collection: u32,
+    base: &Base<V>,
+    op: &Op<V>,
+) -> Result<usize, Memory>
+    ensures ok { IfOk result (λ place. IsTakenFrom stripes collection base.now op.now place copies.old.items copies.new.items) }
+    ensures err { OnErr result (HaveSame copies.old.items copies.new.items) }
+{
+    match base {
+        Base::Map(map) => match map_key(op) {
+            Some(key) => {
+                let place = take_key(copies, spares, alloc, stripes, collection, map, key)?;
+                Ok(place)
+            }
+            None => take_found(copies, spares, alloc, stripes, collection, base, op),
+        },
+        _ => take_found(copies, spares, alloc, stripes, collection, base, op),
     }
 }
 

@@ -9,6 +9,7 @@
 //! the outcome in, without memory and without refusal. Of a memo likewise, once it holds what the call touches ([`Memo::add`]).
 #![tactic(auto)]
 
+mod changes;
 pub mod laws;
 mod memo;
 mod shadow;

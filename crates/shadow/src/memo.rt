@@ -1,6 +1,6 @@
 //! What a transaction keeps of the single keys that it touched, and of the number of all keys.
 ghost use Rattle.std.specs.Prelude.{◌≡◌, ◌<◌, ◌≤◌, ◌++◌, ◌^◌, ◌+◌, ◌-◌, [], ◌∷◌, Some, None, length, option_to_list, unwrap_or};
-ghost use Rattle.std.specs.Prelude.{IfOk, IfErr, IfSome, IsSome, OnOk, OnErr};
+ghost use Rattle.std.specs.Prelude.{All, IfOk, IfErr, IfSome, IsSome, OnOk, OnErr, slice_index};
 ghost use Rattle.std.specs.FinMap as map;
 ghost use Rattle.std.specs.List.{sum};
 ghost use Rattle.seq_model.specs.Calls.{IsRefusal};
@@ -9,16 +9,19 @@ ghost use Rattle.seq_model.specs.declared.call.Op.TheVariants.{Remove};
 ghost use Rattle.conflict.specs.Footprints.{all_below};
 ghost use Rattle.conflict.specs.Refusals.{IsTooLong, IsStripeCount};
 ghost use Rattle.base_bag.specs.Conflicts as bag;
-ghost use Rattle.base_map.specs.Conflicts as of_map;
-ghost use Rattle.replay_log.specs.Base.{changes_of, empty_of, reads_of, shown_of, stripes_of, writes_of};
+ghost use Rattle.replay_log.specs.Base.{IsPreparedFor, after, changes_of, editions_of, empty_of, locations_of, reads_of, shown_of};
+ghost use Rattle.replay_log.specs.Base.{stripes_of, writes_of};
+ghost use Rattle.replay_log.specs.Log.{AreRaised};
+ghost use Rattle.replay_log.specs.declared.touch.Touched.TheVariants.{Entry};
 ghost use Rattle.shadow.specs.KeyPlace.{written_there};
-ghost use Rattle.shadow.specs.Memo.{HasKeys, HasPlace, IsReadyFor, answer_with, blank_of, copies_after, copies_kept, copies_without};
+ghost use Rattle.shadow.specs.Memo.{HasKeys, HasPlace, IsReadyFor, answer_with, copies_after, copies_kept, copies_without};
 ghost use Rattle.shadow.specs.Memo.{entries_after, entries_kept};
 ghost use Rattle.shadow.specs.Memo.{entries_without, grown_after, grown_kept, holds, kind_room, map_answer, shape, shrunk_after};
 ghost use Rattle.shadow.specs.Memo.{shrunk_kept, total_without, with_count, with_entry, with_key, with_number, with_total, IsTold};
 
+use crate::changes::{copies_place, entry_place, put_change};
 use conflict::{Change, FewKeys, LocSet, Note, Outcome, is_stripe_count};
-use replay_log::{Log, Touch, Touched};
+use replay_log::{Base, Log, Touch, Touched};
 use seq_model::{COPY_LIMIT, Items, Kind, Memory, Op, Refusal, Reply, Value};
 use std::alloc::Global;
 use std::marker::Model;
@@ -53,6 +56,8 @@ pub struct Memo<V> {
     grown: u64,
     shrunk: u64,
     log: Log<V>,
+    // Whether the log was handed out, and none came in its place.
+    is_lent: bool,
     // Whether the next acceptance is ready: the change that it appends, and the location that it writes. Else both are unused.
     is_ready: bool,
     change: Option<Change<V>>,
@@ -71,6 +76,7 @@ impl<V: Drop> Drop for Memo<V> {
             grown: _,
             shrunk: _,
             log: _,
+            is_lent: _,
             is_ready: _,
             change: _,
             written: _,
@@ -137,12 +143,25 @@ impl<V: Drop> Memo<V> {
         self.log.clear();
     }
 
+    /// Whether its log was handed out, so that it has no memory for the next one.
+    pub fn lacks_log(&self) -> bool {
+        self.is_lent
+    }
+
+    /// Has from now on the memory of this log, whatever that keeps: it is for a memo that is renewed then.
+    pub fn take_memory(&mut self, log: Log<V>) {
+        self.is_ready = false;
+        self.is_lent = false;
+        self.log = log;
+    }
+
     /// Hands the log of the accepted changes out, and keeps no key any more. The other memory is kept.
     pub fn take_log(&mut self) -> Log<V>
         ensures changes { result.changes ≡ self.old.changes }
         ensures locations { result.locations ≡ self.old.locations }
     {
         self.is_ready = false;
+        self.is_lent = true;
         let log = mem::replace(&mut self.log, Log::new(self.alloc));
         self.clear();
         log
@@ -198,14 +217,15 @@ impl<V: Value> Memo<V> {
             grown: 0,
             shrunk: 0,
             log: Log::new(alloc),
+            is_lent: false,
             is_ready: false,
             change: None,
             written: None,
         })
     }
 
-    /// Is from now on what `empty` makes, in its own memory and in that of this log, whatever both keep.
-    pub fn renew(&mut self, stripes: u32, kind: MemoKind, log: Log<V>) -> Result<(), Refusal>
+    /// Is from now on what `empty` makes, in its own memory, whatever it keeps.
+    pub fn renew(&mut self, stripes: u32, kind: MemoKind) -> Result<(), Refusal>
         ensures blank { OnOk result (shown_of self.new.blank ≡ shape kind) }
         ensures stripes { OnOk result (stripes_of self.new.blank ≡ stripes) }
         ensures entries { OnOk result (self.new.entries ≡ map.empty) }
@@ -223,7 +243,6 @@ impl<V: Value> Memo<V> {
         self.is_ready = false;
         self.kind = kind;
         self.stripes = stripes;
-        self.log = log;
         self.clear();
         Ok(())
     }
@@ -281,6 +300,23 @@ impl<V: Value> Memo<V> {
             Touched::Counts(counts) => hold_sum(&mut self.total, &counts),
             Touched::Total(number) => hold_total(&mut self.total, number),
         }
+    }
+
+    /// What `add` does, of a map's key with its value, if it has one.
+    #[inline(always)]
+    pub fn add_entry(&mut self, key: u64, value: Option<V>) -> Result<(), Memory>
+        ensures blank { self.new.blank ≡ self.old.blank }
+        ensures entries { OnOk result (self.new.entries ≡ with_entry (Entry key value) self.old.entries) }
+        ensures copies { self.new.copies ≡ self.old.copies }
+        ensures changes { self.new.changes ≡ self.old.changes }
+        ensures locations { self.new.locations ≡ self.old.locations }
+        ensures total { self.new.total ≡ self.old.total }
+        ensures grown { self.new.grown ≡ self.old.grown }
+        ensures shrunk { self.new.shrunk ≡ self.old.shrunk }
+        ensures err { OnErr result (self.new.entries ≡ self.old.entries) }
+    {
+        self.is_ready = false;
+        hold(&mut self.entries, key, value)
     }
 
     /// Holds no more the key of the call, or the number of all: takes back what was added for a call that is not made.
@@ -475,6 +511,20 @@ impl<V: Value> Memo<V> {
         self.log.changes()
     }
 
+    /// The accepted changes are made in a base that was prepared for them, and the editions of the locations that they write are raised by
+    /// one. It takes no memory and is never refused. What is kept is left open, in its memory.
+    pub fn fold(&mut self, base: &mut Base<V>)
+        requires prepared { IsPreparedFor self.old.changes base.old }
+        requires within { All (λ location. location < locations_of (stripes_of base.old) (shown_of base.old)) self.old.locations }
+        requires below { All (λ location. slice_index (editions_of base.old) location < 2 ^ 63) self.old.locations }
+        ensures shown { shown_of base.new ≡ after self.old.changes (shown_of base.old) }
+        ensures stripes { stripes_of base.new ≡ stripes_of base.old }
+        ensures editions { AreRaised self.old.locations (editions_of base.old) (editions_of base.new) }
+    {
+        self.is_ready = false;
+        self.log.fold(base);
+    }
+
     /// The log of the accepted changes.
     pub fn log(self) -> Log<V>
         ensures changes { result.changes ≡ self.changes }
@@ -483,84 +533,6 @@ impl<V: Value> Memo<V> {
         let mut memo = self;
         memo.take_log()
     }
-}
-
-// What an outcome changes is put into this place. Answers the location that it writes; without one it changes nothing.
-fn put_change<V: Value>(
-    change: &mut Option<Change<V>>,
-    kind: MemoKind,
-    stripes: u32,
-    outcome: &Outcome<V>,
-) -> Result<Option<u32>, Memory>
-    requires { 0 < stripes }
-    ensures change { OnOk result (option_to_list change.new ≡ changes_of outcome.now (shown_of (blank_of kind stripes))) }
-    ensures written { IfOk result (λ written. option_to_list written ≡ writes_of stripes outcome.now (shown_of (blank_of kind stripes))) }
-    ensures none { IfOk result (λ written. written ≡ None → change.new ≡ None) }
-{
-    match kind {
-        MemoKind::Map => put_entry_change(change, stripes, outcome),
-        MemoKind::Bag => put_copies_change(change, stripes, outcome),
-    }
-}
-
-fn put_entry_change<V: Value>(
-    change: &mut Option<Change<V>>,
-    stripes: u32,
-    outcome: &Outcome<V>,
-) -> Result<Option<u32>, Memory>
-    requires { 0 < stripes }
-    ensures change { OnOk result (option_to_list change.new ≡ of_map.changes_of outcome.now) }
-    ensures written { IfOk result (λ written. option_to_list written ≡ of_map.writes_of stripes outcome.now) }
-    ensures none { IfOk result (λ written. written ≡ None → change.new ≡ None) }
-{
-    match (&outcome.op, &outcome.reply) {
-        (Op::Put(key, _), _) | (Op::Remove(key), Reply::Value(_)) => {
-            *change = base_map::change_in(outcome)?;
-            Ok(Some(base_map::place_in(stripes, *key)))
-        }
-        _ => {
-            no_change(change);
-            Ok(None)
-        }
-    }
-}
-
-fn put_copies_change<V: Value>(
-    change: &mut Option<Change<V>>,
-    stripes: u32,
-    outcome: &Outcome<V>,
-) -> Result<Option<u32>, Memory>
-    requires { 0 < stripes }
-    ensures change { OnOk result (option_to_list change.new ≡ bag.changes_of outcome.now) }
-    ensures written { IfOk result (λ written. option_to_list written ≡ bag.writes_of stripes outcome.now) }
-    ensures none { IfOk result (λ written. written ≡ None → change.new ≡ None) }
-{
-    match (&outcome.op, &outcome.reply) {
-        (Op::Add(element), Reply::Done) | (Op::Take(element), Reply::Yes) => {
-            *change = base_bag::change_in(outcome)?;
-            Ok(Some(base_bag::place_in(stripes, *element)))
-        }
-        _ => {
-            no_change(change);
-            Ok(None)
-        }
-    }
-}
-
-// There is seldom a change left from a call that was not made, and to let it go takes a function of its own.
-fn no_change<V: Drop>(change: &mut Option<Change<V>>)
-    ensures { change.new ≡ None }
-{
-    if change.is_some() {
-        let_go(change);
-    }
-}
-
-#[inline(never)]
-fn let_go<V: Drop>(change: &mut Option<Change<V>>)
-    ensures { change.new ≡ None }
-{
-    *change = None;
 }
 
 // What is ready joins the log.
@@ -576,42 +548,6 @@ fn append<V: Value>(
 {
     if let Some(location) = written {
         log.append_one(change.take(), &LocSet::single(alloc, location));
-    }
-}
-
-fn entry_place<V>(stripes: u32, outcome: &Outcome<V>) -> Option<KeyPlace>
-    requires { 0 < stripes }
-    ensures reads { IfSome result (λ at. of_map.reads_of stripes outcome.now ≡ at.location ∷ []) }
-    ensures writes { IfSome result (λ at. of_map.writes_of stripes outcome.now ≡ written_there at) }
-{
-    match (&outcome.op, &outcome.reply) {
-        (Op::Put(key, _), _) | (Op::Remove(key), Reply::Value(_)) => Some(KeyPlace {
-            location: base_map::place_in(stripes, *key),
-            written: true,
-        }),
-        (Op::Get(key) | Op::Remove(key), _) => Some(KeyPlace {
-            location: base_map::place_in(stripes, *key),
-            written: false,
-        }),
-        _ => None,
-    }
-}
-
-fn copies_place<V>(stripes: u32, outcome: &Outcome<V>) -> Option<KeyPlace>
-    requires { 0 < stripes }
-    ensures reads { IfSome result (λ at. bag.reads_of stripes outcome.now ≡ at.location ∷ []) }
-    ensures writes { IfSome result (λ at. bag.writes_of stripes outcome.now ≡ written_there at) }
-{
-    match (&outcome.op, &outcome.reply) {
-        (Op::Add(element), Reply::Done) | (Op::Take(element), Reply::Yes) => Some(KeyPlace {
-            location: base_bag::place_in(stripes, *element),
-            written: true,
-        }),
-        (Op::Count(element) | Op::Add(element) | Op::Take(element), _) => Some(KeyPlace {
-            location: base_bag::place_in(stripes, *element),
-            written: false,
-        }),
-        _ => None,
     }
 }
 

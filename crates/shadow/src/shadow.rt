@@ -1,7 +1,9 @@
 //! A transaction's own copy of a collection.
-ghost use Rattle.std.specs.Prelude.{◌≡◌, ◌++◌, [], None, Some, IfOk, IfErr, OnOk};
+ghost use Rattle.std.specs.Prelude.{◌≡◌, ◌++◌, ◌<◌, ◌^◌, [], All, None, Some, IfOk, IfErr, OnOk, slice_index};
 ghost use Rattle.seq_model.specs.Calls.{IsRefusal};
-ghost use Rattle.replay_log.specs.Base.{after, changes_of, editions_of, outcome_of, shown_of, stripes_of, writes_of};
+ghost use Rattle.replay_log.specs.Base.{IsPreparedFor, after, changes_of, editions_of, locations_of, outcome_of, shown_of, stripes_of};
+ghost use Rattle.replay_log.specs.Base.{writes_of};
+ghost use Rattle.replay_log.specs.Log.{AreRaised};
 ghost use Rattle.shadow.specs.Shadow.{IsReadyFor};
 
 use conflict::{Change, LocSet, Outcome};
@@ -185,5 +187,19 @@ impl<V: Value> Shadow<V> {
         ensures { result.now ≡ self.now.changes }
     {
         self.log.changes()
+    }
+
+    /// The accepted changes are made in a base that was prepared for them, and the editions of the locations that they write are raised by
+    /// one. It takes no memory and is never refused. The log is left open, in its memory.
+    pub fn fold(&mut self, base: &mut Base<V>)
+        requires prepared { IsPreparedFor self.old.changes base.old }
+        requires within { All (λ location. location < locations_of (stripes_of base.old) (shown_of base.old)) self.old.locations }
+        requires below { All (λ location. slice_index (editions_of base.old) location < 2 ^ 63) self.old.locations }
+        ensures shown { shown_of base.new ≡ after self.old.changes (shown_of base.old) }
+        ensures stripes { stripes_of base.new ≡ stripes_of base.old }
+        ensures editions { AreRaised self.old.locations (editions_of base.old) (editions_of base.new) }
+    {
+        self.ready = None;
+        self.log.fold(base);
     }
 }

@@ -2,10 +2,10 @@
 ghost use Rattle.std.specs.Prelude.{◌≡◌, IfOk, OnErr, []};
 ghost use Rattle.actor_parts.specs.Copies.{IsFound, changes_in, locations_in};
 ghost use Rattle.actor_parts.specs.Kept.{HaveSame};
-ghost use Rattle.actor_parts.specs.Taking.{IsTakenAt};
+ghost use Rattle.actor_parts.specs.Taking.{IsTakenAt, IsTakenFrom};
 
 use crate::actor::{Answered, Asked};
-use actor_parts::{Boxed, Copied, CopyOf, Found, Spares, find, take};
+use actor_parts::{Boxed, Copied, CopyOf, Found, Spares, find, take, take_from};
 use replay_log::{Base, Log};
 use seq_model::{Memory, Op, Refusal, Reply, Value};
 use smallvec::SmallVec;
@@ -131,6 +131,10 @@ impl<V: Drop> Kept<V> {
         self.copies.keep_log(log);
     }
 
+    pub(crate) fn keep_copied(&mut self, copied: Copied<V>) {
+        self.copies.keep_copied(copied);
+    }
+
     pub(crate) fn left(&mut self, alloc: Global) -> VecDeque<(u32, u64)> {
         self.copies.left(alloc)
     }
@@ -180,5 +184,30 @@ impl<V: Value> Kept<V> {
         ensures err { OnErr result (HaveSame copies.old.items copies.new.items) }
     {
         take(copies, &mut self.copies, alloc, stripes, collection, found)
+    }
+
+    /// Like `take_from` of `actor_parts`.
+    #[inline(always)]
+    pub(crate) fn take_from(
+        &mut self,
+        copies: &mut Vec<CopyOf<V>>,
+        alloc: Global,
+        stripes: u32,
+        collection: u32,
+        base: &Base<V>,
+        op: &Op<V>,
+    ) -> Result<usize, Memory>
+        ensures ok { IfOk result (λ place. IsTakenFrom stripes collection base.now op.now place copies.old.items copies.new.items) }
+        ensures err { OnErr result (HaveSame copies.old.items copies.new.items) }
+    {
+        take_from(
+            copies,
+            &mut self.copies,
+            alloc,
+            stripes,
+            collection,
+            base,
+            op,
+        )
     }
 }

@@ -1,6 +1,7 @@
 //! What a commit prepares of the bases that it writes, and the logs that it hands over to them.
-ghost use Rattle.std.specs.Prelude.{◌≡◌, OnOk, true};
-ghost use Rattle.replay_log.specs.Base.{IsPreparedFor, StaysPrepared, editions_of, shown_of, stripes_of};
+ghost use Rattle.std.specs.Prelude.{◌≡◌, ◌<◌, ◌^◌, All, OnOk, slice_index, true};
+ghost use Rattle.replay_log.specs.Base.{IsPreparedFor, StaysPrepared, after, editions_of, locations_of, shown_of, stripes_of};
+ghost use Rattle.replay_log.specs.Log.{AreRaised};
 ghost use Rattle.actor_parts.specs.Blocks.{BlocksView};
 ghost use Rattle.tx_actor.specs.Keeping.{KeepsIn};
 ghost use Rattle.actor_parts.specs.Logs.{OthersStand, changes_had, locations_had};
@@ -44,6 +45,33 @@ impl<V: Value> TxActor<V> {
         match place_of(&self.copies, collection) {
             Some(place) => self.spares.log_of(self.copies.remove(place).copied),
             None => Log::new(alloc),
+        }
+    }
+
+    /// What its transaction's calls changed in a collection is made in the collection's base, which was prepared for it. What there is of
+    /// the collection goes, as by [`TxActor::log_of`]. It takes no memory and is never refused.
+    pub fn folds(&mut self, collection: u32, base: &mut Base<V>)
+        requires prepared { IsPreparedFor (changes_had (copy_of self.old.copies.items collection)) base.old }
+        requires within { All (λ location. location < locations_of (stripes_of base.old) (shown_of base.old))
+            (locations_had (copy_of self.old.copies.items collection)) }
+        requires below { All (λ location. slice_index (editions_of base.old) location < 2 ^ 63)
+            (locations_had (copy_of self.old.copies.items collection)) }
+        ensures shown { shown_of base.new ≡ after (changes_had (copy_of self.old.copies.items collection)) (shown_of base.old) }
+        ensures stripes { stripes_of base.new ≡ stripes_of base.old }
+        ensures editions { AreRaised (locations_had (copy_of self.old.copies.items collection)) (editions_of base.old)
+            (editions_of base.new) }
+        ensures others { OthersStand collection self.old.copies.items self.new.copies.items }
+        ensures rest { self.new ≡ record self.old { copies = self.new.copies } }
+        ensures stands { is_recorded self.old.stage ≡ true → Stands self.old self.new }
+        ensures keeps { is_recorded self.old.stage ≡ true → (v : BlocksView) → KeepsIn v self.old self.new }
+    {
+        match place_of(&self.copies, collection) {
+            Some(place) => {
+                let mut copied = self.copies.remove(place).copied;
+                copied.fold(base);
+                self.spares.keep_copied(copied);
+            }
+            None => {}
         }
     }
 

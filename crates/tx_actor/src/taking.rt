@@ -94,15 +94,15 @@ impl<V: Value> TxActor<V> {
         ensures err { OnErr result (IsUnmoved self.old self.new) }
     {
         let stripes = blocks.stripes_of(asked.collection);
-        match self.spares.find(alloc, base, &asked.op) {
-            Ok(found) => {
-                let place = self
-                    .spares
-                    .take(&mut self.copies, alloc, stripes, asked.collection, found)?;
-                Ok(place)
-            }
-            Err(_) => Err(Memory),
-        }
+        let place = self.spares.take_from(
+            &mut self.copies,
+            alloc,
+            stripes,
+            asked.collection,
+            base,
+            &asked.op,
+        )?;
+        Ok(place)
     }
 
     /// Where it waits for its key, what it touches is taken; else nothing is.

@@ -7,7 +7,7 @@ use actor_parts::copy_laws::{begins_with_nothing, calls_as_worlds};
 use seq_model::Value;
 
 /// Wherever events have led, an actor has of collections what its stage asks for, after each request, each failed allocation, and each step
-/// that is on no copy. The two steps on copies are in `loads_stay_own` and `copied_stay_own` of `tx_actor`.
+/// that is on no copy. The two steps on copies are in `loads_stay_own` and `copied_stay_own`.
 pub fn events_keep_copies<V: Value>()
     ensures steps { StepsKeep V }
     ensures starves { StarvesKeep V }

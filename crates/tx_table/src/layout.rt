@@ -19,7 +19,7 @@ pub(crate) fn stride(locations: usize) -> usize
 }
 
 impl<V: Value> TxTable<V> {
-    /// Where the lock word of a location is; its value is right behind it.
+    /// Where the lock word of a location is; its value is right after it.
     #[inline(always)]
     pub(crate) fn place(&self, location: u32) -> usize
         requires { location < locations_in self.now }

@@ -96,7 +96,6 @@ pub fn commit<V: Value>(
 /// memory and is never refused.
 #[inline(always)]
 pub fn go_home<V: Value>(
-    alloc: Global,
     table: &TxTable<V>,
     seat: &mut Seat<V>,
     actor: &mut TxActor<V>,
@@ -115,11 +114,8 @@ pub fn go_home<V: Value>(
     logs_as_worlds::<V>();
     copies_stay::<V>();
     copies_by_stage::<V>();
-    let mut log = actor.log_of(alloc, k);
     let mut base = first(bases);
-    log.fold(base.get_mut());
+    actor.folds(k, base.get_mut());
     table.put_gate(seat, k, base);
-    let told = actor.went_home();
-    actor.keep_log(log);
-    told
+    actor.went_home()
 }

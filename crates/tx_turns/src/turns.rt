@@ -152,7 +152,6 @@ fn copy_next<V: Value>(
 /// A base is put back with its log: whether that was quiet.
 #[inline(always)]
 fn home_next<V: Value>(
-    alloc: Global,
     table: &TxTable<V>,
     seat: &mut Seat<V>,
     actor: &mut TxActor<V>,
@@ -168,7 +167,7 @@ fn home_next<V: Value>(
     ensures ties { Ties table.now seat.new actor.new }
     ensures own { HasOwn table.now seat.new actor.new bases.new.items }
 {
-    says(go_home(alloc, table, seat, actor, bases, k), said)
+    says(go_home(table, seat, actor, bases, k), said)
 }
 
 /// A gate is put back: whether that was quiet.
@@ -248,7 +247,7 @@ pub(crate) fn turn_on_gate<V: Value>(
         Next::FirstStore => unreachable!(),
         Next::TryGate(k) => try_next(table, seat, actor, bases, said, k),
         Next::Copy(k) => copy_next(alloc, table, seat, actor, bases, said, k),
-        Next::GoHome(k) => Ok(home_next(alloc, table, seat, actor, bases, said, k)),
+        Next::GoHome(k) => Ok(home_next(table, seat, actor, bases, said, k)),
         Next::PutGate(k) => Ok(put_next(table, seat, actor, bases, said, k)),
     }
 }

@@ -1,0 +1,10 @@
+use Rattle.std.proofs.Common.{subst}
+use Rattle.replay_log.specs.Base.{editions_of}
+use Rattle.replay_log.specs.Log.{AreRaised}
+use Rattle.shadow.specs.Shadow.{ShadowView}
+use Rattle.shadow.proofs.shadow.Shadow.fold.Goals as goal
+
+pub returns-clause-editions : goal.returns-clause-editions
+returns-clause-editions g c =
+    subst (λ (s : ShadowView g.row.V.Denot). AreRaised s.locations (editions_of c.args.base.now) (editions_of c.fold.new.base))
+    c.self.view_is c.fold.ensures.editions

@@ -1,0 +1,127 @@
+//! What a call on a key changes, and where it reads and writes.
+ghost use Rattle.std.specs.Prelude.{◌≡◌, ◌<◌, [], ◌∷◌, None, IfOk, IfSome, OnOk, option_to_list};
+ghost use Rattle.base_bag.specs.Conflicts as bag;
+ghost use Rattle.base_map.specs.Conflicts as of_map;
+ghost use Rattle.replay_log.specs.Base.{changes_of, shown_of, writes_of};
+ghost use Rattle.shadow.specs.KeyPlace.{written_there};
+ghost use Rattle.shadow.specs.Memo.{blank_of};
+
+use crate::memo::{KeyPlace, MemoKind};
+use conflict::{Change, Outcome};
+use seq_model::{Memory, Op, Reply, Value};
+
+/// What an outcome changes is put into this place. Answers the location that it writes; without one it changes nothing.
+pub(crate) fn put_change<V: Value>(
+    change: &mut Option<Change<V>>,
+    kind: MemoKind,
+    stripes: u32,
+    outcome: &Outcome<V>,
+) -> Result<Option<u32>, Memory>
+    requires { 0 < stripes }
+    ensures change { OnOk result (option_to_list change.new ≡ changes_of outcome.now (shown_of (blank_of kind stripes))) }
+    ensures written { IfOk result (λ written. option_to_list written ≡ writes_of stripes outcome.now (shown_of (blank_of kind stripes))) }
+    ensures none { IfOk result (λ written. written ≡ None → change.new ≡ None) }
+{
+    match kind {
+        MemoKind::Map => put_entry_change(change, stripes, outcome),
+        MemoKind::Bag => put_copies_change(change, stripes, outcome),
+    }
+}
+
+fn put_entry_change<V: Value>(
+    change: &mut Option<Change<V>>,
+    stripes: u32,
+    outcome: &Outcome<V>,
+) -> Result<Option<u32>, Memory>
+    requires { 0 < stripes }
+    ensures change { OnOk result (option_to_list change.new ≡ of_map.changes_of outcome.now) }
+    ensures written { IfOk result (λ written. option_to_list written ≡ of_map.writes_of stripes outcome.now) }
+    ensures none { IfOk result (λ written. written ≡ None → change.new ≡ None) }
+{
+    match (&outcome.op, &outcome.reply) {
+        (Op::Put(key, _), _) | (Op::Remove(key), Reply::Value(_)) => {
+            *change = base_map::change_in(outcome)?;
+            Ok(Some(base_map::place_in(stripes, *key)))
+        }
+        _ => {
+            no_change(change);
+            Ok(None)
+        }
+    }
+}
+
+fn put_copies_change<V: Value>(
+    change: &mut Option<Change<V>>,
+    stripes: u32,
+    outcome: &Outcome<V>,
+) -> Result<Option<u32>, Memory>
+    requires { 0 < stripes }
+    ensures change { OnOk result (option_to_list change.new ≡ bag.changes_of outcome.now) }
+    ensures written { IfOk result (λ written. option_to_list written ≡ bag.writes_of stripes outcome.now) }
+    ensures none { IfOk result (λ written. written ≡ None → change.new ≡ None) }
+{
+    match (&outcome.op, &outcome.reply) {
+        (Op::Add(element), Reply::Done) | (Op::Take(element), Reply::Yes) => {
+            *change = base_bag::change_in(outcome)?;
+            Ok(Some(base_bag::place_in(stripes, *element)))
+        }
+        _ => {
+            no_change(change);
+            Ok(None)
+        }
+    }
+}
+
+// There is seldom a change left from a call that was not made, and to let it go takes a function of its own.
+fn no_change<V: Drop>(change: &mut Option<Change<V>>)
+    ensures { change.new ≡ None }
+{
+    if change.is_some() {
+        let_go(change);
+    }
+}
+
+#[inline(never)]
+fn let_go<V: Drop>(change: &mut Option<Change<V>>)
+    ensures { change.new ≡ None }
+{
+    *change = None;
+}
+
+/// The location of the key of an outcome in so many stripes of a map, and whether it writes there.
+pub(crate) fn entry_place<V>(stripes: u32, outcome: &Outcome<V>) -> Option<KeyPlace>
+    requires { 0 < stripes }
+    ensures reads { IfSome result (λ at. of_map.reads_of stripes outcome.now ≡ at.location ∷ []) }
+    ensures writes { IfSome result (λ at. of_map.writes_of stripes outcome.now ≡ written_there at) }
+{
+    match (&outcome.op, &outcome.reply) {
+        (Op::Put(key, _), _) | (Op::Remove(key), Reply::Value(_)) => Some(KeyPlace {
+            location: base_map::place_in(stripes, *key),
+            written: true,
+        }),
+        (Op::Get(key) | Op::Remove(key), _) => Some(KeyPlace {
+            location: base_map::place_in(stripes, *key),
+            written: false,
+        }),
+        _ => None,
+    }
+}
+
+/// Likewise in a multiset.
+pub(crate) fn copies_place<V>(stripes: u32, outcome: &Outcome<V>) -> Option<KeyPlace>
+    requires { 0 < stripes }
+    ensures reads { IfSome result (λ at. bag.reads_of stripes outcome.now ≡ at.location ∷ []) }
+    ensures writes { IfSome result (λ at. bag.writes_of stripes outcome.now ≡ written_there at) }
+{
+    match (&outcome.op, &outcome.reply) {
+        (Op::Add(element), Reply::Done) | (Op::Take(element), Reply::Yes) => Some(KeyPlace {
+            location: base_bag::place_in(stripes, *element),
+            written: true,
+        }),
+        (Op::Count(element) | Op::Add(element) | Op::Take(element), _) => Some(KeyPlace {
+            location: base_bag::place_in(stripes, *element),
+            written: false,
+        }),
+        _ => None,
+    }
+}
