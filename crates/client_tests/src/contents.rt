@@ -5,13 +5,6 @@ use std::alloc::AllocError;
 use std::fmt::Write;
 use wolimevar::{Contents, Memory};
 
-fn number_in<V: Number>(value: Option<&V>) -> Option<u64> {
-    match value {
-        Some(value) => Some(value.number()),
-        None => None,
-    }
-}
-
 /// Prints what these handles find: the first word, key 2 of the map, the copies of 3, the least element and the first item.
 fn print_found<V: Number>(
     text: &mut String,
@@ -20,22 +13,17 @@ fn print_found<V: Number>(
     handles: &Handles<V>,
 ) -> Result<(), AllocError> {
     let word = contents.word(handles.words[0]);
-    let value = match contents.map(handles.map) {
-        Some(entries) => number_in(entries.get(2)),
-        None => None,
-    };
-    let copies = match contents.bag(handles.bag) {
-        Some(counts) => Some(counts.copies(3)),
-        None => None,
-    };
-    let least = match contents.priority_queue(handles.least) {
-        Some(counts) => counts.least(),
-        None => None,
-    };
-    let first = match contents.queue(handles.queue) {
-        Some(items) => items.first(),
-        None => None,
-    };
+    let value = contents
+        .map(handles.map)
+        .and_then(|entries| entries.get(2))
+        .map(|value| value.number());
+    let copies = contents.bag(handles.bag).map(|counts| counts.copies(3));
+    let least = contents
+        .priority_queue(handles.least)
+        .and_then(|counts| counts.least());
+    let first = contents
+        .queue(handles.queue)
+        .and_then(|items| items.first());
     writeln!(
         text,
         "{name} = {word:?} {value:?} {copies:?} {least:?} {first:?}"
@@ -56,7 +44,7 @@ fn print_wide<V: Number>(
     for (key, _) in entries.iter() {
         keys = keys.saturating_add(*key);
     }
-    let (len, value) = (entries.len(), number_in(entries.get(2)));
+    let (len, value) = (entries.len(), entries.get(2).map(|value| value.number()));
     let (mut copies, mut elements) = (0, 0u64);
     if let Some(counts) = contents.bag(handles.wide_bag) {
         copies = counts.copies(3);
@@ -64,14 +52,22 @@ fn print_wide<V: Number>(
             elements = elements.saturating_add(1);
         }
     }
-    let items = match contents.lanes(handles.lanes) {
-        Some(lanes) => lanes.len(),
-        None => 0,
-    };
+    let items = contents.lanes(handles.lanes).map_or(0, |lanes| lanes.len());
     writeln!(
         text,
         "over gates = {len} {keys} {value:?} {copies} {elements} {items}"
     )
+}
+
+fn print_all<V: Number>(
+    text: &mut String,
+    contents: &Contents<V>,
+    all: &All<V>,
+) -> Result<(), AllocError> {
+    print_found(text, "contents", contents, &all.own)?;
+    print_wide(text, contents, &all.own)?;
+    print_found(text, "contents beyond the layout", contents, &all.beyond)?;
+    print_found(text, "contents of another store", contents, &all.other)
 }
 
 /// Prints what a store held as it was closed.
@@ -82,10 +78,9 @@ pub fn print_closed<V: Number>(
 ) -> Result<(), AllocError> {
     match closed {
         Ok(contents) => {
-            print_found(text, "contents", &contents, &all.own)?;
-            print_wide(text, &contents, &all.own)?;
-            print_found(text, "contents beyond the layout", &contents, &all.beyond)?;
-            print_found(text, "contents of another store", &contents, &all.other)
+            let printed = print_all(text, &contents, all);
+            drop(contents);
+            printed
         }
         Err(Memory) => writeln!(text, "contents = refused Memory"),
     }

@@ -62,23 +62,32 @@ impl Body<u64> for Calls {
 
     fn run<S: Scope<u64>>(&self, tx: &mut Transaction<'_, u64, S>) -> Result<String, Refusal> {
         let mut text = String::new(self.alloc);
-        call_word_and_map(&mut text, tx, &self.handles)?;
-        call_others(&mut text, tx, &self.handles)?;
+        call_word(&mut text, tx, self.handles.word)?;
+        call_map(&mut text, tx, self.handles.map)?;
+        call_bag(&mut text, tx, self.handles.bag)?;
+        call_priorities(&mut text, tx, self.handles.priorities)?;
+        call_queue(&mut text, tx, self.handles.queue)?;
         Ok(text)
     }
 }
 
-fn call_word_and_map<S: Scope<u64>>(
+fn call_word<S: Scope<u64>>(
     text: &mut String,
     tx: &mut Transaction<'_, u64, S>,
-    handles: &Handles,
+    word: Word,
 ) -> Result<(), Refusal> {
-    let (word, map) = (handles.word, handles.map);
     word.write(tx, 7)?;
     let held = word.read(tx)?; // 7
     word.write(tx, held.saturating_add(1))?;
     let then = word.read(tx)?; // 8
-    writeln!(text, "a word's calls = {held} {then}")?;
+    Ok(writeln!(text, "a word's calls = {held} {then}")?)
+}
+
+fn call_map<S: Scope<u64>>(
+    text: &mut String,
+    tx: &mut Transaction<'_, u64, S>,
+    map: Map<u64>,
+) -> Result<(), Refusal> {
     let before = map.put(tx, 1, 10)?; // None
     let held = map.put(tx, 1, 20)?; // Some(10)
     let found = map.get(tx, 1)?; // Some(20)
@@ -91,27 +100,40 @@ fn call_word_and_map<S: Scope<u64>>(
     )?)
 }
 
-fn call_others<S: Scope<u64>>(
+fn call_bag<S: Scope<u64>>(
     text: &mut String,
     tx: &mut Transaction<'_, u64, S>,
-    handles: &Handles,
+    bag: Bag,
 ) -> Result<(), Refusal> {
-    let (bag, priorities, queue) = (handles.bag, handles.priorities, handles.queue);
     bag.add(tx, 3)??;
     bag.add(tx, 3)??;
     let copies = bag.count(tx, 3)?; // 2
     let taken = bag.take(tx, 3)?; // true
     let left = bag.count(tx, 3)?; // 1
-    writeln!(text, "a multiset's calls = {copies} {taken} {left}")?;
+    Ok(writeln!(text, "a multiset's calls = {copies} {taken} {left}")?)
+}
+
+fn call_priorities<S: Scope<u64>>(
+    text: &mut String,
+    tx: &mut Transaction<'_, u64, S>,
+    priorities: PriorityQueue,
+) -> Result<(), Refusal> {
     priorities.insert(tx, 5)??;
     priorities.insert(tx, 4)??;
     let least = priorities.least(tx)?; // Some(4)
     let taken = priorities.take_least(tx)?; // Some(4)
     let then = priorities.least(tx)?; // Some(5)
-    writeln!(
+    Ok(writeln!(
         text,
         "a priority queue's calls = {least:?} {taken:?} {then:?}"
-    )?;
+    )?)
+}
+
+fn call_queue<S: Scope<u64>>(
+    text: &mut String,
+    tx: &mut Transaction<'_, u64, S>,
+    queue: Queue,
+) -> Result<(), Refusal> {
     queue.enqueue(tx, 6)??;
     queue.enqueue(tx, 7)??;
     let first = queue.peek(tx)?; // Some(6)
@@ -171,18 +193,13 @@ fn call_store(text: &mut String, store: &mut Store<u64>, word: Word) -> Result<(
     )?)
 }
 
-/// What a store does before it lends clients.
-fn serve<R: Threads + Sync>(
+fn serve_visits<R: Threads + Sync>(
     rt: &R,
     text: &mut String,
     store: &mut Store<u64>,
-    handles: Handles,
+    word: Word,
 ) -> Result<(), Refusal> {
     let alloc = *text.allocator();
-    let word = handles.word;
-    call_store(text, store, word)?;
-    let (answers, _) = store.atomically(1_000, &Calls { alloc, handles })?;
-    text.push_str(answers.as_str())?;
     let visits = vec![in alloc; Visit { alloc, word }]?;
     let outs = store.run(rt, visits)?;
     for out in outs {
@@ -222,14 +239,12 @@ fn lend<R: Threads + Sync>(
     let last = client.last_number() == read.number; // true
     let ahead = client.learn(99); // Err(Ahead { clock: 4 })
     let refusals = client.tally().refusals(); // 0
-    drop(written);
-    drop(read);
-    drop(client);
-    let out = lender.take_back(); // 0
     writeln!(
         text,
         "a lent client's calls = {held} {then} {same} {last} {ahead:?} {refusals}"
     )?;
+    drop(client);
+    let out = lender.take_back(); // 0
     spawn_visit(rt, text, &mut lender, word)?;
     let Ok(store) = lender.end() else {
         return Err(Refusal::NotIdle);
@@ -387,7 +402,10 @@ fn print_values(text: &mut String) -> Result<(), Refusal> {
 
 pub fn test<R: Threads + Sync>(rt: &R, alloc: Global, text: &mut String) -> Result<(), Refusal> {
     let (mut store, handles) = open(alloc)?;
-    serve(rt, text, &mut store, handles)?;
+    call_store(text, &mut store, handles.word)?;
+    let (answers, _) = store.atomically(1_000, &Calls { alloc, handles })?;
+    text.push_str(answers.as_str())?;
+    serve_visits(rt, text, &mut store, handles.word)?;
     lend(rt, text, store, handles.word)?;
     let (store, handles) = open_filled(alloc)?;
     print_contents(text, store, handles)?;

@@ -1,5 +1,5 @@
 //! The stores, and the handles by which rows call them: their own, and some that they don't have.
-use crate::numbers::{Number, entries};
+use crate::numbers::Number;
 use std::alloc::Global;
 use wolimevar::{
     Bag, Counts, Lanes, Layout, Map, Memory, PriorityQueue, Queue, QueueItems, Refusal, Store, Word,
@@ -37,14 +37,12 @@ pub struct All<V> {
 impl<V> All<V> {
     /// The handles that a word names, and which of them: `other.map` is the map of another store, and `map` the store's own.
     pub fn named<'a>(&'a self, word: &'a str) -> (&'a Handles<V>, &'a str) {
-        let (of, name) = word.split_once('.').unwrap_or(("", word));
-        let handles = match of {
-            "other" => &self.other,
-            "beyond" => &self.beyond,
-            "reversed" => &self.reversed,
-            _ => &self.own,
-        };
-        (handles, name)
+        match word.split_once('.') {
+            Some(("other", name)) => (&self.other, name),
+            Some(("beyond", name)) => (&self.beyond, name),
+            Some(("reversed", name)) => (&self.reversed, name),
+            _ => (&self.own, word),
+        }
     }
 }
 
@@ -61,13 +59,13 @@ fn words<V: Number>(layout: &mut Layout<V>) -> Result<[Word; 3], Refusal> {
 fn lay_out<V: Number>(alloc: Global, layout: &mut Layout<V>) -> Result<Handles<V>, Refusal> {
     Ok(Handles {
         words: words(layout)?,
-        map: layout.map(2, entries(alloc)?)?,
+        map: layout.map(2, V::entries(alloc)?)?,
         bag: layout.bag(2, Counts::new(alloc))?,
         least: layout.priority_queue(2, Counts::new(alloc))?,
         queue: layout.queue(1, QueueItems::new(alloc))?,
         full_bag: layout.bag(1, full(alloc)?)?,
         full_least: layout.priority_queue(1, full(alloc)?)?,
-        wide_map: layout.map_over(3, 2, entries(alloc)?)?,
+        wide_map: layout.map_over(3, 2, V::entries(alloc)?)?,
         wide_bag: layout.bag_over(3, 2, Counts::new(alloc))?,
         lanes: layout.lanes(3, 1, QueueItems::new(alloc))?,
     })
@@ -83,32 +81,47 @@ fn lay_out_reversed<V: Number>(
         queue: layout.queue(1, QueueItems::new(alloc))?,
         least: layout.priority_queue(1, Counts::new(alloc))?,
         bag: layout.bag(1, Counts::new(alloc))?,
-        map: layout.map(1, entries(alloc)?)?,
+        map: layout.map(1, V::entries(alloc)?)?,
         full_least: layout.priority_queue(1, full(alloc)?)?,
         full_bag: layout.bag(1, full(alloc)?)?,
         wide_bag: layout.bag_over(3, 1, Counts::new(alloc))?,
         lanes: layout.lanes(3, 1, QueueItems::new(alloc))?,
-        wide_map: layout.map_over(3, 1, entries(alloc)?)?,
+        wide_map: layout.map_over(3, 1, V::entries(alloc)?)?,
     })
 }
 
-/// All handles for a store of this number. Those beyond its layout are of one that goes on where the store's own ends.
+fn lay_out_twice<V: Number>(alloc: Global, layout: &mut Layout<V>) -> Result<Handles<V>, Refusal> {
+    lay_out(alloc, layout)?;
+    lay_out(alloc, layout)
+}
+
+/// How a layout is laid out.
+#[derive(Clone, Copy)]
+enum Order {
+    Own,
+    Reversed,
+    Twice,
+}
+
+/// Handles of a store of this number, which is never opened.
+fn handles_of<V: Number>(alloc: Global, number: u32, order: Order) -> Result<Handles<V>, Refusal> {
+    let mut layout = Layout::numbered(alloc, number);
+    let handles = match order {
+        Order::Own => lay_out(alloc, &mut layout),
+        Order::Reversed => lay_out_reversed(alloc, &mut layout),
+        Order::Twice => lay_out_twice(alloc, &mut layout),
+    };
+    drop(layout);
+    handles
+}
+
+/// All handles for a store of this number.
 pub fn all_of<V: Number>(alloc: Global, number: u32) -> Result<All<V>, Refusal> {
-    let mut layout = Layout::numbered(alloc, number);
-    let own = lay_out(alloc, &mut layout);
-    let beyond = lay_out(alloc, &mut layout);
-    drop(layout);
-    let mut layout = Layout::numbered(alloc, number.saturating_add(1));
-    let other = lay_out(alloc, &mut layout);
-    drop(layout);
-    let mut layout = Layout::numbered(alloc, number);
-    let reversed = lay_out_reversed(alloc, &mut layout);
-    drop(layout);
     Ok(All {
-        own: own?,
-        other: other?,
-        beyond: beyond?,
-        reversed: reversed?,
+        own: handles_of(alloc, number, Order::Own)?,
+        other: handles_of(alloc, number.saturating_add(1), Order::Own)?,
+        beyond: handles_of(alloc, number, Order::Twice)?,
+        reversed: handles_of(alloc, number, Order::Reversed)?,
     })
 }
 

@@ -2,17 +2,45 @@
 //! their own. Then one is dropped after a body that has aborted, and as many are lent as there can be.
 use crate::examples::Count;
 use crate::scripts::TRIES;
-use crate::steps::Ended;
 use std::alloc::Global;
 use std::fmt::Write;
 use std::thread::Threads;
 use wolimevar::{
-    Body, Client, Failure, Layout, Lender, LentClient, Refusal, Scope, Session, StillLent,
+    Body, Client, Failure, Layout, Lender, LentClient, Refusal, Scope, Session, StillLent, Store,
     Transaction, Word,
 };
 
 /// One more than the clients that may be lent at once.
 const ONE_TOO_MANY: u64 = 64;
+
+/// What transactions that count a word have read: how many committed, and the sum of what the word held before each.
+#[derive(Clone, Copy)]
+struct Made {
+    commits: u64,
+    sum: u64,
+}
+
+impl Made {
+    fn and(self, other: Made) -> Made {
+        Made {
+            commits: self.commits.saturating_add(other.commits),
+            sum: self.sum.saturating_add(other.sum),
+        }
+    }
+}
+
+/// Why a body undoes what it has done.
+#[derive(Drop)]
+enum Undone {
+    Wanted,
+    Refused(Refusal),
+}
+
+impl From<Refusal> for Undone {
+    fn from(refusal: Refusal) -> Undone {
+        Undone::Refused(refusal)
+    }
+}
 
 /// A word is written, and then the body aborts.
 #[derive(Drop)]
@@ -21,50 +49,46 @@ struct Undo(Word);
 impl Body<u64> for Undo {
     type Out = ();
 
-    type Error = Ended;
+    type Error = Undone;
 
-    fn run<S: Scope<u64>>(&self, tx: &mut Transaction<'_, u64, S>) -> Result<(), Ended> {
+    fn run<S: Scope<u64>>(&self, tx: &mut Transaction<'_, u64, S>) -> Result<(), Undone> {
         self.0.write(tx, 99)?;
-        Err(Ended::By(99))
+        Err(Undone::Wanted)
     }
 }
 
-/// What transactions that count a word have read: how many committed, and the sum of what the word held before each.
-#[derive(Drop)]
-struct Made {
-    commits: u64,
-    sum: u64,
-}
-
-fn work(client: &mut LentClient<u64>, word: Word, made: &mut Made) {
+fn work(client: &mut LentClient<u64>, word: Word) -> Made {
+    let mut made = Made { commits: 0, sum: 0 };
     for _ in 0..10u64 {
         if let Ok((read, _)) = client.atomically(TRIES, &Count(word)) {
-            made.commits = made.commits.saturating_add(1);
-            made.sum = made.sum.saturating_add(read);
+            made = made.and(Made {
+                commits: 1,
+                sum: read,
+            });
         }
     }
+    made
 }
 
-/// Two clients work. The lender, which is given back, is asked to end meanwhile.
+/// What two clients made, and the lender, which was asked to end meanwhile.
 fn run_both(
     text: &mut String,
     mut lender: Lender<u64>,
     word: Word,
-    made: &mut Made,
-) -> Result<Lender<u64>, Refusal> {
+) -> Result<(Made, Lender<u64>), Refusal> {
     let mut first = lender.client()?;
     let mut second = lender.client()?;
-    work(&mut first, word, made);
+    let made = work(&mut first, word);
     let asked = lender.end();
     drop(first);
-    work(&mut second, word, made);
+    let others = work(&mut second, word);
     let Err(StillLent { mut lender, .. }) = asked else {
         return Err(Refusal::NotIdle);
     };
     let out = lender.take_back();
-    drop(second);
     writeln!(text, "two lent clients = no end, then {out} out")?;
-    Ok(lender)
+    drop(second);
+    Ok((made.and(others), lender))
 }
 
 /// Counts a word ten times, and returns how often that committed.
@@ -111,7 +135,7 @@ fn drop_after_abort(
 ) -> Result<(), Refusal> {
     let mut client = lender.client()?;
     let undone = client.atomically(9, &Undo(word));
-    let aborted = matches!(undone, Err(Failure::Aborted(Ended::By(99))));
+    let aborted = matches!(undone, Err(Failure::Aborted(Undone::Wanted)));
     let tally = client.tally();
     drop(undone);
     drop(client);
@@ -124,6 +148,13 @@ fn drop_after_abort(
     Ok(())
 }
 
+fn lend_all(lender: &mut Lender<u64>, clients: &mut Vec<LentClient<u64>>) -> Result<(), Refusal> {
+    for _ in 0..ONE_TOO_MANY {
+        clients.push(lender.client()?)?;
+    }
+    Ok(())
+}
+
 /// Clients are lent up to a refusal, and then all are dropped.
 fn lend_too_many(
     alloc: Global,
@@ -131,13 +162,7 @@ fn lend_too_many(
     lender: &mut Lender<u64>,
 ) -> Result<(), Refusal> {
     let mut clients = Vec::new(alloc);
-    let mut refused = Ok(());
-    for _ in 0..ONE_TOO_MANY {
-        match lender.client() {
-            Ok(client) => clients.push(client)?,
-            Err(refusal) => refused = Err(refusal),
-        }
-    }
+    let refused = lend_all(lender, &mut clients);
     let (count, out) = (clients.len(), lender.take_back());
     drop(clients);
     let then = lender.take_back();
@@ -150,30 +175,34 @@ fn lend_too_many(
     Ok(())
 }
 
-pub fn test<R: Threads>(rt: &R, alloc: Global, text: &mut String) -> Result<(), Refusal> {
+fn open(alloc: Global) -> Result<(Store<u64>, Word), Refusal> {
     let mut layout = Layout::new(alloc);
     let word = layout.word(0)?;
-    let Ok(lender) = layout.open()?.lend() else {
+    let store = layout.open()?;
+    Ok((store, word))
+}
+
+pub fn test<R: Threads>(rt: &R, alloc: Global, text: &mut String) -> Result<(), Refusal> {
+    let (store, word) = open(alloc)?;
+    let Ok(lender) = store.lend() else {
         return Err(Refusal::Memory);
     };
-    let mut made = Made { commits: 0, sum: 0 };
-    let mut lender = run_both(text, lender, word, &mut made)?;
-    let served = serve_two(rt, text, &mut lender, word);
-    let aborted = drop_after_abort(text, &mut lender, word);
-    let refused = lend_too_many(alloc, text, &mut lender);
+    let (made, mut lender) = run_both(text, lender, word)?;
+    serve_two(rt, text, &mut lender, word)?;
+    drop_after_abort(text, &mut lender, word)?;
+    lend_too_many(alloc, text, &mut lender)?;
     let Ok(mut store) = lender.end() else {
         return Err(Refusal::NotIdle);
     };
-    served.and(aborted).and(refused)?;
     let (number, receipt) = store.atomically(TRIES, &Count(word))?;
     let is_last = store.last_number() == receipt.number;
-    drop(receipt);
     let contents = store.close()?;
     let left = contents.word(word);
     drop(contents);
     let Made { commits, sum } = made;
-    Ok(writeln!(
+    writeln!(
         text,
         "all lent clients = {commits} commits, sum {sum}, word {number}, its number the last {is_last}, left {left:?}"
-    )?)
+    )?;
+    Ok(())
 }

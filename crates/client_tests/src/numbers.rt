@@ -4,32 +4,25 @@ use wolimevar::{Entries, Memory, Value};
 
 /// A value that a number spells.
 pub trait Number: Value {
-    /// What the maps of a store hold at first: keys, and the numbers of their values.
-    const FIRST: &'static [(u64, u64)];
-
     fn of(number: u64) -> Self;
 
     fn number(&self) -> u64;
-}
 
-/// What a map of a store holds at first.
-pub fn entries<V: Number>(alloc: Global) -> Result<Entries<V>, Memory> {
-    let mut entries = Entries::new(alloc);
-    for (key, number) in V::FIRST {
-        entries.insert(*key, V::of(*number))?;
-    }
-    Ok(entries)
+    /// What the map of a store holds at first.
+    fn entries(alloc: Global) -> Result<Entries<Self>, Memory>;
 }
 
 impl Number for u64 {
-    const FIRST: &'static [(u64, u64)] = &[];
-
     fn of(number: u64) -> u64 {
         number
     }
 
     fn number(&self) -> u64 {
         *self
+    }
+
+    fn entries(alloc: Global) -> Result<Entries<u64>, Memory> {
+        Ok(Entries::new(alloc))
     }
 }
 
@@ -55,13 +48,18 @@ impl Value for Brittle {
 }
 
 impl Number for Brittle {
-    const FIRST: &'static [(u64, u64)] = &[(1, 13), (2, 5)];
-
     fn of(number: u64) -> Brittle {
         Brittle { number }
     }
 
     fn number(&self) -> u64 {
         self.number
+    }
+
+    fn entries(alloc: Global) -> Result<Entries<Brittle>, Memory> {
+        let mut entries = Entries::new(alloc);
+        entries.insert(1, Brittle { number: 13 })?;
+        entries.insert(2, Brittle { number: 5 })?;
+        Ok(entries)
     }
 }

@@ -1,7 +1,7 @@
 //! The rows, and the answer to each.
 use crate::contents::print_closed;
 use crate::handles::{All, all_of, open};
-use crate::layouts::refused;
+use crate::layouts::opens;
 use crate::numbers::{Brittle, Number};
 use crate::refusals::{print_explained, print_failures};
 use crate::scripts::{Script, print_ran, run_at_store};
@@ -38,11 +38,7 @@ pub fn answer_all<R: Threads + Sync>(
     let mut count = 0u64;
     for part in rows.split("\n\n") {
         let (first, rest) = part.split_once('\n').unwrap_or((part, ""));
-        for row in part.lines() {
-            if is_row(row) {
-                count = count.saturating_add(1);
-            }
-        }
+        count = count.saturating_add(count_of(part));
         match answer_part(rt, alloc, text, first, rest) {
             Ok(()) => {}
             Err(Refusal::Memory) => return Err(AllocError),
@@ -56,6 +52,10 @@ fn is_row(row: &str) -> bool {
     !matches!(row.as_bytes(), [] | [b'#', ..])
 }
 
+fn count_of(part: &str) -> u64 {
+    part.lines().filter(|row| is_row(row)).count() as u64
+}
+
 fn answer_part<R: Threads + Sync>(
     rt: &R,
     alloc: Global,
@@ -64,12 +64,11 @@ fn answer_part<R: Threads + Sync>(
     rows: &str,
 ) -> Result<(), Refusal> {
     writeln!(text, "{first}")?;
-    let (kind, number) = first.split_once(' ').unwrap_or((first, ""));
-    match kind {
-        "store" => answer_at::<R, u64>(rt, alloc, text, number, rows),
-        "brittle" => answer_at::<R, Brittle>(rt, alloc, text, number, rows),
-        "lent" => lent::test(rt, alloc, text),
-        "examples" => examples::test(rt, alloc, text),
+    match first.split_once(' ') {
+        Some(("store", number)) => answer_at::<R, u64>(rt, alloc, text, number, rows),
+        Some(("brittle", number)) => answer_at::<R, Brittle>(rt, alloc, text, number, rows),
+        None if first == "lent" => lent::test(rt, alloc, text),
+        None if first == "examples" => examples::test(rt, alloc, text),
         _ => answer_rows_alone(alloc, text, rows),
     }
 }
@@ -102,46 +101,66 @@ fn answer_rows<R: Threads + Sync, V: Number + Send + Sync>(
     for row in rows.lines() {
         if is_row(row) {
             write!(text, "{row} = ")?;
-            let (verb, steps) = row.split_once(' ').unwrap_or((row, ""));
-            let script = Script { alloc, all, steps };
-            let answered = match verb {
-                "clients" => answer_clients(rt, text, store, &script),
-                "learn" => {
-                    let learnt = store.learn(number_of(steps));
-                    print_learnt(text, learnt, store.last_number())
-                }
-                "tally" => print_tally(text, store.tally()),
-                _ => print_ran(text, &run_at_store(store, verb, &script)),
-            };
-            answered?;
+            answer(rt, alloc, text, store, all, row)?;
             text.push('\n')?;
         }
     }
     Ok(())
 }
 
+fn answer<R: Threads + Sync, V: Number + Send + Sync>(
+    rt: &R,
+    alloc: Global,
+    text: &mut String,
+    store: &mut Store<V>,
+    all: &All<V>,
+    row: &str,
+) -> Result<(), AllocError> {
+    let (verb, steps) = row.split_once(' ').unwrap_or((row, ""));
+    let script = Script { alloc, all, steps };
+    match verb {
+        "clients" => answer_clients(rt, text, store, &script),
+        "learn" => {
+            let learnt = store.learn(number_of(steps));
+            print_learnt(text, learnt, store.last_number())
+        }
+        "tally" => print_tally(text, store.tally()),
+        _ => print_ran(text, &run_at_store(store, verb, &script)),
+    }
+}
+
 fn answer_rows_alone(alloc: Global, text: &mut String, rows: &str) -> Result<(), Refusal> {
     for row in rows.lines() {
         if is_row(row) {
-            let (verb, asked) = row.split_once(' ').unwrap_or((row, ""));
-            match verb {
-                "layout" => match refused(alloc, asked) {
-                    None => writeln!(text, "{row} = opens")?,
-                    Some(refusal) => writeln!(text, "{row} = {refusal}")?,
-                },
-                "value" => {
-                    write!(text, "{row} = ")?;
-                    print_given(text, asked)?;
-                }
-                "tally" => {
-                    text.push_str("tally = ")?;
-                    print_tally(text, Tally::new())?;
-                    text.push('\n')?;
-                }
-                "failures" => print_failures(text)?,
-                _ => print_explained(text)?,
-            }
+            answer_alone(alloc, text, row)?;
         }
     }
     Ok(())
+}
+
+fn answer_alone(alloc: Global, text: &mut String, row: &str) -> Result<(), Refusal> {
+    match row.split_once(' ') {
+        Some(("layout", asked)) => match opens(alloc, asked) {
+            Ok(()) => writeln!(text, "{row} = opens")?,
+            Err(refusal) => writeln!(text, "{row} = {refusal}")?,
+        },
+        Some((_, name)) => {
+            write!(text, "{row} = ")?;
+            print_given(text, name)?;
+        }
+        None => answer_word(text, row)?,
+    }
+    Ok(())
+}
+
+fn answer_word(text: &mut String, row: &str) -> Result<(), AllocError> {
+    match row {
+        "tally" => {
+            text.push_str("tally = ")?;
+            print_tally(text, Tally::new())?;
+            text.push('\n')
+        }
+        "failures" => print_failures(text),
+        _ => print_explained(text),
+    }
 }

@@ -1,7 +1,7 @@
 //! Transactions that a row spells.
 use crate::handles::All;
 use crate::numbers::Number;
-use crate::steps::{Ended, take};
+use crate::steps::{Ended, take_all};
 use std::alloc::{AllocError, Global};
 use std::fmt::Write;
 use wolimevar::{Body, Client, Failure, Receipt, Scope, Store, Transaction};
@@ -24,9 +24,7 @@ impl<V: Number> Body<V> for Script<'_, V> {
 
     fn run<S: Scope<V>>(&self, tx: &mut Transaction<'_, V, S>) -> Result<String, Ended> {
         let mut text = String::new(self.alloc);
-        for step in self.steps.split("; ") {
-            take(&mut text, tx, self.all, step)?;
-        }
+        take_all(&mut text, tx, self.all, self.steps)?;
         Ok(text)
     }
 }

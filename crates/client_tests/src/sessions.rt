@@ -26,18 +26,27 @@ impl<V: Number> Session<V> for Guest<'_, V> {
 
     fn serve<S: Scope<V>>(self, client: &mut Client<'_, V, S>) -> Result<String, AllocError> {
         let mut text = String::new(self.alloc);
-        for part in self.parts.split(" / ") {
-            let before = text.len();
-            self.serve_part(&mut text, client, part)?;
-            if text.len() > before {
-                text.push_str(" / ")?;
-            }
-        }
+        self.serve_all(&mut text, client)?;
         Ok(text)
     }
 }
 
 impl<V: Number> Guest<'_, V> {
+    fn serve_all<S: Scope<V>>(
+        &self,
+        text: &mut String,
+        client: &mut Client<'_, V, S>,
+    ) -> Result<(), AllocError> {
+        for part in self.parts.split(" / ") {
+            let before = text.len();
+            self.serve_part(text, client, part)?;
+            if text.len() > before {
+                text.push_str(" / ")?;
+            }
+        }
+        Ok(())
+    }
+
     fn serve_part<S: Scope<V>>(
         &self,
         text: &mut String,
@@ -76,18 +85,20 @@ impl<V: Number> Guest<'_, V> {
         waited: &str,
     ) -> Result<(), AllocError> {
         let (number, step) = waited.split_once(' ').unwrap_or((waited, ""));
-        let number = number_of(number);
         for _ in 0..LOOKS {
-            let shown = match self.ran(client, "look", step) {
-                Ok((replies, _, _)) => number_of(replies.trim()),
-                Err(_) => 0,
-            };
-            if shown >= number {
+            if self.shows(client, step, number_of(number)) {
                 return Ok(());
             }
             yield_now();
         }
         text.push_str("waited in vain")
+    }
+
+    fn shows<S: Scope<V>>(&self, client: &mut Client<'_, V, S>, step: &str, number: u64) -> bool {
+        match self.ran(client, "look", step) {
+            Ok((replies, _, _)) => number_of(replies.trim()) >= number,
+            Err(_) => false,
+        }
     }
 }
 
@@ -113,6 +124,14 @@ pub fn print_tally(text: &mut String, tally: Tally) -> Result<(), AllocError> {
     )
 }
 
+fn guests<'a, V: Number>(guest: Guest<'a, V>, count: u64) -> Result<Vec<Guest<'a, V>>, AllocError> {
+    let mut guests = Vec::new(guest.alloc);
+    for _ in 0..count {
+        guests.push(guest)?;
+    }
+    Ok(guests)
+}
+
 /// Runs so many sessions, and prints what they print, and how many print nothing.
 pub fn answer_clients<R: Threads + Sync, V: Number + Send + Sync>(
     rt: &R,
@@ -121,24 +140,29 @@ pub fn answer_clients<R: Threads + Sync, V: Number + Send + Sync>(
     script: &Script<'_, V>,
 ) -> Result<(), AllocError> {
     let (count, parts) = script.steps.split_once(' ').unwrap_or((script.steps, ""));
-    let alloc = script.alloc;
     let guest = Guest {
-        alloc,
+        alloc: script.alloc,
         all: script.all,
         parts,
     };
-    match store.run(rt, vec![in alloc; guest; number_of(count) as usize]?) {
+    match store.run(rt, guests(guest, number_of(count))?) {
         Ok(outs) => {
-            let mut well = 0u64;
-            for out in outs {
-                match out {
-                    Ok(printed) if printed.is_empty() => well = well.saturating_add(1),
-                    Ok(printed) => text.push_str(printed.as_str())?,
-                    Err(_) => text.push_str("Memory / ")?,
-                }
-            }
-            write!(text, "{well} well")
+            let printed = print_outs(text, outs.as_slice());
+            drop(outs);
+            printed
         }
         Err(refusal) => write!(text, "{refusal}"),
     }
+}
+
+fn print_outs(text: &mut String, outs: &[Result<String, AllocError>]) -> Result<(), AllocError> {
+    let mut well = 0u64;
+    for out in outs {
+        match out {
+            Ok(printed) if printed.is_empty() => well = well.saturating_add(1),
+            Ok(printed) => text.push_str(printed.as_str())?,
+            Err(_) => text.push_str("Memory / ")?,
+        }
+    }
+    write!(text, "{well} well")
 }

@@ -58,17 +58,29 @@ impl fmt::Display for Reply {
     }
 }
 
-fn held<V: Number>(value: Option<V>) -> Reply {
-    match value {
-        Some(value) => Reply::Number(value.number()),
+fn found(number: Option<u64>) -> Reply {
+    match number {
+        Some(number) => Reply::Number(number),
         None => Reply::Nothing,
     }
+}
+
+fn held<V: Number>(value: Option<V>) -> Reply {
+    found(value.map(|value| value.number()))
 }
 
 fn room(room: Result<(), Full>) -> Reply {
     match room {
         Ok(()) => Reply::Done,
         Err(Full) => Reply::Full,
+    }
+}
+
+fn taken(was_there: bool) -> Reply {
+    if was_there {
+        Reply::Done
+    } else {
+        Reply::Nothing
     }
 }
 
@@ -86,13 +98,15 @@ fn on_word<V: Number, S: Scope<V>>(
     op: &str,
     number: u64,
 ) -> Result<Reply, Refusal> {
-    let number = match op {
-        "read" => return Ok(Reply::Number(word.read(tx)?)),
-        "write" => number,
-        _ => word.read(tx)?.saturating_add(1),
-    };
-    word.write(tx, number)?;
-    Ok(Reply::Done)
+    match op {
+        "read" => Ok(Reply::Number(word.read(tx)?)),
+        "write" => word.write(tx, number).map(|_| Reply::Done),
+        _ => {
+            let before = word.read(tx)?;
+            word.write(tx, before.saturating_add(1))
+                .map(|_| Reply::Done)
+        }
+    }
 }
 
 fn on_map<V: Number, S: Scope<V>>(
@@ -102,12 +116,12 @@ fn on_map<V: Number, S: Scope<V>>(
     key: u64,
     number: u64,
 ) -> Result<Reply, Refusal> {
-    Ok(match op {
-        "put" => held(map.put(tx, key, V::of(number))?),
-        "get" => held(map.get(tx, key)?),
-        "remove" => held(map.remove(tx, key)?),
-        _ => Reply::Number(map.len(tx)?),
-    })
+    match op {
+        "put" => map.put(tx, key, V::of(number)).map(held),
+        "get" => map.get(tx, key).map(held),
+        "remove" => map.remove(tx, key).map(held),
+        _ => map.len(tx).map(Reply::Number),
+    }
 }
 
 fn on_bag<V: Number, S: Scope<V>>(
@@ -116,17 +130,11 @@ fn on_bag<V: Number, S: Scope<V>>(
     op: &str,
     element: u64,
 ) -> Result<Reply, Refusal> {
-    Ok(match op {
-        "add" => room(bag.add(tx, element)?),
-        "take" => {
-            if bag.take(tx, element)? {
-                Reply::Done
-            } else {
-                Reply::Nothing
-            }
-        }
-        _ => Reply::Number(bag.count(tx, element)?),
-    })
+    match op {
+        "add" => bag.add(tx, element).map(room),
+        "take" => bag.take(tx, element).map(taken),
+        _ => bag.count(tx, element).map(Reply::Number),
+    }
 }
 
 fn on_least<V: Number, S: Scope<V>>(
@@ -135,11 +143,11 @@ fn on_least<V: Number, S: Scope<V>>(
     op: &str,
     element: u64,
 ) -> Result<Reply, Refusal> {
-    Ok(match op {
-        "insert" => room(queue.insert(tx, element)?),
-        "take" => held(queue.take_least(tx)?),
-        _ => held(queue.least(tx)?),
-    })
+    match op {
+        "insert" => queue.insert(tx, element).map(room),
+        "take" => queue.take_least(tx).map(found),
+        _ => queue.least(tx).map(found),
+    }
 }
 
 fn on_queue<V: Number, S: Scope<V>>(
@@ -148,12 +156,12 @@ fn on_queue<V: Number, S: Scope<V>>(
     op: &str,
     item: u64,
 ) -> Result<Reply, Refusal> {
-    Ok(match op {
-        "enqueue" => room(queue.enqueue(tx, item)?),
-        "dequeue" => held(queue.dequeue(tx)?),
-        "peek" => held(queue.peek(tx)?),
-        _ => Reply::Number(queue.len(tx)?),
-    })
+    match op {
+        "enqueue" => queue.enqueue(tx, item).map(room),
+        "dequeue" => queue.dequeue(tx).map(found),
+        "peek" => queue.peek(tx).map(found),
+        _ => queue.len(tx).map(Reply::Number),
+    }
 }
 
 fn on_lanes<V: Number, S: Scope<V>>(
@@ -162,11 +170,11 @@ fn on_lanes<V: Number, S: Scope<V>>(
     op: &str,
     item: u64,
 ) -> Result<Reply, Refusal> {
-    Ok(match op {
-        "enqueue" => room(lanes.enqueue(tx, item)?),
-        "dequeue" => held(lanes.dequeue(tx)?),
-        _ => Reply::Number(lanes.len(tx)?),
-    })
+    match op {
+        "enqueue" => lanes.enqueue(tx, item).map(room),
+        "dequeue" => lanes.dequeue(tx).map(found),
+        _ => lanes.len(tx).map(Reply::Number),
+    }
 }
 
 /// Makes the call that a step spells: a handle, what is done, and up to two numbers.
@@ -202,9 +210,23 @@ fn word_of(words: [Word; 3], name: &str) -> Word {
     }
 }
 
-/// Takes a step. Where it ends in `?`, what refuses it ends the body. After `until refused` stands a call that is made as often as it is
-/// answered: how often that was is printed, and what refused it then.
-pub fn take<V: Number, S: Scope<V>>(
+/// Takes a step as often as it is answered: how often that was, and what refused it then.
+fn repeat<V: Number, S: Scope<V>>(
+    text: &mut String,
+    tx: &mut Transaction<'_, V, S>,
+    all: &All<V>,
+    step: &str,
+) -> Result<(), AllocError> {
+    for count in 0..TIMES {
+        if let Err(refusal) = make(tx, all, step) {
+            return write!(text, "{count} times, then {refusal} ");
+        }
+    }
+    write!(text, "{TIMES} times ")
+}
+
+/// Takes a step. Where it ends in `?`, what refuses it ends the body.
+fn take<V: Number, S: Scope<V>>(
     text: &mut String,
     tx: &mut Transaction<'_, V, S>,
     all: &All<V>,
@@ -213,21 +235,28 @@ pub fn take<V: Number, S: Scope<V>>(
     if let Some(number) = step.strip_prefix("abort ") {
         return Err(Ended::By(number_of(number)));
     }
-    if let Some(call) = step.strip_prefix("until refused ") {
-        for count in 0..TIMES {
-            if let Err(refusal) = make(tx, all, call) {
-                return Ok(write!(text, "{count} times, then {refusal} ")?);
-            }
-        }
-        return Ok(write!(text, "{TIMES} times ")?);
+    if let Some(step) = step.strip_prefix("until refused ") {
+        return Ok(repeat(text, tx, all, step)?);
     }
-    let (call, ends) = match step.strip_suffix(" ?") {
-        Some(call) => (call, true),
-        None => (step, false),
-    };
-    match make(tx, all, call) {
+    if let Some(step) = step.strip_suffix(" ?") {
+        let reply = make(tx, all, step)?;
+        return Ok(write!(text, "{reply} ")?);
+    }
+    match make(tx, all, step) {
         Ok(reply) => Ok(write!(text, "{reply} ")?),
-        Err(refusal) if ends => Err(Ended::Refused(refusal)),
         Err(refusal) => Ok(write!(text, "{refusal} ")?),
     }
+}
+
+/// Takes all steps.
+pub fn take_all<V: Number, S: Scope<V>>(
+    text: &mut String,
+    tx: &mut Transaction<'_, V, S>,
+    all: &All<V>,
+    steps: &str,
+) -> Result<(), Ended> {
+    for step in steps.split("; ") {
+        take(text, tx, all, step)?;
+    }
+    Ok(())
 }

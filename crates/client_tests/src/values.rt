@@ -1,7 +1,9 @@
 //! Values of each type that maps may hold: a map gives back what was put.
 use std::alloc::Global;
 use std::fmt::Write;
-use wolimevar::{Body, Entries, Layout, Map, Refusal, Scope, Shared, Text, Transaction, Value};
+use wolimevar::{
+    Body, Entries, Layout, Map, Refusal, Scope, Shared, Store, Text, Transaction, Value,
+};
 
 /// A value is put, and got again.
 #[derive(Drop)]
@@ -21,20 +23,25 @@ impl<V: Value> Body<V> for GiveBack<V> {
     }
 }
 
-/// What a map gives back of the value, if that is the same.
-fn gives_back<V: Value>(alloc: Global, value: V) -> Result<Option<V>, Refusal> {
+fn open<V: Value>(alloc: Global) -> Result<(Store<V>, Map<V>), Refusal> {
     let mut layout = Layout::new(alloc);
     let map = layout.map(1, Entries::new(alloc))?;
-    let mut store = layout.open()?;
+    let store = layout.open()?;
+    Ok((store, map))
+}
+
+fn given<V: Value>(store: &mut Store<V>, body: &GiveBack<V>) -> Result<Option<V>, Refusal> {
+    let (given, _) = store.atomically(1, body)?;
+    Ok(given)
+}
+
+/// What a map gives back of the value, if that is the same.
+fn gives_back<V: Value>(alloc: Global, value: V) -> Result<Option<V>, Refusal> {
+    let (mut store, map) = open(alloc)?;
     let body = GiveBack { map, value };
-    let given = store.atomically(1, &body);
+    let given = given(&mut store, &body);
     drop(store);
-    let (given, _) = given?;
-    let is_same = match &given {
-        Some(given) => given.same(&body.value),
-        None => false,
-    };
-    Ok(if is_same { given } else { None })
+    Ok(given?.filter(|given| given.same(&body.value)))
 }
 
 fn print_same<V: Value>(text: &mut String, value: V) -> Result<(), Refusal> {
@@ -46,10 +53,7 @@ fn print_same<V: Value>(text: &mut String, value: V) -> Result<(), Refusal> {
 fn print_text(text: &mut String) -> Result<(), Refusal> {
     let alloc = *text.allocator();
     let given = gives_back(alloc, Text::of(alloc, "Ada")?)?;
-    let given = match &given {
-        Some(given) => given.as_str(),
-        None => "",
-    };
+    let given = given.as_ref().map_or("", |given| given.as_str());
     Ok(writeln!(text, "{given}")?)
 }
 
@@ -57,10 +61,7 @@ fn print_shared(text: &mut String) -> Result<(), Refusal> {
     let alloc = *text.allocator();
     let shared = Text::from(format!(in alloc; "shared by {}", 2)?);
     let given = gives_back(alloc, Shared::new(alloc, shared)?)?;
-    let given = match &given {
-        Some(given) => given.get().as_str(),
-        None => "",
-    };
+    let given = given.as_ref().map_or("", |given| given.get().as_str());
     Ok(writeln!(text, "{given}")?)
 }
 
