@@ -1,20 +1,20 @@
 #!/usr/bin/env bash
 # Draws the pictures of docs/pictures from the figures beside them.
 #
-#     scripts/plot.sh              draws each NAME.svg from its figures
-#     scripts/plot.sh measure      measures the figures anew, in about an hour, and draws
+#     scripts/plot.sh                      draws each NAME.svg from its figures
+#     scripts/plot.sh measure [NAME ..]    measures the figures anew, in about an hour, or those named alone, and draws
 #
 # Figures are lines of numbers with commas between them, after a line of names; a line with # says when, on what machine and by what they
 # were measured. Titles are made of them, too, so a picture never says what its figures don't.
 #
-# Measure on an idle machine. With PEERS=1 other transactional memories are measured beside this one, too, as scripts/beside_peers.sh runs
-# them. ROUNDS says how often each is measured, three times where it is left out.
+# NAME is sessions, transactions, gates, sizes, refusals or peers; peers, other transactional memories as scripts/beside_peers.sh runs them,
+# are measured where they are named. Measure on an idle machine. ROUNDS says how often each is measured, three times where it is left out.
 #
 # It draws with gnuplot, which it installs where it isn't there.
 set -eu
 
 usage() {
-    sed -n '2,14s/^# \{0,1\}//p' "$0" >&2
+    sed -n '2,13s/^# \{0,1\}//p' "$0" >&2
     exit 2
 }
 
@@ -66,6 +66,22 @@ measure_transactions() {
     } | sed -nE \
         -e 's/^(a )?([a-z]+), ([0-9]+) writes of ten calls, ([0-9]+) threads, one lock: ([0-9.]+) thousand.*/\2,\3,one lock,\4,\5/p' \
         -e 's/^(a )?([a-z]+), ([0-9]+) writes of ten calls, ([0-9]+) threads: ([0-9.]+) thousand.*/\2,\3,seats,\4,\5/p' | means
+}
+
+# One run of a map over one gate and over eight, and of a queue in one lane and in four.
+gates_of() {
+    local threads parts
+    for threads in 1 2 4; do
+        for parts in 1 8; do "$1" gated 1 $parts $threads 100000; done
+        for parts in 1 4; do "$1" gated 2 $parts $threads 50000; done
+    done | sed -nE \
+        's/^a (map|queue) (over|in) ([0-9]+) (gates|lanes), [0-9]+ writes of ten calls, ([0-9]+) threads: ([0-9.]+) thousand.*/\1,\3,\5,\6/p'
+}
+
+measure_gates() {
+    head_of "measure gated"
+    echo "on,parts,threads,thousand_a_second,least,most"
+    repeat gates_of "$1" | means
 }
 
 measure_sizes() {
@@ -131,16 +147,21 @@ new() {
     mv "$figures/$name.new" "$figures/$name"
 }
 
+# measure [NAME ..]
 measure() {
-    local program
+    local program name tool
     program=$(mktemp -d)
-    scripts/build_unproved.sh --fast measure "$program/measure"
-    scripts/build_unproved.sh --fast proust_tool "$program/proust_tool"
-    new sessions.csv measure_sessions "$program/measure"
-    new transactions.csv measure_transactions "$program/measure"
-    new sizes.csv measure_sizes "$program/measure"
-    new refusals.csv measure_refusals "$program/proust_tool"
-    [ -z "${PEERS:-}" ] || new peers.csv measure_peers "$program/proust_tool"
+    [ $# -gt 0 ] || set -- sessions transactions gates sizes refusals
+    for name in "$@"; do
+        tool=measure
+        case $name in
+        refusals | peers) tool=proust_tool ;;
+        sessions | transactions | gates | sizes) ;;
+        *) usage ;;
+        esac
+        [ -x "$program/$tool" ] || scripts/build_unproved.sh --fast $tool "$program/$tool"
+        new "$name.csv" "measure_$name" "$program/$tool"
+    done
     rm -rf "$program"
 }
 
@@ -242,6 +263,23 @@ plot $source
 END
 }
 
+draw_gates() {
+    local map queue
+    map=$(ratio "$(figure gates.csv 4 "map,8,4,")" "$(figure gates.csv 4 "map,1,4,")")
+    queue=$(ratio "$(figure gates.csv 4 "queue,4,4,")" "$(figure gates.csv 4 "queue,1,4,")")
+    draw gates gates.csv "Four threads: eight gates make $map times what one gate makes, four lanes $queue times what one lane makes" <<END
+set xlabel "threads (four calls on a map, of which one of ten is a put; or an item that goes round in a queue)"
+set ylabel "thousand transactions a second"
+set xtics (1, 2, 4)
+set xrange [0.8:4.2]
+set yrange [0:*]
+plot $(rows gates.csv "map,8") using 3:4:5:6 with yerrorlines linetype 1 title "a map over eight gates", \\
+    $(rows gates.csv "map,1") using 3:4:5:6 with yerrorlines linetype 1 dashtype 2 title "over one gate", \\
+    $(rows gates.csv "queue,4") using 3:4:5:6 with yerrorlines linetype 4 title "a queue in four lanes", \\
+    $(rows gates.csv "queue,1") using 3:4:5:6 with yerrorlines linetype 4 dashtype 2 title "in one lane"
+END
+}
+
 draw_sizes() {
     local few many
     few=$(figure sizes.csv 4 "queue,1,1000,")
@@ -304,6 +342,7 @@ draw_all() {
     draw_transactions
     draw_sizes
     draw_refusals
+    [ ! -f "$figures/gates.csv" ] || draw_gates
     if [ -f "$figures/peers.csv" ]; then
         draw_peers low
         draw_peers high
@@ -312,7 +351,10 @@ draw_all() {
 
 case ${1:-draw} in
 draw) ;;
-measure) measure ;;
+measure)
+    shift
+    measure "$@"
+    ;;
 *) usage ;;
 esac
 draw_all
