@@ -1,25 +1,32 @@
 #!/usr/bin/env bash
 # Refuses each allocation of a program's stored run in turn.
 #
-#     scripts/refuse_each_allocation.sh CRATE [--sections | --section PLACE .. | --on INPUT ..] [FIRST [LAST]]
+#     scripts/refuse_each_allocation.sh CRATE [--rows | --sections | --section PLACE .. | --on INPUT ..] [FIRST [LAST]]
 #
 # Runs the program of CRATE on its files args and stdin with the first allocation refused, then with the
 # second, and so on. Each run must print the file stdout with status 0, or nothing but the line `Memory`
 # with status 2. With --on it reads INPUT in place of stdin, by `step -`, or by `vacation -` where INPUT
 # ends in .sessions, and must print what stands beside INPUT in the file of its name that ends in .out;
-# one build serves all inputs. With --sections it reads each section of stdin by itself, which `----` closes,
-# and must print the section of stdout in its place, which a line `# NAME` opens; with --section only those in
-# these places, from 1 on. It ends after LAST, or once forty runs in a row were refused nothing. RT names the
-# command, `rt` by default.
+# one build serves all inputs. With --rows, for a program that goes on after a row that is out of memory, a
+# run may also end with status 0 and as many lines as are stored, of which the first that differs is a
+# refusal: later rows see that nothing was changed. With --sections it reads each section of stdin by itself,
+# which `----` closes, and must print the section of stdout in its place, which a line `# NAME` opens; with
+# --section only those in these places, from 1 on. It ends after LAST, or once forty runs in a row were refused
+# nothing. RT names the command, `rt` by default.
 set -u
 
 if [ $# -lt 1 ]; then
-    sed -n '2,15s/^# \{0,1\}//p' "$0"
+    sed -n '2,17s/^# \{0,1\}//p' "$0"
     exit 2
 fi
 crate=$1
 shift
 sections=
+rows=
+if [ "${1:-}" = --rows ]; then
+    rows=1
+    shift
+fi
 if [ "${1:-}" = --sections ]; then
     sections=all
     shift
@@ -86,9 +93,17 @@ refuse_sections() {
     echo "$crate: $(wc -w <<<"$sections") of $count sections, $total refusals"
 }
 
+# is_refused_row: whether the output is as stored up to a line that has a refusal in its place.
+is_refused_row() {
+    local line
+    [ -n "$rows" ] && [ "$(wc -l <<<"$output")" -eq "$(wc -l <<<"$wanted")" ] || return 1
+    line=$(diff <(printf '%s\n' "$wanted") <(printf '%s\n' "$output") | sed -n 's/^> //p' | head -n 1)
+    [[ $line == *Memory* || $line == *refused* ]]
+}
+
 # refuse_each NAME: refuses each allocation of the run on what was taken.
 refuse_each() {
-    local refused=0 quiet=0 n=$first output status
+    local refused=0 quiet=0 inside=0 n=$first output status
     while [ "$quiet" -lt 40 ] && { [ "$last" -eq 0 ] || [ "$n" -le "$last" ]; }; do
         # (for at most as long as the gate runs a program)
         output=$(timeout 120 env -i REFUSED_ALLOCATION="$n" "$folder/program" "${words[@]}" < "$stdin" 2>&1)
@@ -98,6 +113,9 @@ refuse_each() {
         elif [ "$status" -eq 2 ] && [ "$output" = Memory ]; then
             refused=$((refused + 1))
             quiet=0
+        elif [ "$status" -eq 0 ] && is_refused_row; then
+            inside=$((inside + 1))
+            quiet=0
         else
             printf '%s\n' "$output" | tail -n 20
             echo "$1: with allocation $n refused the run ended otherwise (status $status)"
@@ -106,7 +124,7 @@ refuse_each() {
         n=$((n + 1))
     done
     total=$((total + refused))
-    echo "$1: $refused refusals, each answered by Memory with status 2; none from allocation $((n - quiet)) on"
+    echo "$1: $refused refusals, each answered by Memory with status 2${rows:+, and $inside in a row}; none from allocation $((n - quiet)) on"
 }
 
 take_input ${inputs[0]:+"${inputs[0]}"}
