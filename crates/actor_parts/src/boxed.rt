@@ -1,5 +1,5 @@
 //! A large value that moves as a pointer.
-ghost use Rattle.std.specs.Prelude.{◌≡◌, IfOk};
+ghost use Rattle.std.specs.Prelude.{◌≡◌, IfErr, IfOk};
 ghost use Rattle.std.specs.Borrow.{Lends, sem};
 ghost use Rattle.actor_parts.specs.contracts.boxed.Boxed.{the_row};
 
@@ -34,6 +34,19 @@ impl<T> Boxed<T> {
         ensures value { result.now ≡ self.old }
     {
         &mut self.place
+    }
+
+    /// A box for the value. Where an allocation fails, the value comes back.
+    #[cold]
+    #[inline(never)]
+    pub fn try_new(alloc: Global, value: T) -> Result<Boxed<T>, T>
+        ensures boxed { IfOk result (λ boxed. boxed ≡ value) }
+        ensures back { IfErr result (λ back. back ≡ value) }
+    {
+        match Box::new(alloc, value) {
+            Ok(place) => Ok(Boxed { place }),
+            Err(refused) => Err(refused.value),
+        }
     }
 }
 

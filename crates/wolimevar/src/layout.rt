@@ -6,7 +6,7 @@ ghost use Rattle.seq_model.specs.declared.held.Held.TheVariants as held;
 use crate::store::Store;
 use seq_model::{Counts, Entries, Held, Items, Memory, QueueItems, Refusal, Shape, State, Value};
 use std::alloc::Global;
-use tx_client::Tally;
+use tx_client::{Boxed, Tally};
 use tx_engine::TxSeat;
 use tx_handles::{Bag, Gates, Map, PriorityQueue, Queue, Word, map_at};
 
@@ -209,6 +209,7 @@ impl<V: Value> Layout<V> {
             clock: 0,
         };
         let (table, seat) = TxSeat::open(alloc, &shape, State::new(words, held)?)?;
+        let seat = Boxed::new(alloc, seat)?;
         Ok(Store {
             alloc,
             number,
