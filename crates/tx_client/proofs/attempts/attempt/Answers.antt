@@ -1,7 +1,5 @@
 use Rattle.std.proofs.Common.{◌≡◌, Ok, Err, true, false, subst}
 use Rattle.std.specs.Prelude.{IfOk}
-use Rattle.seq_model.specs.declared.call.Call.{Call}
-use Rattle.seq_model.specs.declared.call.Reply.{Reply}
 use Rattle.tx_table.specs.Seated.{opening_of}
 use Rattle.tx_turns.specs.Driven.{is_declared}
 use Rattle.tx_turns.specs.Requested.{requests_of}
@@ -28,7 +26,7 @@ returns-clause-ends g c =
     let ends =
     subst (λ (s : TxSeat g.row.V.Denot). EndsAs (λ out calls. (Ok out ≡ gave) × (calls ≡ calls_made o s.seat))
     (λ error calls. (Err error ≡ gave) × (calls ≡ calls_made o s.seat)) s.seat c.finish-ended.new.seat.seat c.finish-ended.result)
-    c.get_mut-ended.ensures.value c.finish-ended.ensures.ends in
+    c.get_mut-2.ensures.value c.finish-ended.ensures.ends in
     attempted (g.B.Body.makes c.args.body.now) (g.B.Body.aborts c.args.body.now) o c.args.seat.seat
     c.run-seat.result.0.seat c.finish-ended.new.seat.seat gave c.finish-ended.result
     (then_keeps c.args.seat.seat c.begin.new.seat.seat c.run-seat.result.0.seat keeps c.run-seat.ensures.calls.keeps)
@@ -41,7 +39,7 @@ returns-clause-asks g c =
     c.get_mut.ensures.value c.begin.ensures.asks in
     let ends =
     subst (λ (s : TxSeat g.row.V.Denot). HasAsked c.args.declared (requests_of s.seat) (requests_of c.finish-ended.new.seat.seat))
-    c.get_mut-ended.ensures.value c.finish-ended.ensures.asks in
+    c.get_mut-2.ensures.value c.finish-ended.ensures.asks in
     then_asks c.args.declared _ _ _ begins (then_asks c.args.declared _ _ _ (c.run-seat.ensures.calls.asks c.args.declared) ends)
 
 pub returns-clause-reads : goal.returns-clause-reads
@@ -49,5 +47,5 @@ returns-clause-reads g c =
     let o = opening_of c.args.table.now in
     let ends =
     subst (λ (s : TxSeat g.row.V.Denot). IfOk c.finish-ended.result (λ done. is_declared o s.seat ≡ true → done.1.writes ≡ false))
-    c.get_mut-ended.ensures.value c.finish-ended.ensures.reads in
+    c.get_mut-2.ensures.value c.finish-ended.ensures.reads in
     ok_then c.finish-ended.result (λ _ wrote is. wrote (c.run-seat.ensures.calls.reader (c.begin.ensures.reads is))) ends

@@ -13,7 +13,7 @@ pub returns-clause-at : goal.returns-clause-at
 returns-clause-at g c =
     let is : c.args.self.now.seat ≡ Some c.in-Some.seat = search rules in
     let u = c.learn-learnt.new.self in
-    let knows = subst (λ (s : TxSeat g.row.V.Denot). OnlyKnows (opening_of c.args.table.now) s.seat u.seat) c.get_mut-learnt.ensures.value
+    let knows = subst (λ (s : TxSeat g.row.V.Denot). OnlyKnows (opening_of c.args.table.now) s.seat u.seat) c.get_mut.ensures.value
     c.learn-learnt.ensures.knows in
     client_on g.S.Scope.frame c.args.table.now c.args.self.now.seat c.in-Some.seat u c.requires.at is
     c.learn-learnt.ensures.ready (learn_goes _ c.in-Some.seat.seat u.seat knows) (learn_own _ c.in-Some.seat.seat u.seat knows)
@@ -21,7 +21,7 @@ returns-clause-at g c =
 pub returns-clause-shares : goal.returns-clause-shares
 returns-clause-shares g c =
     let is : c.args.self.now.seat ≡ Some c.in-Some.seat = search rules in
-    c.learn-learnt.ensures.knows.shares ∙ ap (λ (s : TxSeat g.row.V.Denot). (view s.seat).shares) c.get_mut-learnt.ensures.value
+    c.learn-learnt.ensures.knows.shares ∙ ap (λ (s : TxSeat g.row.V.Denot). (view s.seat).shares) c.get_mut.ensures.value
     ∙ sym (ap shares_at is)
 
 pub returns-clause-learnt : goal.returns-clause-learnt
@@ -31,7 +31,7 @@ returns-clause-learnt g c =
     let d : ClientShown g.row.V.Denot = shown_at c.args.self.now.seat tally in
     let v = shows_as c.args.self.now.seat c.in-Some.seat tally d refl is in
     let u = c.learn-learnt.new.self.seat in
-    let lent = c.get_mut-learnt.ensures.value in
+    let lent = c.get_mut.ensures.value in
     let knows = subst (λ (s : TxSeat g.row.V.Denot). OnlyKnows (opening_of c.args.table.now) s.seat u) lent c.learn-learnt.ensures.knows in
     let learns = subst (λ (s : TxSeat g.row.V.Denot). OnOk c.learn-learnt.result (u.last ≡ max s.seat.last c.args.number)) lent
     c.learn-learnt.ensures.learns in

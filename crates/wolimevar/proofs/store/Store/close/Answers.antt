@@ -12,5 +12,5 @@ returns-clause-left g c =
     (close_left c.self.inside.number c.self.inside.table c.self.inside.seat c.in-Some.seat c.self.inside.tally c.args.self
     c.in_ok-closed-in-Some.closed c.in_ok-state-in-Some.state c.self.view_is c.in-Some.is
     (subst (λ (s : TxSeat g.row.V.Denot). closing.IsLeftBy (contents_in c.self.inside.table) (view s.seat).receipts c.in_ok-closed-in-Some.closed)
-    c.into_inner-closed.ensures c.in_ok-closed-in-Some.ensures.left)
+    c.into_inner.ensures c.in_ok-closed-in-Some.ensures.left)
     c.in_ok-state-in-Some.ensures.words c.in_ok-state-in-Some.ensures.held)
