@@ -177,7 +177,12 @@ fn join_unserved<V: Value, N: Drop, O: Drop>(
     ensures ready { IsReady table.now seat.new }
     ensures joined { HasLeft 1 seat.new.seat seat.old.seat }
 {
-    match task.seat {
+    let Task {
+        seat: kept,
+        session: _,
+        out: _,
+    } = task;
+    match kept {
         Some(own) => join_unused(table, seat, own.into_inner()),
         None => unreachable!(),
     }

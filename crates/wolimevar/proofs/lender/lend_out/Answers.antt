@@ -9,5 +9,5 @@ join_unused-requires-clause-unused g c =
 
 pub returns-in-Err-clause-none : goal.returns-in-Err-clause-none
 returns-in-Err-clause-none g c =
-    left_back 1 c.args.seat.now.seat c.split_off-own.new.seat.seat c.join_unused.new.seat.seat c.in_ok-own.ensures.left
+    left_back 1 c.args.seat.now.seat c.split_off.new.seat.seat c.join_unused.new.seat.seat c.in_ok-own.ensures.left
     c.join_unused.ensures.joined

@@ -37,8 +37,8 @@ sessions-preserved g c =
       session = refl;
     }) refl c.sessions.invariant.wait c.sessions.invariant.prepared in
     record {
-      ready = c.split_off-own.ensures.ready;
-      left = then_left _ 1 _ c.args.seat.now.seat c.sessions.seat.seat c.split_off-own.new.seat.seat c.sessions.invariant.left
+      ready = c.split_off.ensures.ready;
+      left = then_left _ 1 _ c.args.seat.now.seat c.sessions.seat.seat c.split_off.new.seat.seat c.sessions.invariant.left
           c.in_ok-own.ensures.left (sym m);
       wait = prepared.0;
       prepared = prepared.1;
@@ -48,5 +48,5 @@ sessions-preserved g c =
 
 pub returns-in_err-own-clause-left : goal.returns-in_err-own-clause-left
 returns-in_err-own-clause-left g c =
-    then_left _ 0 _ c.args.seat.now.seat c.sessions.seat.seat c.split_off-own.new.seat.seat c.sessions.invariant.left
+    then_left _ 0 _ c.args.seat.now.seat c.sessions.seat.seat c.split_off.new.seat.seat c.sessions.invariant.left
     c.in_err-own.ensures.none (omega arith)
