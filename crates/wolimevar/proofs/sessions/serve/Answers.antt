@@ -2,9 +2,13 @@ use Rattle.std.proofs.Common.{rules, ◌≡◌, ◌++◌, ◌∙◌, ap, arith, 
 use Rattle.std.specs.Prelude.{All, drop, take}
 use Rattle.std.specs.List.{AllZip}
 use Rattle.tx_table.specs.Seated.{view}
-use Rattle.wolimevar.specs.Sessions.{IsFinished, IsServed, receipts_at}
+use Rattle.wolimevar.specs.Sessions.{IsFinished, IsServed, IsWaiting, receipts_at}
 use Rattle.wolimevar.proofs.SessionLemmas.{all_own, all_served, as_long, finished_all, joined_behind, whole_slice, zip_of}
 use Rattle.wolimevar.proofs.sessions.serve.Goals as goal
+
+pub serve_all-requires-clause-wait : goal.serve_all-requires-clause-wait
+serve_all-requires-clause-wait g c κs within =
+    subst (All (IsWaiting c.args.table.now)) (sym c.as_mut_slice.ensures.value) c.prepare_all.ensures.wait
 
 pub join_all-requires-clause-finished : goal.join_all-requires-clause-finished
 join_all-requires-clause-finished g c =
