@@ -1,5 +1,5 @@
 use Rattle.std.proofs.Common.{sym, subst}
-use Rattle.wolimevar.specs.Splits.{HasLeft, IsUnused}
+use Rattle.wolimevar.specs.Splits.{IsUnused}
 use Rattle.wolimevar.proofs.SplitLemmas.{left_back, left_one, split_unused}
 use Rattle.wolimevar.proofs.seats.split_off.Goals as goal
 

@@ -3,7 +3,6 @@ use Rattle.std.specs.Prelude.{All}
 use Rattle.std.specs.Vec.Iter.{into_iter_items}
 use Rattle.std.proofs.lemmas.List.Elements.{All-head, All-tail}
 use Rattle.wolimevar.specs.Sessions.{IsWaiting}
-use Rattle.wolimevar.specs.Splits.{HasLeft}
 use Rattle.wolimevar.proofs.SplitLemmas.{left_none, then_left}
 use Rattle.wolimevar.proofs.sessions.join_waiting.Goals as goal
 
