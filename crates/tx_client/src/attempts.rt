@@ -15,11 +15,11 @@ ghost use Rattle.tx_client.specs.Frames.{HasMadeCalls, calls_made};
 ghost use Rattle.tx_client.specs.Tallies.{AreCounted};
 
 use crate::body::Body;
-use crate::boxed::Boxed;
 use crate::caller::Caller;
 use crate::scope::Scope;
 use crate::tally::Tally;
 use crate::transaction::Transaction;
+use actor_parts::Boxed;
 use seq_model::{Failure, Refusal, Value};
 use std::hint::spin_loop;
 use std::marker::{Brand, PhantomData};

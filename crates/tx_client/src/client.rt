@@ -10,11 +10,11 @@ ghost use Rattle.tx_client.specs.Runners.{HasRun};
 ghost use Rattle.tx_client.specs.Tallies.{AreCounted};
 
 use crate::body::Body;
-use crate::boxed::Boxed;
 use crate::caller::Caller;
 use crate::runner::Runner;
 use crate::scope::Scope;
 use crate::tally::Tally;
+use actor_parts::Boxed;
 use seq_model::{Failure, Refusal, Value};
 use std::marker::{Model, PhantomData};
 use tx_engine::{Receipt, TxSeat};

@@ -9,7 +9,6 @@
 
 mod attempts;
 mod body;
-mod boxed;
 mod caller;
 mod client;
 mod contents;
@@ -20,7 +19,6 @@ mod transaction;
 
 pub use attempts::retry;
 pub use body::Body;
-pub use boxed::Boxed;
 pub use caller::Caller;
 pub use client::{Client, client_of, seat_of};
 pub use contents::{Contents, contents_of};

@@ -6,10 +6,10 @@ ghost use Rattle.tx_client.specs.Runners.{HasLearnt, HasRun};
 
 use crate::attempts::retry;
 use crate::body::Body;
-use crate::boxed::Boxed;
 use crate::caller::Caller;
 use crate::scope::Scope;
 use crate::tally::Tally;
+use actor_parts::Boxed;
 use seq_model::{Failure, Refusal, Value};
 use tx_engine::{Receipt, TxSeat};
 use tx_table::TxTable;

@@ -2,8 +2,8 @@
 ghost use Rattle.std.specs.Prelude.{◌≡◌, IfOk};
 ghost use Rattle.tx_handles.specs.Made.{HasMade, RefusesForeign, with_call};
 
-use crate::boxed::Boxed;
 use crate::scope::Scope;
+use actor_parts::Boxed;
 use seq_model::{Call, Op, Refusal, Reply, Value};
 use std::marker::{Model, PhantomData};
 use tx_engine::TxSeat;

@@ -9,7 +9,6 @@ use Rattle.atomic_table.specs.contracts.shared.Seat as Place
 use Rattle.atomic_table.proofs.shared.Seat.TheSendSync as place
 use Rattle.counted_slot.proofs.Counted.TheSendSync as counted
 use Rattle.actor_parts.proofs.Boxed.TheSendSync as boxed
-use Rattle.tx_client.proofs.Boxed.TheSendSync as boxed_seat
 use Rattle.replay_log.proofs.base.Base.TheSendSync as base
 use Rattle.tx_actor.proofs.actor.TxActor.TheSendSync as actor
 use Rattle.tx_table.specs.contracts.seat.Asked as Asked
@@ -54,7 +53,7 @@ module _ (V : RattleType) where
     tx_seat_send = search (sendable, crosses, seat_send, actor.the_field_send, boxed.the_send, base.the_send, replies.the_send) depth 30
 
     runner_send : IsSend (Runner.the_field V).row
-    runner_send = search (sendable, boxed_seat.the_send, tx_seat_send) depth 30
+    runner_send = search (sendable, boxed.the_send, tx_seat_send) depth 30
 
     back_send : IsSend (Back.the_row V)
     back_send = search (sendable, tx_seat_send) depth 30

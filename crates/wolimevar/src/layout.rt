@@ -4,9 +4,10 @@ ghost use Rattle.tx_handles.specs.Gates.{LieOver};
 ghost use Rattle.seq_model.specs.declared.held.Held.TheVariants as held;
 
 use crate::store::Store;
+use actor_parts::Boxed;
 use seq_model::{Counts, Entries, Held, Items, Memory, QueueItems, Refusal, Shape, State, Value};
 use std::alloc::Global;
-use tx_client::{Boxed, Tally};
+use tx_client::Tally;
 use tx_engine::TxSeat;
 use tx_handles::{Bag, Gates, Map, PriorityQueue, Queue, Word, map_at};
 

@@ -21,12 +21,13 @@ use crate::seats::{join_unused, split_off};
 use crate::serving::Serving;
 use crate::sessions::Session;
 use crate::store::Store;
+use actor_parts::Boxed;
 use seq_model::{Memory, Refusal, Value};
 use std::alloc::Global;
 use std::marker::Model;
 use std::sync::Arc;
 use std::thread::Threads;
-use tx_client::{Boxed, Caller, Tally};
+use tx_client::{Caller, Tally};
 use tx_engine::TxSeat;
 use tx_table::{SHARES, TxTable};
 

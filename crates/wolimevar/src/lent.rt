@@ -11,9 +11,10 @@ ghost use Rattle.tx_client.specs.Tallies.{AreCounted};
 
 use crate::homes::Own;
 use crate::sessions::{Session, serve_one};
+use actor_parts::Boxed;
 use seq_model::{Failure, Refusal, Value};
 use std::marker::{Brand, Model};
-use tx_client::{Body, Boxed, Caller, Runner, Tally};
+use tx_client::{Body, Caller, Runner, Tally};
 use tx_engine::{Receipt, TxSeat};
 
 /// A client of a lender's store ([`crate::Lender::client`]), for any thread: it borrows nothing. Its calls are those of [`crate::Client`].

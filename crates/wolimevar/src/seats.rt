@@ -7,9 +7,9 @@ ghost use Rattle.tx_table.specs.Seated.{view};
 ghost use Rattle.tx_engine.specs.Ready.{IsReady};
 ghost use Rattle.wolimevar.specs.Splits.{HasLeft, IsUnused};
 
+use actor_parts::Boxed;
 use seq_model::{Memory, Value};
 use std::alloc::Global;
-use tx_client::Boxed;
 use tx_engine::TxSeat;
 use tx_table::TxTable;
 

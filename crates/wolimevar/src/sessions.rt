@@ -13,12 +13,13 @@ ghost use Rattle.wolimevar.specs.Sessions.{IsFinished, HaveServed, IsServed, IsW
 ghost use Rattle.wolimevar.specs.Splits.{HasLeft};
 
 use crate::seats::{join_unused, split_off};
+use actor_parts::Boxed;
 use seq_model::{Memory, Refusal, Value};
 use std::alloc::Global;
 use std::marker::Brand;
 use std::thread;
 use std::thread::Threads;
-use tx_client::{Boxed, Caller, Client, Scope, client_of, seat_of};
+use tx_client::{Caller, Client, Scope, client_of, seat_of};
 use tx_engine::TxSeat;
 use tx_table::{SHARES, TxTable};
 

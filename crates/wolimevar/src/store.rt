@@ -10,12 +10,13 @@ ghost use Rattle.tx_client.specs.Tallies.{AreCounted};
 
 use crate::lender::Lender;
 use crate::sessions::{Session, serve};
+use actor_parts::Boxed;
 use seq_model::{Failure, Memory, Refusal, Value};
 use std::alloc::Global;
 use std::marker::Model;
 use std::sync::Arc;
 use std::thread::Threads;
-use tx_client::{Body, Boxed, Caller, Contents, Tally, contents_of, retry};
+use tx_client::{Body, Caller, Contents, Tally, contents_of, retry};
 use tx_engine::{Receipt, TxSeat};
 use tx_table::TxTable;
 
