@@ -19,6 +19,7 @@ use crate::caller::Caller;
 use crate::scope::Scope;
 use crate::tally::Tally;
 use crate::transaction::Transaction;
+use actor_parts::Boxed;
 use seq_model::{Failure, Refusal, Value};
 use std::hint::spin_loop;
 use std::marker::{Brand, PhantomData};
@@ -72,9 +73,9 @@ fn begin<V: Value>(table: &TxTable<V>, seat: &mut TxSeat<V>, declared: bool) -> 
 fn run_in<V: Value, S: Scope<V>, B: Body<V>>(
     table: &TxTable<V>,
     caller: Caller,
-    seat: TxSeat<V>,
+    seat: Boxed<TxSeat<V>>,
     body: &B,
-) -> (TxSeat<V>, Ran<B::Out, B::Error>)
+) -> (Boxed<TxSeat<V>>, Ran<B::Out, B::Error>)
     requires ready { IsReady table.now seat }
     requires since { HasBegunSince table.now seat }
     requires frame { S.frame ≡ Some (record { table = table.now; begun = Some seat }) }
@@ -108,9 +109,9 @@ fn run_in<V: Value, S: Scope<V>, B: Body<V>>(
 fn run<V: Value, B: Body<V>>(
     table: &TxTable<V>,
     caller: Caller,
-    seat: TxSeat<V>,
+    seat: Boxed<TxSeat<V>>,
     body: &B,
-) -> (TxSeat<V>, Ran<B::Out, B::Error>)
+) -> (Boxed<TxSeat<V>>, Ran<B::Out, B::Error>)
     requires ready { IsReady table.now seat }
     requires since { HasBegunSince table.now seat }
     ensures ready { IsReady table.now result.0 }
@@ -167,10 +168,13 @@ fn first_refusal(refused: Option<Refusal>, cause: Refusal) -> Refusal {
 fn attempt<V: Value, B: Body<V>>(
     table: &TxTable<V>,
     caller: Caller,
-    seat: TxSeat<V>,
+    seat: Boxed<TxSeat<V>>,
     body: &B,
     declared: bool,
-) -> (TxSeat<V>, Result<(B::Out, Receipt<V>), Failure<B::Error>>)
+) -> (
+    Boxed<TxSeat<V>>,
+    Result<(B::Out, Receipt<V>), Failure<B::Error>>,
+)
     requires ready { IsReady table.now seat }
     ensures ready { IsReady table.now result.0 }
     ensures ends { EndsAs (B.makes body.now) (B.aborts body.now) seat.seat result.0.seat result.1 }
@@ -178,11 +182,11 @@ fn attempt<V: Value, B: Body<V>>(
     ensures reads { IfOk result.1 (λ done. declared ≡ true → done.1.writes ≡ false) }
 {
     let mut seat = seat;
-    if let Err(cause) = begin(table, &mut seat, declared) {
+    if let Err(cause) = begin(table, seat.get_mut(), declared) {
         return (seat, Err(Failure::Refused(cause)));
     }
     let (mut seat, ran) = run(table, caller, seat, body);
-    let ended = finish(table, &mut seat, ran, declared);
+    let ended = finish(table, seat.get_mut(), ran, declared);
     (seat, ended)
 }
 
@@ -191,13 +195,13 @@ fn attempt<V: Value, B: Body<V>>(
 pub fn retry<V: Value, B: Body<V>>(
     table: &TxTable<V>,
     caller: Caller,
-    seat: TxSeat<V>,
+    seat: Boxed<TxSeat<V>>,
     tally: Tally,
     body: &B,
     declared: bool,
     tries: u64,
 ) -> (
-    TxSeat<V>,
+    Boxed<TxSeat<V>>,
     Tally,
     Result<(B::Out, Receipt<V>), Failure<B::Error>>,
 )

@@ -14,6 +14,7 @@ use crate::caller::Caller;
 use crate::runner::Runner;
 use crate::scope::Scope;
 use crate::tally::Tally;
+use actor_parts::Boxed;
 use seq_model::{Failure, Refusal, Value};
 use std::marker::{Model, PhantomData};
 use tx_engine::{Receipt, TxSeat};
@@ -53,7 +54,7 @@ impl<'t, V, S: Scope<V>> Model for Client<'t, V, S> {
 
 impl<'t, V: Value, S: Scope<V>> Client<'t, V, S> {
     /// The seat, with the client's receipts.
-    fn into_seat(self) -> TxSeat<V>
+    fn into_seat(self) -> Boxed<TxSeat<V>>
         ensures back { IfSome S.frame (ComesBack result) }
         ensures receipts { self.entry.receipts ≡ (view result.seat).receipts }
         ensures own { AreBy (actor result.seat) (view result.seat).receipts }
@@ -189,7 +190,7 @@ impl<'t, V: Value, S: Scope<V>> Client<'t, V, S> {
 pub fn client_of<'t, V: Value, S: Scope<V>>(
     table: &'t TxTable<V>,
     caller: Caller,
-    seat: TxSeat<V>,
+    seat: Boxed<TxSeat<V>>,
 ) -> Client<'t, V, S>
     requires ready { IsReady table.now seat }
     requires frame { S.frame ≡ Some (record { table = table.now; begun = Some seat }) }
@@ -208,7 +209,7 @@ pub fn client_of<'t, V: Value, S: Scope<V>>(
 }
 
 /// The seat of a client that has served, with its receipts, for what gave it the seat.
-pub fn seat_of<'t, V: Value, S: Scope<V>>(client: Client<'t, V, S>) -> TxSeat<V>
+pub fn seat_of<'t, V: Value, S: Scope<V>>(client: Client<'t, V, S>) -> Boxed<TxSeat<V>>
     ensures back { IfSome S.frame (ComesBack result) }
     ensures receipts { client.entry.receipts ≡ (view result.seat).receipts }
     ensures own { AreBy (actor result.seat) (view result.seat).receipts }

@@ -9,6 +9,7 @@ use crate::body::Body;
 use crate::caller::Caller;
 use crate::scope::Scope;
 use crate::tally::Tally;
+use actor_parts::Boxed;
 use seq_model::{Failure, Refusal, Value};
 use tx_engine::{Receipt, TxSeat};
 use tx_table::TxTable;
@@ -18,7 +19,7 @@ use tx_table::TxTable;
 pub struct Runner<V> {
     pub caller: Caller,
     /// It is `None` only while a transaction runs.
-    pub seat: Option<TxSeat<V>>,
+    pub seat: Option<Boxed<TxSeat<V>>>,
     pub tally: Tally,
 }
 
@@ -61,7 +62,7 @@ impl<V: Value> Runner<V> {
         ensures { result ≡ (shown_at self.now.seat self.now.tally).last }
     {
         match &self.seat {
-            Some(seat) => seat.last_number(),
+            Some(seat) => seat.get().last_number(),
             None => unreachable!(),
         }
     }
@@ -75,7 +76,7 @@ impl<V: Value> Runner<V> {
         match self.seat.take() {
             Some(seat) => {
                 let mut seat = seat;
-                let learnt = seat.learn(table, number);
+                let learnt = seat.get_mut().learn(table, number);
                 self.seat = Some(seat);
                 learnt
             }

@@ -3,6 +3,7 @@ ghost use Rattle.std.specs.Prelude.{◌≡◌, IfOk};
 ghost use Rattle.tx_handles.specs.Made.{HasMade, RefusesForeign, with_call};
 
 use crate::scope::Scope;
+use actor_parts::Boxed;
 use seq_model::{Call, Op, Refusal, Reply, Value};
 use std::marker::{Model, PhantomData};
 use tx_engine::TxSeat;
@@ -23,7 +24,7 @@ use tx_table::TxTable;
 #[derive(Drop)]
 pub struct Transaction<'t, V, S: Scope<V>> {
     pub(crate) table: &'t TxTable<V>,
-    pub(crate) seat: TxSeat<V>,
+    pub(crate) seat: Boxed<TxSeat<V>>,
     /// The number of its store, which the handles of the store's layout have too.
     pub(crate) store: u32,
     /// The lane of its client.
@@ -68,7 +69,7 @@ impl<'t, V: Value, S: Scope<V>> Transaction<'t, V, S> {
     fn request(&mut self, target: u32, op: Op<V>) -> Result<Reply<V>, Refusal>
         ensures { IfOk result (λ reply. self.new ≡ with_call self.old target op reply) }
     {
-        match self.seat.call(self.table, Call { target, op }) {
+        match self.seat.get_mut().call(self.table, Call { target, op }) {
             Ok(reply) => {
                 self.refused = None;
                 Ok(reply)
@@ -89,7 +90,7 @@ impl<'t, V: Value, S: Scope<V>> MakesCalls<V> for Transaction<'t, V, S> {
         ensures foreign { RefusesForeign self.old store result self.new }
     {
         if self.store != store {
-            self.refused = foreign_refusal(self.refused, self.seat.is_open());
+            self.refused = foreign_refusal(self.refused, self.seat.get().is_open());
             return Err(Refusal::NoSuch);
         }
         self.request(number, op)

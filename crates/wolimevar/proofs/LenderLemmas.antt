@@ -11,8 +11,6 @@ use Rattle.tx_table.specs.declared.seat.Seat.{Seat}
 use Rattle.tx_table.specs.declared.table.TxTable.{TxTable}
 use Rattle.tx_table.specs.declared.view.TheConstants.{SHARES}
 use Rattle.tx_table.specs.Seated.{actor, view}
-use Rattle.tx_table.specs.declared.view.View.{View}
-use Rattle.tx_table.specs.Shown.{left_of}
 use Rattle.tx_turns.specs.Requested.{requests_of}
 use Rattle.tx_engine.specs.declared.seats.TxSeat.{TxSeat}
 use Rattle.tx_engine.specs.Ready.{IsReady}
@@ -23,7 +21,9 @@ use Rattle.tx_client.specs.Frames.{AreBy}
 use Rattle.wolimevar.specs.Homes.{IsHomeOf}
 use Rattle.wolimevar.specs.Lenders.{HasBack, HasTakenBack, IsAtLender, LenderShown, lender_at}
 use Rattle.wolimevar.specs.Sessions.{IsOfOne, joined, receipts_at}
+use Rattle.wolimevar.specs.Splits.{HasLeft}
 use Rattle.wolimevar.specs.StoreSeats.{IsAtStore, store_at}
+use Rattle.wolimevar.proofs.StoreLemmas.{store_same}
 use Rattle.tx_client.proofs.FrameLemmas.{at_client, own_back, own_is}
 
 joined_append : {A : Type 0} (xs ys : List (List A)) → joined (xs ++ ys) ≡ joined xs ++ joined ys
@@ -72,17 +72,20 @@ module _ {V : Type 0} where
       → IsAtStore t (Some s)
   lender_ends t s homes at whole = record { own = s; is = refl; ready = at.ready; whole = whole }
 
-  store_same : (n : ℕ) (t : TxTable V) (s u : TxSeat V) (tally : Tally) → (view u.seat).receipts ≡ (view s.seat).receipts
-      → u.seat.last ≡ s.seat.last → requests_of u.seat ≡ requests_of s.seat → store_at n t (Some u) tally ≡ store_at n t (Some s) tally
-  store_same n t s u tally receipts last asked = cc
+  -- a lender with fewer shares is the same store
+  pub share_less : (k n : ℕ) (t : TxTable V) (s u : TxSeat V) (tally : Tally) (d : LenderShown V) → lender_at n t s tally ≡ d
+      → HasLeft k s.seat u.seat → store_at n t (Some u) tally ≡ d.store
+  share_less k n t s u tally d v h =
+      store_same n t s u tally h.receipts h.last h.asked ∙ ap (λ (x : LenderShown V). x.store) v
 
-  -- a lender with a share less is the same store
-  pub share_less : (n : ℕ) (t : TxTable V) (s u : TxSeat V) (tally : Tally) (d : LenderShown V) → lender_at n t s tally ≡ d
-      → view u.seat ≡ left_of 1 (view s.seat) → u.seat.last ≡ s.seat.last → requests_of u.seat ≡ requests_of s.seat
-      → store_at n t (Some u) tally ≡ d.store
-  share_less n t s u tally d v left last asked =
-      let receipts = ap (λ (w : View V). w.receipts) left in
-      store_same n t s u tally receipts last asked ∙ ap (λ (x : LenderShown V). x.store) v
+  -- and with as many the same lender
+  pub shares_back : (n : ℕ) (t : TxTable V) (s u : TxSeat V) (tally : Tally) (d : LenderShown V) → lender_at n t s tally ≡ d
+      → HasLeft 0 s.seat u.seat → lender_at n t u tally ≡ d
+  shares_back n t s u tally d v h =
+      let left = h.shares in
+      let shares : (view u.seat).shares ≡ (view s.seat).shares = omega (arith, left) in
+      let store = store_same n t s u tally h.receipts h.last h.asked in
+      (λ i. record { store = store i; shares = shares i }) ∙ v
 
   pub none_back : (s : Seat V) → HasBack s s
   none_back s = record {

@@ -53,7 +53,7 @@ module _ (V : RattleType) where
     tx_seat_send = search (sendable, crosses, seat_send, actor.the_field_send, boxed.the_send, base.the_send, replies.the_send) depth 30
 
     runner_send : IsSend (Runner.the_field V).row
-    runner_send = search (sendable, tx_seat_send) depth 30
+    runner_send = search (sendable, boxed.the_send, tx_seat_send) depth 30
 
     back_send : IsSend (Back.the_row V)
     back_send = search (sendable, tx_seat_send) depth 30

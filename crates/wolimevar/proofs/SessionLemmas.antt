@@ -10,6 +10,7 @@ use Rattle.tx_table.specs.Seated.{actor, view}
 use Rattle.tx_engine.specs.declared.seats.TxSeat.{TxSeat}
 use Rattle.wolimevar.specs.declared.sessions.Task.{Task}
 use Rattle.wolimevar.specs.Sessions.{AreServed, IsFinished, IsOfOne, IsServed, IsWaiting, joined, receipts_at}
+use Rattle.wolimevar.specs.Splits.{IsUnused}
 use Rattle.tx_client.specs.Frames.{AreBy}
 use Rattle.tx_client.proofs.FrameLemmas.{own_is}
 
@@ -63,9 +64,9 @@ pub whole_slice : {A : Type 0} (xs ys : List A) (n : ℕ) → n ≡ length ys �
 whole_slice xs ys n e f = take_front xs (drop (length xs) ys) n (e ∙ sym f)
 
 module _ {V : Type 0} where
-  -- the share of a seat that waits
-  pub one_share : {N O : Type 0} (t : TxTable V) (p : Task V N O) (s : TxSeat V) → IsWaiting t p → p.seat ≡ Some s → (view s.seat).shares ≡ 1
-  one_share t p s h is = subst (λ (x : TxSeat V). (view x.seat).shares ≡ 1) (own_is p.seat h.own s h.seat is) h.share
+  -- the seat of a session that waits
+  pub waiting_seat : {N O : Type 0} (t : TxTable V) (p : Task V N O) (s : TxSeat V) → IsWaiting t p → p.seat ≡ Some s → IsUnused t s
+  waiting_seat t p s h is = subst (IsUnused t) (own_is p.seat h.own s h.seat is) h.unused
 
 module _ {V N O : Type 0} (t : TxTable V) where
   -- the seats that are left to be joined, without the first

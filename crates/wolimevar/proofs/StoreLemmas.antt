@@ -7,11 +7,13 @@ use Rattle.seq_model.specs.declared.record.Record.{Record}
 use Rattle.tx_table.specs.declared.table.TxTable.{TxTable}
 use Rattle.tx_table.specs.Seated.{actor, view}
 use Rattle.tx_table.specs.declared.view.TheConstants.{SHARES}
+use Rattle.tx_turns.specs.Requested.{requests_of}
 use Rattle.tx_engine.specs.declared.seats.TxSeat.{TxSeat}
 use Rattle.tx_engine.specs.Ready.{IsReady}
 use Rattle.seq_model.specs.declared.failure.Failure.{Failure}
 use Rattle.tx_client.specs.declared.tally.Tally.{Tally}
 use Rattle.tx_client.specs.Ends.{EndsAs}
+use Rattle.wolimevar.specs.Splits.{HasLeft}
 use Rattle.wolimevar.specs.Stores.{StoreShown}
 use Rattle.wolimevar.specs.StoreSeats.{IsAtStore, store_at}
 use Rattle.tx_client.proofs.EndLemmas.{gained, gained_none}
@@ -27,6 +29,10 @@ module _ {V : Type 0} where
     ready = ready;
     whole = same ∙ subst (λ (x : TxSeat V). (view x.seat).shares ≡ SHARES) (own_is seat h.own s h.is e) h.whole;
   }
+
+  pub store_same : (n : ℕ) (t : TxTable V) (s u : TxSeat V) (tally : Tally) → (view u.seat).receipts ≡ (view s.seat).receipts
+      → u.seat.last ≡ s.seat.last → requests_of u.seat ≡ requests_of s.seat → store_at n t (Some u) tally ≡ store_at n t (Some s) tally
+  store_same n t s u tally receipts last asked = cc
 
   pub store_shows : (n : ℕ) (t : TxTable V) (seat : Option (TxSeat V)) (s : TxSeat V) (tally : Tally) (d : StoreShown V)
       → store_at n t seat tally ≡ d → seat ≡ Some s → store_at n t (Some s) tally ≡ d
@@ -60,6 +66,6 @@ module _ {V A E : Type 0} (makes : A → List (Call V × Reply V) → Type 0) (a
 
 -- a run that is refused leaves the store as it was
 pub run_none : {V A E : Type 0} (r : Result A E) (n : ℕ) (t : TxTable V) (s u : TxSeat V) (tally : Tally) (d : StoreShown V)
-    → store_at n t (Some s) tally ≡ d → OnErr r (u ≡ s) → OnErr r (store_at n t (Some u) tally ≡ d)
+    → store_at n t (Some s) tally ≡ d → OnErr r (HasLeft 0 s.seat u.seat) → OnErr r (store_at n t (Some u) tally ≡ d)
 run_none (Ok a) n t s u tally d v h = tt
-run_none (Err e) n t s u tally d v h = ap (λ x. store_at n t (Some x) tally) h ∙ v
+run_none (Err e) n t s u tally d v h = store_same n t s u tally h.receipts h.last h.asked ∙ v

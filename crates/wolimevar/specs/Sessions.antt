@@ -10,6 +10,7 @@ use Rattle.tx_engine.specs.declared.seats.TxSeat.{TxSeat}
 use Rattle.tx_engine.specs.Ready.{IsReady}
 use Rattle.wolimevar.specs.declared.sessions.Task.{Task}
 use Rattle.tx_client.specs.Frames.{AreBy}
+use Rattle.wolimevar.specs.Splits.{IsUnused}
 
 -- Why sessions are not served: they are too many, or an allocation fails.
 abbrev pub IsWhy : ℕ → Refusal → Type 0
@@ -48,13 +49,11 @@ module _ {V : Type 0} where
       pub gains : after ≡ before ++ joined lists
 
   module _ {N O : Type 0} (t : TxTable V) where
-    -- A session that waits: its seat is ready, with one share and no receipts.
+    -- A session that waits: its seat is not used yet.
     pub record IsWaiting (p : Task V N O) : Type 0 where
       pub own : TxSeat V
       pub seat : p.seat ≡ Some own
-      pub ready : IsReady t own
-      pub share : (view own.seat).shares ≡ 1
-      pub none : (view own.seat).receipts ≡ []
+      pub unused : IsUnused t own
       pub waiting : N
       pub session : p.session ≡ Some waiting
 

@@ -4,6 +4,7 @@ ghost use Rattle.tx_handles.specs.Gates.{LieOver};
 ghost use Rattle.seq_model.specs.declared.held.Held.TheVariants as held;
 
 use crate::store::Store;
+use actor_parts::Boxed;
 use seq_model::{Counts, Entries, Held, Items, Memory, QueueItems, Refusal, Shape, State, Value};
 use std::alloc::Global;
 use tx_client::Tally;
@@ -209,6 +210,7 @@ impl<V: Value> Layout<V> {
             clock: 0,
         };
         let (table, seat) = TxSeat::open(alloc, &shape, State::new(words, held)?)?;
+        let seat = Boxed::new(alloc, seat)?;
         Ok(Store {
             alloc,
             number,

@@ -2,7 +2,7 @@
 //!
 //! A lender is a store whose table has several owners: itself, and the clients that it has lent. A client that is dropped leaves its
 //! seat in its home ([`crate::homes`]), from which the lender takes it back. Once all are back, the lender is a store again.
-ghost use Rattle.std.specs.Prelude.{◌≡◌, ◌⊎◌, ◌+◌, ◌-◌, ◌≤◌, ◌++◌, [], All, IfErr, IfOk, IfSome, OnErr};
+ghost use Rattle.std.specs.Prelude.{◌≡◌, ◌⊎◌, ◌+◌, ◌-◌, ◌<◌, ◌≤◌, ◌++◌, [], All, IfErr, IfOk, IfSome, OnErr, OnOk};
 ghost use Rattle.std.specs.Arc.{arc_value};
 ghost use Rattle.seq_model.specs.declared.refusal.Refusal.TheVariants.{Memory as OutOfMemory, TooLong};
 ghost use Rattle.tx_table.specs.Seated.{view};
@@ -13,13 +13,16 @@ ghost use Rattle.tx_client.specs.Backs.{IsBack, shares_at};
 ghost use Rattle.wolimevar.specs.Homes.{IsHomeOf};
 ghost use Rattle.wolimevar.specs.Lenders.{HasBack, HasTakenBack};
 ghost use Rattle.wolimevar.specs.Sessions.{receipts_at};
+ghost use Rattle.wolimevar.specs.Splits.{HasLeft, IsUnused};
 
 use crate::homes::{Home, Own, home_for};
 use crate::lent::LentClient;
+use crate::seats::{join_unused, split_off};
 use crate::serving::Serving;
 use crate::sessions::Session;
 use crate::store::Store;
-use seq_model::{Refusal, Value};
+use actor_parts::Boxed;
+use seq_model::{Memory, Refusal, Value};
 use std::alloc::Global;
 use std::marker::Model;
 use std::sync::Arc;
@@ -36,7 +39,7 @@ pub struct Lender<V> {
     pub(crate) alloc: Global,
     pub(crate) number: u32,
     pub(crate) table: Arc<TxTable<V>>,
-    pub(crate) seat: TxSeat<V>,
+    pub(crate) seat: Boxed<TxSeat<V>>,
     pub(crate) tally: Tally,
     pub(crate) homes: Vec<Home<V>>,
 }
@@ -94,18 +97,18 @@ impl<V: Value> Lender<V> {
         ensures none { OnErr result (self.new ≡ self.old) }
         ensures why { IfErr result (λ cause. ((cause ≡ TooLong) × (self.old.shares ≤ 1)) ⊎ (cause ≡ OutOfMemory)) }
     {
-        if self.seat.shares() <= 1 {
+        if self.seat.get().shares() <= 1 {
             return Err(Refusal::TooLong);
         }
         let Ok(table) = Arc::try_clone(&self.table) else {
             return Err(Refusal::Memory);
         };
-        let Ok(home) = home_for(self.alloc, &self.table, &mut self.homes) else {
+        let seat = self.seat.get_mut();
+        let Ok((own, home)) = lend_out(self.alloc, &self.table, seat, &mut self.homes) else {
             return Err(Refusal::Memory);
         };
-        let seat = self.seat.split(&self.table, 1);
-        let caller = Caller::new(self.number, self.seat.shares());
-        Ok(LentClient::of(Own { table, home }, caller, seat))
+        let caller = Caller::new(self.number, self.seat.get().shares());
+        Ok(LentClient::of(Own { table, home }, caller, own))
     }
 
     /// Has a client serve the session in a thread of its own. Where no thread can be started, it is served before this returns.
@@ -149,8 +152,8 @@ impl<V: Value> Lender<V> {
         ensures back { HasTakenBack self.old self.new }
         ensures out { result ≡ SHARES - self.new.shares }
     {
-        join_all(&self.table, &mut self.seat, self.homes.as_slice());
-        SHARES.saturating_sub(self.seat.shares())
+        join_all(&self.table, self.seat.get_mut(), self.homes.as_slice());
+        SHARES.saturating_sub(self.seat.get().shares())
     }
 
     /// Takes back the clients that were dropped, and gives the store back, which has the receipts of all. While a client is out it gives
@@ -179,7 +182,7 @@ impl<V: Value> Lender<V> {
         ensures store { IfOk result (λ store. self ≡ record { store = store; shares = SHARES }) }
         ensures lender { IfErr result (λ lender. lender ≡ self) }
     {
-        if self.seat.shares() != SHARES {
+        if self.seat.get().shares() != SHARES {
             return Err(self);
         }
         let Lender {
@@ -206,6 +209,33 @@ impl<V: Value> Lender<V> {
                 tally,
                 homes,
             }),
+        }
+    }
+}
+
+/// Splits a seat of one share off, and finds a home for it.
+fn lend_out<V: Value>(
+    alloc: Global,
+    table: &TxTable<V>,
+    seat: &mut TxSeat<V>,
+    homes: &mut Vec<Home<V>>,
+) -> Result<(Boxed<TxSeat<V>>, Home<V>), Memory>
+    requires ready { IsReady table.now seat.old }
+    requires fewer { 1 < (view seat.old.seat).shares }
+    requires own { All (IsHomeOf table.now) homes.old.items }
+    ensures ready { IsReady table.now seat.new }
+    ensures own { All (IsHomeOf table.now) homes.new.items }
+    ensures unused { IfOk result (λ lent. IsUnused table.now lent.0) }
+    ensures home { IfOk result (λ lent. IsHomeOf table.now lent.1) }
+    ensures left { OnOk result (HasLeft 1 seat.old.seat seat.new.seat) }
+    ensures none { OnErr result (HasLeft 0 seat.old.seat seat.new.seat) }
+{
+    let own = split_off(alloc, table, seat)?;
+    match home_for(alloc, table, homes) {
+        Ok(home) => Ok((own, home)),
+        Err(memory) => {
+            join_unused(table, seat, own.into_inner());
+            Err(memory)
         }
     }
 }

@@ -11,6 +11,7 @@ ghost use Rattle.tx_client.specs.Tallies.{AreCounted};
 
 use crate::homes::Own;
 use crate::sessions::{Session, serve_one};
+use actor_parts::Boxed;
 use seq_model::{Failure, Refusal, Value};
 use std::marker::{Brand, Model};
 use tx_client::{Body, Caller, Runner, Tally};
@@ -53,14 +54,14 @@ impl<V: Drop> Drop for LentClient<V> {
         // The lender may end as soon as the seat is back: this owner of the table goes first.
         drop(table);
         match seat {
-            Some(seat) => home.leave(seat),
+            Some(seat) => home.leave(seat.into_inner()),
             None => unreachable!(),
         }
     }
 }
 
 impl<V: Value> LentClient<V> {
-    pub(crate) fn of(own: Own<V>, caller: Caller, seat: TxSeat<V>) -> LentClient<V>
+    pub(crate) fn of(own: Own<V>, caller: Caller, seat: Boxed<TxSeat<V>>) -> LentClient<V>
         requires ready { IsReady (arc_value own.table) seat }
         requires share { (view seat.seat).shares ≡ 1 }
         requires none { (view seat.seat).receipts ≡ [] }

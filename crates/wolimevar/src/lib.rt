@@ -35,6 +35,7 @@ mod layout;
 mod layout_over;
 mod lender;
 mod lent;
+mod seats;
 mod serving;
 mod sessions;
 mod store;

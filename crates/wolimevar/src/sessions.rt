@@ -1,17 +1,20 @@
 //! Sessions, each served in a thread of its own with a client of its own.
 //!
 //! Before the threads start, a share is split off the store's seat for each session; after they end, the shares are joined again. All memory
-//! is allocated before, so nothing fails in between. A thread is handed a [`Task`] (the session, its seat, the place for its result) and
-//! makes the client itself.
-ghost use Rattle.std.specs.Prelude.{◌≡◌, ℕ, ◌+◌, ◌<◌, ◌≤◌, ◌++◌, [], All, IfErr, IfOk, OnErr, Some, length, map, slice_index_or};
+//! is allocated before, so nothing fails in between; where an allocation fails, what was split off is joined again. A thread is handed a
+//! [`Task`] (the session, its seat, the place for its result) and makes the client itself.
+ghost use Rattle.std.specs.Prelude.{◌≡◌, ℕ, ◌+◌, ◌<◌, ◌≤◌, ◌++◌, [], All, IfErr, IfOk, OnErr, OnOk, Some, length, map, slice_index_or};
 ghost use Rattle.std.specs.Vec.{vec_capacity};
 ghost use Rattle.tx_table.specs.Seated.{actor, view};
 ghost use Rattle.tx_turns.specs.Requested.{requests_of};
 ghost use Rattle.tx_engine.specs.Ready.{IsReady};
 ghost use Rattle.tx_client.specs.Frames.{AreBy};
 ghost use Rattle.wolimevar.specs.Sessions.{IsFinished, HaveServed, IsServed, IsWhy, IsWaiting, joined, receipts_at};
+ghost use Rattle.wolimevar.specs.Splits.{HasLeft};
 
-use seq_model::{Refusal, Value};
+use crate::seats::{join_unused, split_off};
+use actor_parts::Boxed;
+use seq_model::{Memory, Refusal, Value};
 use std::alloc::Global;
 use std::marker::Brand;
 use std::thread;
@@ -50,7 +53,7 @@ pub trait Session<V> {
 /// A session, its seat, and what it returned.
 #[derive(Drop)]
 pub(crate) struct Task<V, N, O> {
-    pub(crate) seat: Option<TxSeat<V>>,
+    pub(crate) seat: Option<Boxed<TxSeat<V>>>,
     pub(crate) session: Option<N>,
     pub(crate) out: Option<O>,
 }
@@ -59,9 +62,9 @@ pub(crate) struct Task<V, N, O> {
 fn serve_as<V: Value, S: Scope<V>, N: Session<V> + Drop>(
     table: &TxTable<V>,
     caller: Caller,
-    seat: TxSeat<V>,
+    seat: Boxed<TxSeat<V>>,
     session: N,
-) -> (TxSeat<V>, N::Out)
+) -> (Boxed<TxSeat<V>>, N::Out)
     requires ready { IsReady table.now seat }
     requires frame { S.frame ≡ Some (record { table = table.now; begun = Some seat }) }
     requires none { (view seat.seat).receipts ≡ [] }
@@ -79,9 +82,9 @@ fn serve_as<V: Value, S: Scope<V>, N: Session<V> + Drop>(
 pub(crate) fn serve_one<V: Value, N: Session<V> + Drop>(
     table: &TxTable<V>,
     caller: Caller,
-    seat: TxSeat<V>,
+    seat: Boxed<TxSeat<V>>,
     session: N,
-) -> (TxSeat<V>, N::Out)
+) -> (Boxed<TxSeat<V>>, N::Out)
     requires ready { IsReady table.now seat }
     requires none { (view seat.seat).receipts ≡ [] }
     ensures ready { IsReady table.now result.0 }
@@ -136,32 +139,69 @@ where
     );
 }
 
-/// Splits a seat of one share off for each session.
+/// Splits a seat of one share off for each session. Where an allocation fails, the first sessions wait, and the others are dropped.
 fn prepare_all<V: Value, N: Drop, O: Drop>(
+    alloc: Global,
     table: &TxTable<V>,
     seat: &mut TxSeat<V>,
     sessions: Vec<N>,
     tasks: &mut Vec<Task<V, N, O>>,
-)
+) -> Result<(), Memory>
     requires ready { IsReady table.now seat.old }
     requires few { length sessions.items < (view seat.old.seat).shares }
     requires empty { tasks.old.items ≡ [] }
     requires room { length sessions.items ≤ vec_capacity tasks.old }
     ensures ready { IsReady table.now seat.new }
-    ensures shares { (view seat.new.seat).shares + length sessions.items ≡ (view seat.old.seat).shares }
-    ensures receipts { (view seat.new.seat).receipts ≡ (view seat.old.seat).receipts }
-    ensures asks { requests_of seat.new.seat ≡ requests_of seat.old.seat }
-    ensures last { seat.new.seat.last ≡ seat.old.seat.last }
+    ensures left { HasLeft (length tasks.new.items) seat.old.seat seat.new.seat }
     ensures wait { All (IsWaiting table.now) tasks.new.items }
-    ensures sessions { map (λ p. p.session) tasks.new.items ≡ map Some sessions.items }
+    ensures sessions { OnOk result (map (λ p. p.session) tasks.new.items ≡ map Some sessions.items) }
 {
     'sessions: for session in sessions {
-        let own = seat.split(table, 1);
+        let own = split_off(alloc, table, seat)?;
         tasks.push_reserved(Task {
             seat: Some(own),
             session: Some(session),
             out: None,
         });
+    }
+    Ok(())
+}
+
+/// Joins the seat of a session again that was not served.
+fn join_unserved<V: Value, N: Drop, O: Drop>(
+    table: &TxTable<V>,
+    seat: &mut TxSeat<V>,
+    task: Task<V, N, O>,
+)
+    requires ready { IsReady table.now seat.old }
+    requires waits { IsWaiting table.now task }
+    ensures ready { IsReady table.now seat.new }
+    ensures joined { HasLeft 1 seat.new.seat seat.old.seat }
+{
+    let Task {
+        seat: kept,
+        session: _,
+        out: _,
+    } = task;
+    match kept {
+        Some(own) => join_unused(table, seat, own.into_inner()),
+        None => unreachable!(),
+    }
+}
+
+/// Joins the seats of all sessions again, none of which was served.
+fn join_waiting<V: Value, N: Drop, O: Drop>(
+    table: &TxTable<V>,
+    seat: &mut TxSeat<V>,
+    tasks: Vec<Task<V, N, O>>,
+)
+    requires ready { IsReady table.now seat.old }
+    requires wait { All (IsWaiting table.now) tasks.items }
+    ensures ready { IsReady table.now seat.new }
+    ensures joined { HasLeft (length tasks.items) seat.new.seat seat.old.seat }
+{
+    'tasks: for task in tasks {
+        join_unserved(table, seat, task);
     }
 }
 
@@ -182,7 +222,7 @@ fn join_one<V: Value, N: Drop, O: Drop>(
 {
     match (task.seat, task.out) {
         (Some(own), Some(out)) => {
-            seat.join(table, own);
+            seat.join(table, own.into_inner());
             out
         }
         _ => unreachable!(),
@@ -214,40 +254,42 @@ fn join_all<V: Value, N: Drop, O: Drop>(
     }
 }
 
-/// Serves the sessions, each with a seat of one share, and returns the store's seat with all shares.
+/// Serves the sessions, each with a seat of one share. The store's seat has all shares then.
 pub(crate) fn serve<R: Threads + Sync, V: Value + Send + Sync, N: Session<V> + Drop + Send>(
     rt: &R,
     alloc: Global,
     table: &TxTable<V>,
     store: u32,
-    seat: TxSeat<V>,
+    seat: &mut TxSeat<V>,
     sessions: Vec<N>,
-) -> (TxSeat<V>, Result<Vec<N::Out>, Refusal>)
+) -> Result<Vec<N::Out>, Refusal>
 where
     N::Out: Send,
-    requires ready { IsReady table.now seat }
-    requires whole { (view seat.seat).shares ≡ SHARES }
-    ensures ready { IsReady table.now result.0 }
-    ensures whole { (view result.0.seat).shares ≡ SHARES }
-    ensures asks { requests_of result.0.seat ≡ requests_of seat.seat }
-    ensures last { seat.seat.last ≤ result.0.seat.last }
-    ensures all { IfOk result.1 (λ outs. HaveServed N.serves sessions.items outs.items (view seat.seat).receipts (view result.0.seat).receipts) }
-    ensures none { OnErr result.1 (result.0 ≡ seat) }
-    ensures why { IfErr result.1 (IsWhy (length sessions.items)) }
+    requires ready { IsReady table.now seat.old }
+    requires whole { (view seat.old.seat).shares ≡ SHARES }
+    ensures ready { IsReady table.now seat.new }
+    ensures whole { (view seat.new.seat).shares ≡ SHARES }
+    ensures asks { requests_of seat.new.seat ≡ requests_of seat.old.seat }
+    ensures last { seat.old.seat.last ≤ seat.new.seat.last }
+    ensures all { IfOk result (λ outs. HaveServed N.serves sessions.items outs.items (view seat.old.seat).receipts (view seat.new.seat).receipts) }
+    ensures none { OnErr result (HasLeft 0 seat.old.seat seat.new.seat) }
+    ensures why { IfErr result (IsWhy (length sessions.items)) }
 {
-    let mut seat = seat;
     let count = sessions.len();
     if count as u64 >= SHARES {
-        return (seat, Err(Refusal::TooLong));
+        return Err(Refusal::TooLong);
     }
     let Ok(mut tasks) = Vec::with_capacity(alloc, count) else {
-        return (seat, Err(Refusal::Memory));
+        return Err(Refusal::Memory);
     };
     let Ok(mut outs) = Vec::with_capacity(alloc, count) else {
-        return (seat, Err(Refusal::Memory));
+        return Err(Refusal::Memory);
     };
-    prepare_all(table, &mut seat, sessions, &mut tasks);
+    let Ok(()) = prepare_all(alloc, table, seat, sessions, &mut tasks) else {
+        join_waiting(table, seat, tasks);
+        return Err(Refusal::Memory);
+    };
     serve_all(rt, table, store, tasks.as_mut_slice());
-    join_all(table, &mut seat, tasks, &mut outs);
-    (seat, Ok(outs))
+    join_all(table, seat, tasks, &mut outs);
+    Ok(outs)
 }

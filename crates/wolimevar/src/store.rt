@@ -10,6 +10,7 @@ ghost use Rattle.tx_client.specs.Tallies.{AreCounted};
 
 use crate::lender::Lender;
 use crate::sessions::{Session, serve};
+use actor_parts::Boxed;
 use seq_model::{Failure, Memory, Refusal, Value};
 use std::alloc::Global;
 use std::marker::Model;
@@ -29,7 +30,7 @@ pub struct Store<V> {
     pub(crate) number: u32,
     pub(crate) table: TxTable<V>,
     /// It is `None` only while a transaction or sessions run.
-    pub(crate) seat: Option<TxSeat<V>>,
+    pub(crate) seat: Option<Boxed<TxSeat<V>>>,
     pub(crate) tally: Tally,
 }
 
@@ -170,7 +171,7 @@ impl<V: Value> Store<V> {
         ensures { result ≡ self.now.last }
     {
         match &self.seat {
-            Some(seat) => seat.last_number(),
+            Some(seat) => seat.get().last_number(),
             None => unreachable!(),
         }
     }
@@ -195,7 +196,7 @@ impl<V: Value> Store<V> {
         match self.seat.take() {
             Some(seat) => {
                 let mut seat = seat;
-                let learnt = seat.learn(&self.table, number);
+                let learnt = seat.get_mut().learn(&self.table, number);
                 self.seat = Some(seat);
                 learnt
             }
@@ -234,12 +235,13 @@ impl<V: Value> Store<V> {
     {
         match self.seat.take() {
             Some(seat) => {
-                let (seat, served) = serve(
+                let mut seat = seat;
+                let served = serve(
                     rt,
                     self.alloc,
                     &self.table,
                     self.number,
-                    seat,
+                    seat.get_mut(),
                     sessions,
                 );
                 self.seat = Some(seat);
@@ -308,7 +310,7 @@ impl<V: Value> Store<V> {
         } = self;
         match seat {
             Some(seat) => {
-                let closed = seat.close(table)?;
+                let closed = seat.into_inner().close(table)?;
                 let state = closed.state()?;
                 Ok(contents_of(number, state))
             }

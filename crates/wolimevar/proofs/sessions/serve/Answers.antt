@@ -2,9 +2,13 @@ use Rattle.std.proofs.Common.{rules, ◌≡◌, ◌++◌, ◌∙◌, ap, arith, 
 use Rattle.std.specs.Prelude.{All, drop, take}
 use Rattle.std.specs.List.{AllZip}
 use Rattle.tx_table.specs.Seated.{view}
-use Rattle.wolimevar.specs.Sessions.{IsFinished, IsServed, receipts_at}
+use Rattle.wolimevar.specs.Sessions.{IsFinished, IsServed, IsWaiting, receipts_at}
 use Rattle.wolimevar.proofs.SessionLemmas.{all_own, all_served, as_long, finished_all, joined_behind, whole_slice, zip_of}
 use Rattle.wolimevar.proofs.sessions.serve.Goals as goal
+
+pub serve_all-requires-clause-wait : goal.serve_all-requires-clause-wait
+serve_all-requires-clause-wait g c κs within =
+    subst (All (IsWaiting c.args.table.now)) (sym c.as_mut_slice.ensures.value) c.prepare_all.ensures.wait
 
 pub join_all-requires-clause-finished : goal.join_all-requires-clause-finished
 join_all-requires-clause-finished g c =
@@ -26,7 +30,7 @@ join_all-requires-clause-room g c =
     let long : length now ≡ length old = search rules in
     let len : c.prepare_all.new.tasks.len ≡ length old = search rules in
     let whole = ap (λ ps. length ps) (whole_slice now old c.prepare_all.new.tasks.len len long) in
-    let many = as_long _ _ old c.args.sessions.items c.prepare_all.ensures.sessions in
+    let many = as_long _ _ old c.args.sessions.items c.in-Ok-prepare_all.ensures.sessions in
     let room = c.in-Ok-with_capacity.ensures.capacity in
     let count = c.len-count.ensures in
     omega (arith, long, whole, many, room, count)
@@ -38,11 +42,10 @@ returns-clause-whole g c =
     let long : length now ≡ length old = search rules in
     let len : c.prepare_all.new.tasks.len ≡ length old = search rules in
     let whole = ap (λ ps. length ps) (whole_slice now old c.prepare_all.new.tasks.len len long) in
-    let many = as_long _ _ old c.args.sessions.items c.prepare_all.ensures.sessions in
-    let split = c.prepare_all.ensures.shares in
+    let split = c.prepare_all.ensures.left.shares in
     let joins = c.join_all.ensures.shares in
     let all = c.requires.whole in
-    omega (arith, long, whole, many, split, joins, all)
+    omega (arith, long, whole, split, joins, all)
 
 pub returns-clause-all : goal.returns-clause-all
 returns-clause-all g c =
@@ -59,8 +62,17 @@ returns-clause-all g c =
     record {
       lists = map (λ p. receipts_at p.seat) left;
       each = all_served c.args.table.now g.N.Session.serves old left c.args.sessions.items c.join_all.new.outs.items
-          (subst (AllZip Served old) (sym whole) zip) c.prepare_all.ensures.sessions c.join_all.ensures.outs;
+          (subst (AllZip Served old) (sym whole) zip) c.in-Ok-prepare_all.ensures.sessions c.join_all.ensures.outs;
       own = all_own c.args.table.now g.N.Session.serves old left (subst (AllZip Served old) (sym whole) zip);
-      gains = joined_behind {N = g.row.N.Denot} {O = g.row.N-Out.Denot} c.args.table.now (view c.args.seat.seat).receipts (view c.prepare_all.new.seat.seat).receipts
-          (view c.join_all.new.seat.seat).receipts left c.join_all.ensures.receipts c.prepare_all.ensures.receipts;
+      gains = joined_behind {N = g.row.N.Denot} {O = g.row.N-Out.Denot} c.args.table.now (view c.args.seat.now.seat).receipts (view c.prepare_all.new.seat.seat).receipts
+          (view c.join_all.new.seat.seat).receipts left c.join_all.ensures.receipts c.prepare_all.ensures.left.receipts;
     }
+
+pub returns-clause-asks : goal.returns-clause-asks
+returns-clause-asks g c = c.join_all.ensures.asks ∙ c.prepare_all.ensures.left.asked
+
+pub returns-clause-last : goal.returns-clause-last
+returns-clause-last g c =
+    let split = c.prepare_all.ensures.left.last in
+    let joins = c.join_all.ensures.last in
+    omega (arith, split, joins)

@@ -1,5 +1,5 @@
 use Rattle.std.proofs.Common.{rules, ◌≡◌, ◌∙◌, Some, refl}
-use Rattle.wolimevar.proofs.SessionLemmas.{one_share}
+use Rattle.wolimevar.proofs.SessionLemmas.{waiting_seat}
 use Rattle.wolimevar.proofs.sessions.serve_task.Goals as goal
 
 pub returns : goal.returns
@@ -13,7 +13,7 @@ returns g c =
           seat = refl;
           ready = c.serve_one-seat.ensures.ready;
           share = c.serve_one-seat.ensures.shares
-              ∙ one_share c.args.table.now c.args.task.now c.in-Some-Some.seat c.requires.waits seat_is;
+              ∙ (waiting_seat c.args.table.now c.args.task.now c.in-Some-Some.seat c.requires.waits seat_is).share;
           given = c.serve_one-seat.result.1;
           out = refl;
         };

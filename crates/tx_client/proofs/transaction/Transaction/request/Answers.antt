@@ -1,10 +1,20 @@
+use Rattle.std.proofs.Common.{subst}
+use Rattle.seq_model.specs.declared.call.Call.{Call}
+use Rattle.tx_engine.specs.declared.seats.TxSeat.{TxSeat}
+use Rattle.tx_engine.specs.Ready.{HasCalled}
 use Rattle.tx_client.proofs.FrameLemmas.{called_on}
 use Rattle.tx_client.proofs.transaction.Transaction.request.Goals as goal
 
 pub invariant_of-self-in-Err : goal.invariant_of-self-in-Err
 invariant_of-self-in-Err g c =
-    called_on g.S.Scope.frame c.self.inside.table.now c.self.inside.seat c.call.new.self _ _ c.self.invariant c.call.ensures.called
+    let call : Call g.row.V.Denot = record { target = c.args.target; op = c.args.op } in
+    called_on g.S.Scope.frame c.self.inside.table.now c.self.inside.seat c.call.new.self call c.call.result c.self.invariant
+    (subst (λ (s : TxSeat g.row.V.Denot). HasCalled c.self.inside.table.now s c.call.new.self call c.call.result) c.get_mut.ensures.value
+    c.call.ensures.called)
 
 pub invariant_of-self : goal.invariant_of-self
 invariant_of-self g c =
-    called_on g.S.Scope.frame c.self.inside.table.now c.self.inside.seat c.call.new.self _ _ c.self.invariant c.call.ensures.called
+    let call : Call g.row.V.Denot = record { target = c.args.target; op = c.args.op } in
+    called_on g.S.Scope.frame c.self.inside.table.now c.self.inside.seat c.call.new.self call c.call.result c.self.invariant
+    (subst (λ (s : TxSeat g.row.V.Denot). HasCalled c.self.inside.table.now s c.call.new.self call c.call.result) c.get_mut.ensures.value
+    c.call.ensures.called)

@@ -1,4 +1,7 @@
 use Rattle.std.proofs.Common.{subst, sym}
+use Rattle.tx_table.specs.Seated.{contents_in, view}
+use Rattle.tx_engine.specs.declared.seats.TxSeat.{TxSeat}
+use Rattle.tx_engine.specs.Closing as closing
 use Rattle.wolimevar.specs.Stores.{IsLeftBy}
 use Rattle.wolimevar.proofs.CloseLemmas.{close_left}
 use Rattle.wolimevar.proofs.store.Store.close.Goals as goal
@@ -7,5 +10,7 @@ pub returns-clause-left : goal.returns-clause-left
 returns-clause-left g c =
     subst (λ left. IsLeftBy c.args.self left) (sym c.contents_of.ensures.state)
     (close_left c.self.inside.number c.self.inside.table c.self.inside.seat c.in-Some.seat c.self.inside.tally c.args.self
-    c.in_ok-closed-in-Some.closed c.in_ok-state-in-Some.state c.self.view_is c.in-Some.is c.in_ok-closed-in-Some.ensures.left
+    c.in_ok-closed-in-Some.closed c.in_ok-state-in-Some.state c.self.view_is c.in-Some.is
+    (subst (λ (s : TxSeat g.row.V.Denot). closing.IsLeftBy (contents_in c.self.inside.table) (view s.seat).receipts c.in_ok-closed-in-Some.closed)
+    c.into_inner.ensures c.in_ok-closed-in-Some.ensures.left)
     c.in_ok-state-in-Some.ensures.words c.in_ok-state-in-Some.ensures.held)
