@@ -8,13 +8,14 @@
 # were measured. Titles are made of them, too, so a picture never says what its figures don't.
 #
 # NAME is sessions, transactions, gates, sizes, refusals or peers; peers, other transactional memories as scripts/beside_peers.sh runs them,
-# are measured where they are named. Measure on an idle machine. ROUNDS says how often each is measured, three times where it is left out.
+# are measured where they are named. Measure on an idle machine. ROUNDS says how often each is measured, three times where it is left out;
+# PROGRAMS names a folder that has the programs measure and proust_tool, which are built where it is left out.
 #
 # It draws with gnuplot, which it installs where it isn't there.
 set -eu
 
 usage() {
-    sed -n '2,13s/^# \{0,1\}//p' "$0" >&2
+    sed -n '2,14s/^# \{0,1\}//p' "$0" >&2
     exit 2
 }
 
@@ -150,7 +151,7 @@ new() {
 # measure [NAME ..]
 measure() {
     local program name tool
-    program=$(mktemp -d)
+    program=${PROGRAMS:-$(mktemp -d)}
     [ $# -gt 0 ] || set -- sessions transactions gates sizes refusals
     for name in "$@"; do
         tool=measure
@@ -162,7 +163,7 @@ measure() {
         [ -x "$program/$tool" ] || scripts/build_unproved.sh --fast $tool "$program/$tool"
         new "$name.csv" "measure_$name" "$program/$tool"
     done
-    rm -rf "$program"
+    [ -n "${PROGRAMS:-}" ] || rm -rf "$program"
 }
 
 # ---- pictures
