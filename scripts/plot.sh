@@ -268,7 +268,7 @@ draw_gates() {
     local map queue
     map=$(ratio "$(figure gates.csv 4 "map,8,4,")" "$(figure gates.csv 4 "map,1,4,")")
     queue=$(ratio "$(figure gates.csv 4 "queue,4,4,")" "$(figure gates.csv 4 "queue,1,4,")")
-    draw gates gates.csv "Four threads: eight gates make $map times what one gate makes, four lanes $queue times what one lane makes" <<END
+    draw gates gates.csv "Four threads: eight gates make $map times what one makes, four lanes $queue times" <<END
 set xlabel "threads (four calls on a map, of which one of ten is a put; or an item that goes round in a queue)"
 set ylabel "thousand transactions a second"
 set xtics (1, 2, 4)
@@ -329,6 +329,8 @@ set ylabel "thousand sessions a second"
 set xtics (1, 2, 4)
 set xrange [0.8:4.2]
 set logscale y
+set tmargin at screen 0.74
+set key maxrows 3 font ",12"
 plot $plot
 END
 }
