@@ -9,7 +9,7 @@ use Rattle.tx_actor.proofs.HavingLemmas.{still_after, still_then}
 use Rattle.tx_actor.proofs.KeepingLemmas.{keeps_asked, keeps_through}
 use Rattle.tx_actor.proofs.PreparesLemmas.{still_alike}
 use Rattle.tx_actor.proofs.RoomLemmas.{alike_in, alike_keeps, can_go_on}
-use Rattle.tx_actor.proofs.actor.TxActor.calls_held.Goals as goal
+use Rattle.tx_actor.proofs.actor.TxActor.calls_ready.Goals as goal
 
 pub prepares-requires : goal.prepares-requires
 prepares-requires g c =
