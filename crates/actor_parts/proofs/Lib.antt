@@ -37,7 +37,7 @@ mod ForgottenLemmas
 mod SizesLemmas
 pub mod TakingLemmas
 mod PutBackLemmas
-mod RoomLemmas
+pub mod RoomLemmas
 pub mod WeighedLemmas
 pub mod AuditLemmas
 pub mod LayoutLemmas

@@ -31,7 +31,7 @@ use Rattle.actor_parts.specs.Room.{surely_fits, takes_more}
 use Rattle.actor_parts.specs.Sizes.{HasAtMost, base_reads, base_writes, is_on_key}
 
 -- ---- few locations
-few_fit : (set : Entries) (ls : List ℕ) (n : ℕ) → takes_more set n ≡ true → length ls ≤ n → worlds.fits set ls ≡ true
+pub few_fit : (set : Entries) (ls : List ℕ) (n : ℕ) → takes_more set n ≡ true → length ls ≤ n → worlds.fits set ls ≡ true
 few_fit set ls n room few =
     let new = filter_shorter (λ l. is_none (lookup set l)) ls in
     let le = leb-true _ _ room in

@@ -25,3 +25,4 @@ pub mod Tables
 pub mod Openings
 pub mod States
 pub mod Audits
+pub mod Puts

@@ -27,6 +27,7 @@ mod layout;
 mod next;
 mod notice;
 mod opening;
+mod puts;
 mod requests;
 mod room;
 mod sizes;
@@ -56,6 +57,7 @@ pub use notice::{WordNotice, of_told};
 pub use requests::{
     close_words, fits_one, lock_words, read_word, seek_word, store_words, write_word,
 };
+pub use room::surely_fits;
 pub use sizes::sizes_copies;
 pub use spares::Spares;
 pub use staying::copies_stay;

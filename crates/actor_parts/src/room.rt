@@ -12,7 +12,7 @@ use tx_sets::{AccessSet, LOCATION_LIMIT};
 
 /// Whether so many locations that are read, and so many that are written, fit the sets of the transaction, whichever they are. Others may
 /// fit all the same, where the sets have some of them.
-pub(crate) fn surely_fits(words: &Actor, reads: usize, writes: usize) -> bool
+pub fn surely_fits(words: &Actor, reads: usize, writes: usize) -> bool
     ensures { result ≡ surely_fits (actor_of words.now) reads writes }
 {
     words.declared || (takes_more(&words.reads, reads) && takes_more(&words.writes, writes))

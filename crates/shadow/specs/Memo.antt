@@ -12,6 +12,7 @@ use Rattle.seq_model.specs.declared.limits.TheConstants.{COPY_LIMIT}
 use Rattle.seq_model.specs.Calls.{value_reply}
 use Rattle.seq_model.specs.Counts.{copies}
 use Rattle.conflict.specs.declared.change.Change.{Change}
+use Rattle.conflict.specs.declared.change.Change.TheVariants as change
 use Rattle.conflict.specs.declared.outcome.Outcome.{Outcome}
 use Rattle.conflict.specs.declared.outcome.Note.TheVariants.{Plain}
 use Rattle.conflict.specs.Counts.{stripe_counts}
@@ -193,6 +194,13 @@ module _ {V : Type 0} where
   map_answer (Put k v) es = Some (entry_outcome (Put k v) (known_entry es k))
   map_answer (Remove k) es = Some (entry_outcome (Remove k) (known_entry es k))
   map_answer op es = None
+
+  -- a put, and what it changes
+  abbrev pub put_of : ℕ → V → Op V
+  put_of k v = Put k v
+
+  abbrev pub put_as : ℕ → V → Change V
+  put_as k v = change.Put k v
 
   -- what is kept after an outcome of a map's keys, and of a multiset's elements
   abbrev pub entries_after : Op V → Reply V → FinMap nat_cmp (Option V) → FinMap nat_cmp (Option V)

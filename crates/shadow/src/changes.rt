@@ -1,13 +1,15 @@
 //! What a call on a key changes, and where it reads and writes.
-ghost use Rattle.std.specs.Prelude.{◌≡◌, ◌<◌, [], ◌∷◌, None, IfOk, IfSome, OnOk, option_to_list};
+ghost use Rattle.std.specs.Prelude.{◌≡◌, ◌<◌, ◌≤◌, ◌^◌, ℕ, [], ◌∷◌, None, IfOk, IfSome, OnOk, option_to_list};
+ghost use Rattle.seq_model.specs.Calls.{value_reply};
+ghost use Rattle.seq_model.specs.declared.call.Reply.{Reply};
 ghost use Rattle.base_bag.specs.Conflicts as bag;
 ghost use Rattle.base_map.specs.Conflicts as of_map;
 ghost use Rattle.replay_log.specs.Base.{changes_of, shown_of, writes_of};
 ghost use Rattle.shadow.specs.KeyPlace.{written_there};
-ghost use Rattle.shadow.specs.Memo.{blank_of};
+ghost use Rattle.shadow.specs.Memo.{blank_of, grown_after, known_entry, put_of};
 
 use crate::memo::{KeyPlace, MemoKind};
-use conflict::{Change, Outcome};
+use conflict::{Change, FewKeys, Outcome};
 use seq_model::{Memory, Op, Reply, Value};
 
 /// What an outcome changes is put into this place. Answers the location that it writes; without one it changes nothing.
@@ -123,5 +125,34 @@ pub(crate) fn copies_place<V>(stripes: u32, outcome: &Outcome<V>) -> Option<KeyP
             written: false,
         }),
         _ => None,
+    }
+}
+
+/// What a put on the key replies, for it to be kept and to be told.
+#[inline(always)]
+pub(crate) fn entry_replies<V: Value>(
+    entries: &FewKeys<Option<V>>,
+    key: u64,
+) -> Result<(Reply<V>, Reply<V>), Memory>
+    ensures { IfOk result (λ replies. let had : Reply V = value_reply (known_entry entries.now.contents key) in
+        (replies.0 ≡ had) × (replies.1 ≡ had)) }
+{
+    match entries.get(key) {
+        Some(Some(value)) => Ok((
+            Reply::Value(value.try_copy()?),
+            Reply::Value(value.try_copy()?),
+        )),
+        _ => Ok((Reply::Nothing, Reply::Nothing)),
+    }
+}
+
+/// Counts a put which this is the reply of.
+pub(crate) fn count_put<V>(grown: &mut u64, reply: &Reply<V>)
+    requires { grown.old < 2 ^ 63 }
+    ensures grown { (key : ℕ) (value : V) → grown.new ≡ grown_after (put_of key value) reply.now grown.old }
+    ensures small { grown.new ≤ 2 ^ 63 }
+{
+    if let Reply::Nothing = reply {
+        *grown += 1;
     }
 }

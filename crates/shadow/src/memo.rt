@@ -1,12 +1,13 @@
 //! What a transaction keeps of the single keys that it touched, and of the number of all keys.
-ghost use Rattle.std.specs.Prelude.{◌≡◌, ◌<◌, ◌≤◌, ◌++◌, ◌^◌, ◌+◌, ◌-◌, [], ◌∷◌, Some, None, length, option_to_list, unwrap_or};
+ghost use Rattle.std.specs.Prelude.{◌≡◌, ◌<◌, ◌≤◌, ◌++◌, ◌^◌, ◌+◌, ◌-◌, ℕ, [], ◌∷◌, Some, None, length, option_to_list, unwrap_or};
 ghost use Rattle.std.specs.Prelude.{All, IfOk, IfErr, IfSome, IsSome, OnOk, OnErr, slice_index};
 ghost use Rattle.std.specs.FinMap as map;
 ghost use Rattle.std.specs.List.{sum};
-ghost use Rattle.seq_model.specs.Calls.{IsRefusal};
+ghost use Rattle.seq_model.specs.Calls.{IsRefusal, value_reply};
 ghost use Rattle.seq_model.specs.Counts.{copies};
 ghost use Rattle.seq_model.specs.declared.call.Op.TheVariants.{Remove};
-ghost use Rattle.conflict.specs.Footprints.{all_below};
+ghost use Rattle.seq_model.specs.declared.call.Reply.{Reply};
+ghost use Rattle.conflict.specs.Footprints.{all_below, key_place};
 ghost use Rattle.conflict.specs.Refusals.{IsTooLong, IsStripeCount};
 ghost use Rattle.base_bag.specs.Conflicts as bag;
 ghost use Rattle.replay_log.specs.Base.{IsPreparedFor, after, changes_of, editions_of, empty_of, locations_of, reads_of, shown_of};
@@ -16,10 +17,11 @@ ghost use Rattle.replay_log.specs.declared.touch.Touched.TheVariants.{Entry};
 ghost use Rattle.shadow.specs.KeyPlace.{written_there};
 ghost use Rattle.shadow.specs.Memo.{HasKeys, HasPlace, IsReadyFor, answer_with, copies_after, copies_kept, copies_without};
 ghost use Rattle.shadow.specs.Memo.{entries_after, entries_kept};
+ghost use Rattle.shadow.specs.Memo.{known_entry, put_as, put_of};
 ghost use Rattle.shadow.specs.Memo.{entries_without, grown_after, grown_kept, holds, kind_room, map_answer, shape, shrunk_after};
 ghost use Rattle.shadow.specs.Memo.{shrunk_kept, total_without, with_count, with_entry, with_key, with_number, with_total, IsTold};
 
-use crate::changes::{copies_place, entry_place, put_change};
+use crate::changes::{copies_place, count_put, entry_place, entry_replies, put_change};
 use conflict::{Change, FewKeys, LocSet, Note, Outcome, is_stripe_count};
 use replay_log::{Base, Log, Touch, Touched};
 use seq_model::{COPY_LIMIT, Items, Kind, Memory, Op, Refusal, Reply, Value};
@@ -245,6 +247,56 @@ impl<V: Value> Memo<V> {
         self.stripes = stripes;
         self.clear();
         Ok(())
+    }
+
+    /// The location that a map has for the key.
+    #[inline(always)]
+    pub fn entry_location(&self, key: u64) -> u32
+        ensures { result ≡ key_place (stripes_of self.now.blank) key }
+    {
+        match self.kind {
+            MemoKind::Map => base_map::place_in(self.stripes, key),
+            MemoKind::Bag => base_map::place_in(self.stripes, key),
+        }
+    }
+
+    /// The key gets the value, and the log of the accepted changes the put, at this location. Answers what a put on the key replies, twice:
+    /// what the key had. `Memory`, where an allocation fails, leaves what is kept. What was made ready is so no more.
+    #[inline(always)]
+    pub fn put_entry(
+        &mut self,
+        key: u64,
+        value: &V,
+        location: u32,
+    ) -> Result<(Reply<V>, Reply<V>), Memory>
+        ensures replies { IfOk result (λ replies. let had : Reply V = value_reply (known_entry self.old.entries key) in
+            (replies.0 ≡ had) × (replies.1 ≡ had)) }
+        ensures entries { OnOk result (self.new.entries ≡ map.insert self.old.entries key (Some value.now)) }
+        ensures changes { OnOk result (self.new.changes ≡ self.old.changes ++ put_as key value.now ∷ []) }
+        ensures locations { OnOk result (self.new.locations ≡ self.old.locations ++ location ∷ []) }
+        ensures grown { OnOk result (self.new.grown
+            ≡ grown_after (put_of key value.now) (value_reply (known_entry self.old.entries key)) self.old.grown) }
+        ensures copies { self.new.copies ≡ self.old.copies }
+        ensures total { self.new.total ≡ self.old.total }
+        ensures shrunk { self.new.shrunk ≡ self.old.shrunk }
+        ensures blank { self.new.blank ≡ self.old.blank }
+        ensures err { OnErr result ((self.new.entries ≡ self.old.entries) × (self.new.grown ≡ self.old.grown)
+            × (self.new.changes ≡ self.old.changes) × (self.new.locations ≡ self.old.locations)) }
+    {
+        self.is_ready = false;
+        if self.grown >= KEY_LIMIT {
+            return Err(Memory);
+        }
+        let replies = entry_replies(&self.entries, key)?;
+        let held = value.try_copy()?;
+        let change = Change::Put(key, value.try_copy()?);
+        self.log.reserve(1)?;
+        self.entries.reserve(1)?;
+        self.log
+            .append_one(Some(change), &LocSet::single(self.alloc, location));
+        count_put(&mut self.grown, &replies.0);
+        self.entries.insert_reserved(key, Some(held));
+        Ok(replies)
     }
 
     /// Whether the key of the call is held, or the number of all. It takes no memory.

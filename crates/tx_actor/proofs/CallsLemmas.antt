@@ -277,7 +277,7 @@ module _ {V : Type 0} where
         known = λ d at. subst (λ (z : CopyOf V). IsSome (answer_of z.copied op)) (same d at) answers;
       }
 
-  piece_there : (v : BlocksView) (w : World V) (a : ℕ) (r : TxActor V) (i k : ℕ) (op : Op V) → OwnsCopies r w a
+  pub piece_there : (v : BlocksView) (w : World V) (a : ℕ) (r : TxActor V) (i k : ℕ) (op : Op V) → OwnsCopies r w a
       → is_known (block_of w.blocks k) op ≡ true → IsHeldAt r.copies.items i k op
       → has_piece (copy_of r.copies.items k) (piece_at w.blocks (call_on k op)) ≡ true
   piece_there v w a r i k op own known h =
@@ -287,7 +287,7 @@ module _ {V : Type 0} where
   seat_pieces : (x : Seat V) (r : TxActor V) → is_recorded r.stage ≡ false → (seat_at x r).copied ≡ (seat_of r).copied
   seat_pieces x r e = ap (λ (z : Seat V). z.copied) (cond-false (is_recorded r.stage) _ (seat_in x.stage r) e)
 
-  is_held : (v : BlocksView) (w : World V) (a : ℕ) (r : TxActor V) (i f k : ℕ) (op : Op V) (o : Outcome V) → is_recorded r.stage ≡ false
+  pub is_held : (v : BlocksView) (w : World V) (a : ℕ) (r : TxActor V) (i f k : ℕ) (op : Op V) (o : Outcome V) → is_recorded r.stage ≡ false
       → IsLaid v w → Runs a r w → OwnsCopies r w a → (h : IsHeldAt r.copies.items i k op) → f ≡ first_of v.words v.blocks k
       → is_known (block_of v.blocks k) op ≡ true → may_ask (words.actor_of r.words) op ≡ true → answer_of h.copy.copied op ≡ Some o
       → Held w a r k h.copy.copied op o f
@@ -304,7 +304,7 @@ module _ {V : Type 0} where
         answer = answer;
       }
 
-  abbrev Answers : ℕ → TxActor V → Told V → After V → Type 0
+  abbrev pub Answers : ℕ → TxActor V → Told V → After V → Type 0
   Answers a n t z = Runs a n z.0 × (notice_of a t ≡ z.1) × OwnsCopies n z.0 a
 
   -- it continues

@@ -5,6 +5,7 @@ mod OwnsLemmas
 mod PreparesLemmas
 mod CopyingLemmas
 mod CallsLemmas
+mod StraightLemmas
 mod OwnAsksLemmas
 mod AskedLemmas
 mod KeepingLemmas

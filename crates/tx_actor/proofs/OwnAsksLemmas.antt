@@ -1,6 +1,7 @@
 -- What a request leaves of an actor's shadow: a request on words leaves it, and so does a commit or an abort, so what the actor has of
 -- collections remains its own; the acceptance of a call puts its outcome there, and into the copy.
-use Rattle.std.proofs.Common.{◌≡◌, ℕ, Bool, true, false, ◌&&◌, cond, [], ◌∷◌, Some, refl, sym, ap, ◌∙◌}
+use Rattle.std.proofs.Common.{◌≡◌, ◌<◌, ℕ, Bool, true, false, ◌&&◌, cond, length, [], ◌∷◌, Some, refl, sym, ap, ◌∙◌}
+use Rattle.std.specs.Prelude.{slice_get}
 use Rattle.tx_sets.specs.Entries.{Entries}
 use Rattle.tx_machine.specs.Notices as told
 use Rattle.seq_model.specs.declared.call.Op.TheVariants.{Read, Write}
@@ -15,6 +16,7 @@ use Rattle.tx_actor.specs.declared.actor.TxActor.{TxActor}
 use Rattle.actor_parts.specs.declared.judged.Judged.{Judged}
 use Rattle.actor_parts.specs.declared.judged.Judged.TheVariants.{All, Next, Stale}
 use Rattle.tx_actor.specs.Answers.{CanAccept, CopiesAfter, IsAcceptedAt, MayAccept}
+use Rattle.actor_parts.specs.declared.copies.CopyOf.{CopyOf}
 use Rattle.actor_parts.specs.Copies.{answer_of, answered_on}
 use Rattle.actor_parts.specs.Judged.{comes_to}
 use Rattle.tx_actor.specs.Owns.{OwnsCopies}
@@ -77,13 +79,16 @@ module _ {V : Type 0} where
   cancel_same a w x = record { words = refl; blocks = refl; shadow = refl }
 
   -- ---- a call that continues
-  accepted_owns : (w : World V) (a : ℕ) (x : Seat V) (u n : TxActor V) (call : running.Answered V) (left : Entries) → CanAccept u call
+  pub accepted_owns : (w : World V) (a : ℕ) (x : Seat V) (u n : TxActor V) (call : running.Answered V) (left : Entries)
+      → call.place < length u.copies.items
+      → ((c : CopyOf V) → slice_get u.copies.items call.place ≡ Some c
+      → (o : Outcome V) × (call.outcome ≡ Some o) × (c.collection ≡ call.asked.collection) × (answer_of c.copied call.asked.op ≡ Some o))
       → IsAcceptedAt call.place call.outcome u.copies.items n.copies.items → MayAccept w a call → OwnsCopies u w a
       → OwnsCopies n (comes_to w a x (answered_of call) left All).0 a
-  accepted_owns w a x u n call left prepared at may own =
+  accepted_owns w a x u n call left place answers at may own =
       let v : World V = (comes_to w a x (answered_of call) left All).0 in
-      let c = at_place u.copies.items call.place prepared.place in
-      let here = prepared.own c.0 c.1 in
+      let c = at_place u.copies.items call.place place in
+      let here = answers c.0 c.1 in
       let o = here.0 in
       let k = call.asked.collection in
       let op : o.op ≡ call.asked.op = answered_op c.0.copied call.asked.op o here.3 in
@@ -94,7 +99,7 @@ module _ {V : Type 0} where
       law.1 ∙ ap (longer (w.boosted.shadows a)) (may.outcome ∙ is) in
       owns_accepted w v a k o u n call.place call.outcome (refl, refl, shadow) here.1 at
       (λ d there. (
-      let other = prepared.own d there in
+      let other = answers d there in
       let same : other.0 ≡ o = same_outcome other.0 o (sym other.1 ∙ here.1) in (
         other.2,
         ap (answer_of d.copied) op ∙ (other.3 ∙ ap (λ (p : Outcome V). Some p) same),
@@ -103,7 +108,7 @@ module _ {V : Type 0} where
   pub comes_owns : (w : World V) (a : ℕ) (x : Seat V) (u n : TxActor V) (call : running.Answered V) (left : Entries) (j : Judged)
       → CanAccept u call → CopiesAfter j call u.copies.items n.copies.items → (j ≡ All → MayAccept w a call) → OwnsCopies u w a
       → OwnsCopies n (comes_to w a x (answered_of call) left j).0 a
-  comes_owns w a x u n call left All prepared at may own = accepted_owns w a x u n call left prepared at (may refl) own
+  comes_owns w a x u n call left All prepared at may own = accepted_owns w a x u n call left prepared.place prepared.own at (may refl) own
   comes_owns w a x u n call left (Next l) prepared at may own =
       owns_by u n w (comes_to w a x (answered_of call) left (Next l)).0 a at refl refl refl own
   comes_owns w a x u n call left (Stale l b v) prepared at may own =

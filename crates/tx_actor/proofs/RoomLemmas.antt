@@ -12,6 +12,7 @@ use Rattle.tx_machine.specs.Requests.{ask, wrote, write}
 use Rattle.tx_machine.specs.Requests as word
 use Rattle.tx_machine.specs.Boosted.{is_none}
 use Rattle.seq_model.specs.declared.call.Op.{Op}
+use Rattle.conflict.specs.declared.outcome.Outcome.{Outcome}
 use Rattle.replay_log.specs.Base.{shown_of, stripes_of}
 use Rattle.replay_log.specs.Contents.{Block, block_of, end_of, first_of, shifted, size}
 use Rattle.replay_log.specs.Worlds as worlds
@@ -389,6 +390,20 @@ module _ {V : Type 0} where
   known_locations c f [] = refl
   known_locations c f (l ∷ ls) =
       locations-cons (f + l, known_edition c l) (with_known c f ls) ∙ ap (λ (is : List ℕ). (f + l) ∷ is) (known_locations c f ls)
+
+  -- what a call on a held copy writes is in its collection
+  pub next_within : (v : BlocksView) (r : TxActor V) (i f k : ℕ) (op : Op V) (h : IsHeldAt r.copies.items i k op) (o : Outcome V)
+      → AreOfBlocks v r.copies.items → f ≡ first_of v.words v.blocks k
+      → All (λ d. d.0 < end_of v.words v.blocks) (with_next h.copy.copied f (writes_in h.copy.copied o))
+  next_within v r i f k op h o blocks first =
+      let c = h.copy.copied in
+      let b = blocks k c h.of in
+      let some : 0 < stripes_of (base_in c) = subst (λ (n : ℕ). 0 < n) (sym b.stripes) b.some in
+      let places : size b.block ≡ places_in c =
+      (λ j. size (record { kind = sym b.kind j; stripes = sym b.stripes j })) ∙ sized (stripes_of (base_in c)) (shown_of (base_in c)) in
+      let behind = first_inside v.words v.blocks k b.block b.there in
+      let le : f + places_in c ≤ end_of v.words v.blocks = omega (arith, behind, places, first) in
+      next_below c f (end_of v.words v.blocks) (writes_in c o) le (writes_below c o some)
 
   pub can_go_on : (v : BlocksView) (r u : TxActor V) (i f k : ℕ) (op : Op V) (h : IsHeldAt r.copies.items i k op) (p : Prepared V)
       → AreOfBlocks v r.copies.items → HasNoReads r.words → f ≡ first_of v.words v.blocks k → k < length v.blocks → IsAlike r u

@@ -14,6 +14,7 @@ ghost use Rattle.tx_actor.specs.Running.{seat_of};
 
 use crate::actor::{Stage, Told, TxActor};
 use crate::steps::MORE_TRIES;
+use crate::straight::put_place;
 use actor_parts::{Blocks, CopyOf, is_change, is_known, place_of};
 use seq_model::{CALL_LIMIT, Memory, Op, Refusal, Value};
 use std::alloc::Global;
@@ -47,9 +48,9 @@ fn held_place<V: Value>(copies: &[CopyOf<V>], collection: u32, op: &Op<V>) -> Op
 }
 
 impl<V: Value> TxActor<V> {
-    /// The copy at this place has what the call touches.
-    #[inline(always)]
-    fn calls_held(
+    /// The copy at this place has what the call touches. All that the call takes is made ready first.
+    #[inline(never)]
+    fn calls_ready(
         &mut self,
         alloc: Global,
         blocks: &Blocks,
@@ -74,6 +75,40 @@ impl<V: Value> TxActor<V> {
             None => {
                 self.stage = Stage::Open;
                 Ok(Told::Refused(Refusal::TooLong))
+            }
+        }
+    }
+
+    /// The copy at this place has what the call touches.
+    #[inline(always)]
+    fn calls_held(
+        &mut self,
+        alloc: Global,
+        blocks: &Blocks,
+        place: usize,
+        collection: u32,
+        op: Op<V>,
+    ) -> Result<Told<V>, Memory>
+        requires can { CanCall blocks.now self.old }
+        requires there { collection < length blocks.now.blocks }
+        requires known { is_known (block_of blocks.now.blocks collection) op ≡ true }
+        requires may { worlds.may_ask (actor_of self.old.words) op ≡ true }
+        requires held { IsHeldAt self.old.copies.items place collection op }
+        ensures ok { IfOk result (λ told. AsksOwn blocks.now self.old self.new told
+            (λ a w. calls_on w a (seat_of self.old) (call_on collection op))) }
+        ensures err { OnErr result (IsAlike self.old self.new) }
+        ensures keeps { HasNoReads self.old.words → KeepsIn blocks.now self.old self.new }
+        ensures still { ReadsStill self.old.copies.items self.new.copies.items }
+    {
+        let first = blocks.first_of(collection);
+        match put_place(&self.words, &self.copies[place].copied, first, &op) {
+            Some(at) => {
+                let told = self.puts_at(blocks, place, first, collection, op, at)?;
+                Ok(told)
+            }
+            None => {
+                let told = self.calls_ready(alloc, blocks, place, collection, op)?;
+                Ok(told)
             }
         }
     }

@@ -20,6 +20,7 @@ mod next;
 mod prepares;
 mod room;
 mod steps;
+mod straight;
 mod taking;
 pub mod turn_laws;
 
