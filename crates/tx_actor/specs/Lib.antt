@@ -16,3 +16,4 @@ pub mod Staying
 pub mod Taking
 pub mod Reached
 pub mod Kept
+pub mod Trying
