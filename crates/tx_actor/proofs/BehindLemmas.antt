@@ -32,7 +32,7 @@ use Rattle.actor_laws.specs.Bases.{IsBaseOf}
 use Rattle.actor_parts.specs.Blocks.{BlocksView, IsLaid}
 use Rattle.actor_parts.specs.Dispatch.{is_loading}
 use Rattle.actor_parts.specs.declared.judged.Judged.TheVariants.{All, Next}
-use Rattle.actor_parts.specs.Judged.{comes_to, judged, judged_one, left_after}
+use Rattle.actor_parts.specs.Judged.{comes_to, judged, judged_one, left_after, left_one}
 use Rattle.actor_parts.specs.Shows.{cancelled, ending, put_back}
 use Rattle.actor_parts.proofs.ShowsLemmas.{copies_for_call, gives_it_up, reads_next}
 use Rattle.actor_parts.specs.declared.copies.CopyOf.{CopyOf}
@@ -51,6 +51,7 @@ use Rattle.tx_actor.specs.declared.actor.Answered as running
 use Rattle.std.specs.declared.alloc.Global.{Global}
 use Rattle.std.specs.declared.collections.VecDeque.{VecDeque}
 use Rattle.tx_actor.specs.Keeping.{KeepsIn}
+use Rattle.tx_actor.specs.Loads.{first_entry}
 use Rattle.tx_actor.specs.Prepares.{AreReadied, IsAlike, MayPrepare}
 use Rattle.tx_actor.specs.Running.{KnowsHomes, Runs, asked_of, at, seat_at, seat_of}
 use Rattle.tx_actor.specs.Taking.{AreTakenBy, StarvesBehind, WaitsForKey, key_place_in}
@@ -69,6 +70,22 @@ homes_by n bs y = distinct (all_of (home_of n bs) (filter (λ l. not (is_plain n
 abbrev one_place : ℕ → Option ℕ → List ℕ
 one_place f (Some i) = (f + i) ∷ []
 one_place f None = []
+
+-- the first location is read next, where it is to be read
+pub first_next : (reads es : Entries) (d : ℕ × ℕ) → first_entry es ≡ Some d → lookup reads d.0 ≡ None → judged reads es ≡ Next d.0
+first_next reads [] d e none = absurd (let z : ⊥ = cc in z)
+first_next reads (c ∷ es) d e none =
+    let same : c ≡ d = cc in
+    let here : lookup reads c.0 ≡ None = ap (λ (p : ℕ × ℕ). lookup reads p.0) same ∙ none in
+    ap (judged_one c (judged reads es)) here ∙ ap (λ (p : ℕ × ℕ). Next p.0) same
+
+-- and then all are left
+pub first_stays : (reads es : Entries) (d : ℕ × ℕ) → first_entry es ≡ Some d → lookup reads d.0 ≡ None → left_after reads es ≡ es
+first_stays reads [] d e none = refl
+first_stays reads (c ∷ es) d e none =
+    let same : c ≡ d = cc in
+    let here : lookup reads c.0 ≡ None = ap (λ (p : ℕ × ℕ). lookup reads p.0) same ∙ none in
+    ap (left_one c es (left_after reads es)) here
 
 module _ {V : Type 0} where
   -- ---- the location of a key

@@ -17,3 +17,4 @@ pub mod Taking
 pub mod Reached
 pub mod Kept
 pub mod Straight
+pub mod Trying

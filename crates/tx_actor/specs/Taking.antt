@@ -2,6 +2,8 @@
 -- made ready once the gate is put back, while it waits for its location.
 use Rattle.std.specs.Prelude.{◌≡◌, ℕ, ◌+◌, true, Option, Some, None}
 use Rattle.std.specs.Global.{Vec}
+use Rattle.std.specs.declared.alloc.Global.{Global}
+use Rattle.std.specs.declared.collections.VecDeque.{VecDeque}
 use Rattle.tx_sets.specs.Entries.{lookup}
 use Rattle.seq_model.specs.declared.call.Op.{Op}
 use Rattle.seq_model.specs.declared.call.Op.TheVariants.{Get, Put, Remove, Count, Add, Take}
@@ -20,11 +22,16 @@ use Rattle.actor_parts.specs.declared.copies.CopyOf.{CopyOf}
 use Rattle.actor_parts.specs.declared.copies.Found.{Found}
 use Rattle.actor_parts.specs.Copies.{IsFound}
 use Rattle.actor_parts.specs.Taking.{IsTakenAt, fits_base}
+use Rattle.step_core.specs.declared.actor.Place.TheVariants as place
+use Rattle.tx_actor.specs.declared.actor.Answered as running
 use Rattle.tx_actor.specs.declared.actor.Asked.{Asked}
 use Rattle.tx_actor.specs.declared.actor.Stage.{Stage}
 use Rattle.tx_actor.specs.declared.actor.Stage.TheVariants as stage
+use Rattle.tx_actor.specs.declared.actor.Told.{Told}
+use Rattle.tx_actor.specs.declared.actor.Told.TheVariants as told
 use Rattle.tx_actor.specs.declared.actor.TxActor.{TxActor}
 use Rattle.tx_actor.specs.declared.taking.Taken.{Taken}
+use Rattle.tx_actor.specs.declared.taking.Waiting.{Waiting}
 use Rattle.tx_actor.specs.Copying.{CanCopy, MayCopy}
 use Rattle.tx_actor.specs.Running.{Runs, asked_of, at, seat_of}
 
@@ -90,3 +97,18 @@ module _ {V : Type 0} where
   abbrev pub StarvesBehindAt : BlocksView → TxActor V → TxActor V → Base V → Stage V → Type 0
   StarvesBehindAt v r u base (stage.Copying asked) = StarvesBehind v r u base asked
   StarvesBehindAt v r u base s = ⊥
+
+  -- ---- a call that waits for its location
+  -- r, which waits for this location: the first of those that are left of this call
+  abbrev pub waiting : TxActor V → running.Answered V → VecDeque (ℕ × ℕ) Global → ℕ → TxActor V
+  waiting r o left l = record r { words = record r.words { place = place.Look l }; stage = stage.Loading o left }
+
+  -- u, which waits where its call was handed over
+  abbrev pub waiting_at : Option (Waiting V) → TxActor V → TxActor V
+  waiting_at None u = u
+  waiting_at (Some w) u = waiting u w.call w.left w.location
+
+  -- and then nothing is told
+  abbrev pub told_at : Option (Waiting V) → Told V → Told V
+  told_at None t = t
+  told_at (Some w) t = told.Quiet

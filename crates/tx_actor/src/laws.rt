@@ -21,6 +21,7 @@ ghost use Rattle.tx_actor.specs.Keeping.{IsRunning};
 ghost use Rattle.tx_actor.specs.Reading.{LoadsKeep};
 ghost use Rattle.tx_actor.specs.Owns.{OwnsCopies};
 ghost use Rattle.tx_actor.specs.Staying.{CopiesStayOwn, LoadsStayOwn};
+ghost use Rattle.tx_actor.specs.Trying.{HoldsGates};
 
 use crate::actor::Stage;
 use actor_parts::{copies_put_back, copies_stay};
@@ -98,3 +99,8 @@ pub fn copied_stay_own<V: Value>()
     copies_stay::<V>();
     copies_put_back::<V>();
 }
+
+/// A gate that was tried for a call, and found free, is held.
+pub fn free_gates_are_held<V: Value>()
+    ensures { HoldsGates V }
+{}

@@ -27,4 +27,4 @@ pub mod turn_laws;
 pub use actor::{Answered, Asked, Stage, Told, TxActor};
 pub use hand::{Asking, Kept};
 pub use prepares::Prepared;
-pub use taking::Taken;
+pub use taking::{Taken, Waiting};

@@ -19,7 +19,8 @@ use std::mem;
 use step_core::{WordAnswer, WordRefusal};
 
 /// The location that is read next, with its copied edition.
-fn first_left(left: &VecDeque<(u32, u64)>) -> Option<(u32, u64)>
+#[inline(always)]
+pub(crate) fn first_left(left: &VecDeque<(u32, u64)>) -> Option<(u32, u64)>
     ensures { result ≡ first_entry left.now.items }
 {
     if 0 < left.len() { Some(left[0]) } else { None }
@@ -56,9 +57,9 @@ impl<V: Value> TxActor<V> {
         self.goes_on(call, left)
     }
 
-    /// The first location was read with this edition.
+    /// The first location was read with this edition, for a call that is in hand.
     #[inline(always)]
-    fn has_found(
+    pub fn has_found(
         &mut self,
         call: Boxed<Answered<V>>,
         left: VecDeque<(u32, u64)>,

@@ -1,33 +1,52 @@
 //! A call that holds its gate no longer than it has to: what its key touches is taken under the gate, and where its location is to be read
 //! first, all else is made ready once the gate is put back. The call waits for that location then, so it can still be aborted.
-ghost use Rattle.std.specs.Prelude.{◌≡◌, ◌<◌, ℕ, IfOk, OnErr, Some, None, true};
+ghost use Rattle.std.specs.Prelude.{◌≡◌, ◌<◌, ℕ, IfOk, IfSome, OnErr, Option, Some, None, true};
 ghost use Rattle.replay_log.specs.Base.{shown_of, stripes_of};
 ghost use Rattle.replay_log.specs.Parts.{kind_of};
 ghost use Rattle.tx_sets.specs.Entries.{lookup};
+ghost use Rattle.conflict.specs.declared.outcome.Outcome.{Outcome};
+ghost use Rattle.replay_log.specs.Worlds as worlds;
+ghost use Rattle.replay_log.specs.Worlds.{World};
+ghost use Rattle.actor_parts.specs.Blocks.{BlocksView};
+ghost use Rattle.actor_parts.specs.Judged.{comes_to, judged, left_after};
+ghost use Rattle.actor_parts.specs.declared.judged.Judged.TheVariants.{Next};
 ghost use Rattle.actor_parts.specs.Requests.{HasNoReads};
+ghost use Rattle.step_core.specs.Shown.{actor_of};
+ghost use Rattle.tx_actor.specs.Answers.{CanAccept, MayAnswer};
 ghost use Rattle.tx_actor.specs.Copying.{CanCopy, CanCopyAt, HasTaken, IsUnmoved, StepsOn};
 ghost use Rattle.tx_actor.specs.Dispatch.{Starves};
-ghost use Rattle.tx_actor.specs.Having.{KeepsCopies};
-ghost use Rattle.tx_actor.specs.Keeping.{KeepsIn};
-ghost use Rattle.tx_actor.specs.Running.{at};
+ghost use Rattle.tx_actor.specs.Having.{HasGone, KeepsCopies};
+ghost use Rattle.tx_actor.specs.Keeping.{CanGoOn, KeepsIn};
+ghost use Rattle.tx_actor.specs.Running.{Runs, at, notice_of, seat_of, with_outcome};
 ghost use Rattle.tx_actor.specs.Taking.{AreTaken, AreTakenAt, AreTakenBy, AreTakenFor, IsTakenCall, StarvesBehind, WaitsForKey, WasTaken};
-ghost use Rattle.tx_actor.specs.Taking.{key_place_in};
+ghost use Rattle.tx_actor.specs.Taking.{key_place_in, told_at, waiting_at};
 ghost use Rattle.tx_actor.specs.declared.actor.Told.TheVariants as told;
 
-use crate::actor::{Asked, Stage, Told, TxActor};
+use crate::actor::{Answered, Asked, Stage, Told, TxActor};
 use crate::hand::Asking;
-use actor_parts::{Blocks, fits_base};
+use crate::loads::first_left;
+use actor_parts::{Blocks, Boxed, fits_base};
 use replay_log::Base;
 use seq_model::{Memory, Op, Refusal, Value};
 use std::alloc::Global;
+use std::collections::VecDeque;
 use std::mem;
-use step_core::Actor;
+use step_core::{Actor, Place};
 
 /// A call whose key was taken, and where the copy of its collection stands.
 #[derive(Drop)]
 pub struct Taken<V> {
     pub asked: Asking<V>,
     pub place: usize,
+}
+
+/// A call that is ready, and waits for this location, the first of those that are left to be judged. Nothing of the actor says so: the call
+/// is in hand.
+#[derive(Drop)]
+pub struct Waiting<V> {
+    pub call: Boxed<Answered<V>>,
+    pub left: VecDeque<(u32, u64)>,
+    pub location: u32,
 }
 
 /// The location of the key that the call is on, counted from the first of its collection; none for a call on no key.
@@ -50,10 +69,28 @@ fn key_place_in<V: Value>(base: &Base<V>, op: &Op<V>) -> Option<u32>
 }
 
 /// Whether the read set does not have the location.
+#[inline(always)]
 fn is_unread(words: &Actor, location: u32) -> bool
     ensures { result ≡ true → lookup words.now.reads.entries location ≡ None }
 {
     !words.reads.contains(location)
+}
+
+/// The first of the locations that are left, where it is to be read.
+#[inline(always)]
+fn first_unread(words: &Actor, left: &VecDeque<(u32, u64)>) -> Option<u32>
+    ensures next { IfSome result (λ l. judged words.now.reads.entries left.now.items ≡ Next l) }
+    ensures all { IfSome result (λ l. left_after words.now.reads.entries left.now.items ≡ left.now.items) }
+{
+    match first_left(left) {
+        None => None,
+        Some(first) => {
+            if is_unread(words, first.0) {
+                return Some(first.0);
+            }
+            None
+        }
+    }
 }
 
 impl<V: Value> TxActor<V> {
@@ -125,8 +162,9 @@ impl<V: Value> TxActor<V> {
         Ok(Some(place))
     }
 
+    /// Like [`TxActor::takes`], of a call that is in hand.
     #[inline(always)]
-    fn takes_call(
+    pub fn takes_call(
         &mut self,
         alloc: Global,
         blocks: &Blocks,
@@ -179,8 +217,93 @@ impl<V: Value> TxActor<V> {
         }
     }
 
-    /// The gate is put back of a call whose key was taken: the call is made ready, and waits for the location. Where an allocation fails it
-    /// is aborted there, as the step of its seat and a failed allocation after it make of the seat.
+    /// A call that is prepared continues, as [`TxActor::goes_on`] says; where its first location is to be read it is handed over, and else
+    /// what it is told is in `said`.
+    #[inline(always)]
+    fn goes_to(
+        &mut self,
+        call: Boxed<Answered<V>>,
+        left: VecDeque<(u32, u64)>,
+        said: &mut Told<V>,
+    ) -> Option<Waiting<V>>
+        requires prepared { CanAccept self.old call }
+        ensures does { (a : ℕ) (w : World V) (x : Option (Outcome V)) → worlds.actor_of w a ≡ actor_of self.old.words →
+            MayAnswer w a self.old.words x call left.items →
+            let reads = self.old.words.reads.entries in
+            let f = comes_to w a (seat_of self.old) (with_outcome call x) (left_after reads left.items) (judged reads left.items) in
+            Runs a (waiting_at result self.new) f.0 × (notice_of a (told_at result said.new) ≡ f.1) }
+        ensures goes { HasGone (judged self.old.words.reads.entries left.items) self.old (waiting_at result self.new)
+            (told_at result said.new) call left.items }
+        ensures keeps { (v : BlocksView) → CanGoOn v self.old call left.items → KeepsIn v (at self.old Stage.Idle)
+            (waiting_at result self.new) }
+    {
+        match first_unread(&self.words, &left) {
+            Some(location) => Some(Waiting {
+                call,
+                left,
+                location,
+            }),
+            None => {
+                *said = self.goes_on(call, left);
+                None
+            }
+        }
+    }
+
+    /// The gate is put back of a call whose key was taken: the call is made ready, and waits for the location. Where it waits for its first
+    /// one it is handed over, and else what it is told is in `said`. Where an allocation fails it is aborted there, as the step of its seat
+    /// and a failed allocation after it make of the seat.
+    #[inline(always)]
+    pub fn goes_on_key(
+        &mut self,
+        alloc: Global,
+        blocks: &Blocks,
+        taken: Taken<V>,
+        said: &mut Told<V>,
+    ) -> Result<Option<Waiting<V>>, Memory>
+        requires { WasTaken blocks.now self.old taken }
+        ensures ok { IfOk result (λ waits. (r : TxActor V) (base : Base V) → CanCopy blocks.now r base taken.asked →
+            IsTakenCall blocks.now r self.old base taken →
+            StepsOn blocks.now (at r (Stage.Copying taken.asked)) (waiting_at waits self.new) (told_at waits said.new) base taken.asked
+            × HasTaken blocks.now r (waiting_at waits self.new) (told_at waits said.new) base taken.asked) }
+        ensures keeps { IfOk result (λ waits. (r : TxActor V) (base : Base V) → CanCopy blocks.now r base taken.asked →
+            IsTakenCall blocks.now r self.old base taken → HasNoReads r.words →
+            KeepsIn blocks.now (at r (Stage.Copying taken.asked)) (waiting_at waits self.new)) }
+        ensures err { OnErr result ((r : TxActor V) (base : Base V) → CanCopy blocks.now r base taken.asked →
+            IsTakenCall blocks.now r self.old base taken →
+            StarvesBehind blocks.now (at r (Stage.Copying taken.asked)) self.new base taken.asked) }
+        ensures bounds { OnErr result ((r : TxActor V) (base : Base V) → CanCopy blocks.now r base taken.asked →
+            IsTakenCall blocks.now r self.old base taken → KeepsIn blocks.now (at r (Stage.Copying taken.asked)) self.new) }
+        ensures leaves { OnErr result (KeepsCopies (at self.old Stage.Idle) self.new) }
+    {
+        let Taken { asked, place } = taken;
+        let first = blocks.first_of(asked.get().collection);
+        let mut call = asked.answering();
+        match self.readies(alloc, place, first, call.get_mut()) {
+            Ok(Some(left)) => Ok(self.goes_to(call, left, said)),
+            _ => {
+                let _ = self.gives_up(Refusal::Memory);
+                Err(Memory)
+            }
+        }
+    }
+
+    /// The call that was handed over is the actor's again.
+    fn waits(&mut self, waiting: Waiting<V>) -> Told<V>
+        ensures actor { self.new ≡ waiting_at (Some waiting) self.old }
+        ensures told { result ≡ Told.Quiet }
+    {
+        let Waiting {
+            call,
+            left,
+            location,
+        } = waiting;
+        self.words.place = Place::Look(location);
+        self.stage = Stage::Loading(call, left);
+        Told::Quiet
+    }
+
+    /// Like [`TxActor::goes_on_key`]: a call that waits for its first location is the actor's.
     #[inline(always)]
     pub fn goes_on_taken(
         &mut self,
@@ -201,15 +324,11 @@ impl<V: Value> TxActor<V> {
             KeepsIn blocks.now (at r (Stage.Copying taken.asked)) self.new }
         ensures leaves { OnErr result (KeepsCopies (at self.old Stage.Idle) self.new) }
     {
-        let Taken { asked, place } = taken;
-        let first = blocks.first_of(asked.get().collection);
-        let mut call = asked.answering();
-        match self.readies(alloc, place, first, call.get_mut()) {
-            Ok(Some(left)) => Ok(self.goes_on(call, left)),
-            _ => {
-                let _ = self.gives_up(Refusal::Memory);
-                Err(Memory)
-            }
+        let mut said = Told::Quiet;
+        match self.goes_on_key(alloc, blocks, taken, &mut said) {
+            Ok(Some(waiting)) => Ok(self.waits(waiting)),
+            Ok(None) => Ok(said),
+            Err(_) => Err(Memory),
         }
     }
 }

@@ -33,3 +33,4 @@ pub mod ReleaseLemmas
 pub mod LockLemmas
 pub mod CheckLemmas
 pub mod BeginLemmas
+pub mod KeyLemmas

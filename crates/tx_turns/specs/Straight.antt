@@ -1,6 +1,7 @@
 -- Steps that are taken in straight code: between them the actor is a term of the proof, which the program stores nowhere.
 use Rattle.replay_log.specs.declared.base.Base.{Base}
-use Rattle.std.specs.Prelude.{ℕ, ◌≤◌, List, Option, Some, None, Bool, true, false}
+use Rattle.std.specs.Prelude.{◌≡◌, ℕ, ◌≤◌, List, [], ◌∷◌, Option, Some, None, Bool, true, false}
+use Rattle.atomic_table.specs.Table.{rest}
 use Rattle.vlock_word.specs.declared.lock_word.LockWord.{LockWord}
 use Rattle.vlock_word.specs.declared.lock_word.LockWord.TheVariants.{Free, Locked}
 use Rattle.step_core.specs.declared.actor.Place.{Place}
@@ -8,10 +9,14 @@ use Rattle.tx_actor.specs.declared.actor.Stage as own
 use Rattle.tx_actor.specs.declared.actor.Stage.TheVariants as stage
 use Rattle.tx_actor.specs.declared.actor.Told.{Told}
 use Rattle.tx_actor.specs.declared.actor.TxActor.{TxActor}
+use Rattle.tx_actor.specs.declared.taking.Taken.{Taken}
+use Rattle.tx_actor.specs.Copying.{CanCopy}
+use Rattle.tx_actor.specs.Running.{at}
+use Rattle.tx_actor.specs.Taking.{IsTakenCall}
 use Rattle.tx_table.specs.declared.seat.Seat.{Seat}
 use Rattle.tx_table.specs.declared.table.TxTable.{TxTable}
-use Rattle.tx_table.specs.Seated.{opening_of}
-use Rattle.tx_turns.specs.Ties.{Ties}
+use Rattle.tx_table.specs.Seated.{Takes, opening_of, out, view}
+use Rattle.tx_turns.specs.Ties.{Ties, laid_in}
 use Rattle.tx_turns.specs.Own.{HasOwn}
 use Rattle.tx_turns.specs.Driven.{Driven, LeadsOn, Stops}
 use Rattle.seq_model.specs.declared.record.Record.{Record}
@@ -68,3 +73,29 @@ module _ {V : Type 0} where
   -- Turns have led to the seat u that answered n and made this record.
   abbrev pub IsLedTo : World V → Seat V → Told V → Option (Record V) → Type 0
   IsLedTo o u n d = (s : Seat V) × Driven o s u n d
+
+  -- ---- a call whose gate is tried
+  -- The seat s took turns that made no record, and is u now, which runs r; the last answered n, and none before it answered anything.
+  pub record HasDriven (t : TxTable V) (s u : Seat V) (r : TxActor V) (n : Told V) (bs : List (Base V)) : Type 0 where
+    pub ties : Ties t u r
+    pub own : HasOwn t u r bs
+    pub leads : LeadsAll (opening_of t) s u n
+
+  -- Or there was no memory: its request is being aborted, as u is.
+  pub record HasStopped (t : TxTable V) (s u : Seat V) (r : TxActor V) (bs : List (Base V)) : Type 0 where
+    pub ties : Ties t u r
+    pub own : HasOwn t u r bs
+    pub wants : WantsBy (opening_of t) s u None
+
+  -- A seat whose actor held the gate of a call has put it back, and is m now. What the call touches was taken of the base before, so the
+  -- actor is u.
+  pub record HasPut (t : TxTable V) (m : Seat V) (u : TxActor V) (p : Taken V) : Type 0 where
+    pub seat : Seat V
+    pub actor : TxActor V
+    pub base : Base V
+    pub idle : actor.stage ≡ stage.Idle
+    pub ties : Ties t seat (at actor (stage.Copying p.asked))
+    pub own : HasOwn t seat (at actor (stage.Copying p.asked)) (base ∷ [])
+    pub takes : Takes (opening_of t) seat (view seat).clock 1 None (rest (out seat)) m
+    pub can : CanCopy (laid_in t) actor base p.asked
+    pub taken : IsTakenCall (laid_in t) actor u base p

@@ -39,7 +39,7 @@ pub(crate) fn first<V: Value>(bases: &mut Vec<Boxed<Base<V>>>) -> Boxed<Base<V>>
 }
 
 /// An allocation fails for the request of a seat.
-fn refuse<V: Value>(seat: &mut Seat<V>)
+pub(crate) fn refuse<V: Value>(seat: &mut Seat<V>)
     ensures { HasTaken seat.old (Starve 0) seat.new }
 {
     seat.ask(&Event::Starve(0));
@@ -60,7 +60,7 @@ fn tries_left<V>(stage: &Stage<V>) -> u32 {
 /// it seems free. That one is done within microseconds where it has a core, so after each of the first 16 tries there are more looks than
 /// after the one before; after a later one the thread yields.
 #[inline(never)]
-fn wait<V: Value>(table: &TxTable<V>, stage: &Stage<V>, k: u32)
+pub(crate) fn wait<V: Value>(table: &TxTable<V>, stage: &Stage<V>, k: u32)
     requires { k < length (blocks_in table.now) }
 {
     let left = tries_left(stage);

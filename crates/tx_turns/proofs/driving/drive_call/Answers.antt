@@ -1,24 +1,18 @@
-use Rattle.std.proofs.Common.{List, None, subst}
+use Rattle.std.proofs.Common.{List, [], sym, subst}
 use Rattle.replay_log.specs.declared.base.Base.{Base}
-use Rattle.tx_table.specs.Seated.{opening_of}
+use Rattle.tx_actor.specs.declared.actor.TxActor.{TxActor}
 use Rattle.tx_turns.specs.Own.{HasOwn}
-use Rattle.tx_turns.proofs.DrivenLemmas.{driven_first}
+use Rattle.tx_turns.specs.Ties.{Ties}
 use Rattle.tx_turns.proofs.driving.drive_call.Goals as goal
 
-pub finish_after-requires-clause-own : goal.finish_after-requires-clause-own
-finish_after-requires-clause-own g c =
-    subst (λ (bs : List (Base _)). HasOwn c.args.table.now c.word_read_on-quiet.new.seat c.word_read_on-quiet.new.actor bs)
-    c.as_slice.ensures.value
-    c.word_read_on-quiet.ensures.own
+pub key_through-requires-clause-ties : goal.key_through-requires-clause-ties
+key_through-requires-clause-ties g c =
+    subst (λ (r : TxActor _). Ties c.args.table.now c.args.seat.now r) c.in-Some.ensures.some c.requires.ties
 
-pub finish_after-requires-clause-come : goal.finish_after-requires-clause-come
-finish_after-requires-clause-come g c =
-    let o = opening_of c.args.table.now in
-    let s = c.args.seat.now in
-    (s, c.word_read_on-quiet.ensures.leads None s (driven_first o s c.requires.under))
+pub key_through-requires-clause-own : goal.key_through-requires-clause-own
+key_through-requires-clause-own g c =
+    subst (λ (r : TxActor _). HasOwn c.args.table.now c.args.seat.now r []) c.in-Some.ensures.some c.requires.own
 
-pub returns-clause-driven : goal.returns-clause-driven
-returns-clause-driven g c =
-    let o = opening_of c.args.table.now in
-    let s = c.args.seat.now in
-    c.finish_after.ensures.leads s (c.word_read_on-quiet.ensures.leads None s (driven_first o s c.requires.under))
+pub word_through-requires-clause-ties : goal.word_through-requires-clause-ties
+word_through-requires-clause-ties g c =
+    subst (λ (r : TxActor _). Ties c.args.table.now c.args.seat.now r) (sym c.in-None.ensures.none) c.requires.ties

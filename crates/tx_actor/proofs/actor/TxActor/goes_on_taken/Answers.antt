@@ -1,126 +1,52 @@
-use Rattle.std.proofs.Common.{◌≡◌, ℕ, Option, Some, inr, sym, ap, subst, ◌∙◌}
-use Rattle.std.specs.declared.alloc.Global.{Global}
-use Rattle.std.specs.declared.collections.VecDeque.{VecDeque}
-use Rattle.replay_log.specs.Contents.{block_of, first_of}
-use Rattle.actor_parts.specs.Judged.{judged}
-use Rattle.tx_actor.specs.Answers.{CanAccept}
-use Rattle.tx_actor.specs.Having.{HasGone}
-use Rattle.tx_actor.specs.Keeping.{CanGoOn, KeepsIn}
-use Rattle.tx_actor.specs.Prepares.{AreReadied, MayPrepare}
-use Rattle.tx_actor.specs.declared.actor.Answered as running
-use Rattle.tx_actor.specs.declared.actor.Asked.{Asked}
+use Rattle.std.proofs.Common.{Option, sym, subst}
+use Rattle.tx_actor.specs.Copying.{HasTaken, StepsOn}
+use Rattle.tx_actor.specs.Keeping.{KeepsIn}
 use Rattle.tx_actor.specs.Running.{at}
+use Rattle.tx_actor.specs.Taking.{told_at, waiting_at}
 use Rattle.tx_actor.specs.declared.actor.Stage.TheVariants as stage
-use Rattle.tx_actor.specs.declared.prepares.Prepared.{Prepared}
-use Rattle.tx_actor.proofs.BehindLemmas.{keeps_behind, may_ready, starves_behind, taken_ready}
-use Rattle.tx_actor.proofs.CopyingLemmas.{goes_on_as, keeps_going}
-use Rattle.tx_actor.proofs.HavingLemmas.{copies_idle}
-use Rattle.tx_actor.proofs.LoadLemmas as load
+use Rattle.tx_actor.specs.declared.actor.Told.{Told}
+use Rattle.tx_actor.specs.declared.actor.TxActor.{TxActor}
+use Rattle.tx_actor.specs.declared.taking.Waiting.{Waiting}
 use Rattle.tx_actor.proofs.actor.TxActor.goes_on_taken.Goals as goal
 
-pub readies-requires : goal.readies-requires
-readies-requires g c =
-    let v = c.args.blocks.now in
-    let was = c.requires in
-    let asked = c.args.taken.asked in
-    let first = c.first_of-first.result in
-    let at_first : first ≡ first_of v.words v.blocks asked.collection =
-    subst (λ (k : Asked g.row.V.Denot). first ≡ first_of v.words v.blocks k.collection) c.get.ensures c.first_of-first.ensures.first in
-    let e : c.get_mut.result.now.asked ≡ asked =
-    ap (λ (z : running.Answered g.row.V.Denot). z.asked) c.get_mut.ensures.value ∙ c.answering-call.ensures in
-    subst (λ (k : Asked g.row.V.Denot). MayPrepare c.args.self.now c.args.taken.place first k.op) (sym e)
-    (may_ready v was.0 c.args.self.now was.1 asked c.args.taken.place first at_first
-    (λ b there. c.first_of-first.ensures.within b
-    (subst (λ (k : Asked g.row.V.Denot). block_of v.blocks k.collection ≡ Some b) (sym c.get.ensures) there)) was.2 was.3.0)
-
-pub goes_on-requires : goal.goes_on-requires
-goes_on-requires g c =
-    let was = c.requires in
-    let v = c.args.blocks.now in
-    let m = c.args.self.now in
-    let u = c.readies.new.self in
-    let asked = c.args.taken.asked in
-    let place = c.args.taken.place in
-    let first = c.first_of-first.result in
-    let at_first : first ≡ first_of v.words v.blocks asked.collection =
-    subst (λ (k : Asked g.row.V.Denot). first ≡ first_of v.words v.blocks k.collection) c.get.ensures c.first_of-first.ensures.first in
-    let x : Prepared g.row.V.Denot = record { call = c.readies.new.call; left = c.in-Ok-Some.left } in
-    let e : c.get_mut.result.now.asked ≡ asked =
-    ap (λ (z : running.Answered g.row.V.Denot). z.asked) c.get_mut.ensures.value ∙ c.answering-call.ensures in
-    let ready = taken_ready v was.0 m u was.1 asked place first x.call x.left at_first was.3.0 c.readies.ensures.alike
-    (λ d there. subst (λ (k : Asked g.row.V.Denot). AreReadied m u place first k d x.call (Some x.left)) e
-    (subst (λ (o : Option (VecDeque (ℕ × ℕ) Global)). AreReadied m u place first c.get_mut.result.now.asked d x.call o)
-    c.in-Ok-Some.field-0-is (c.in-Ok-Some.ensures.ok d there))) in
-    record { prepared = subst (λ (p : Prepared g.row.V.Denot). CanAccept u p.call) (sym ready.1) ready.2.4.ready.prepared.accept }
-
+-- it waits
 pub returns-in-Ok-Some-clause-ok : goal.returns-in-Ok-Some-clause-ok
 returns-in-Ok-Some-clause-ok g c r base can taken =
     let v = c.args.blocks.now in
-    let m = c.args.self.now in
-    let u = c.readies.new.self in
     let asked = c.args.taken.asked in
-    let place = c.args.taken.place in
-    let first = c.first_of-first.result in
-    let at_first : first ≡ first_of v.words v.blocks asked.collection =
-    subst (λ (k : Asked g.row.V.Denot). first ≡ first_of v.words v.blocks k.collection) c.get.ensures c.first_of-first.ensures.first in
-    let x : Prepared g.row.V.Denot = record { call = c.readies.new.call; left = c.in-Ok-Some.left } in
-    let e : c.get_mut.result.now.asked ≡ asked =
-    ap (λ (z : running.Answered g.row.V.Denot). z.asked) c.get_mut.ensures.value ∙ c.answering-call.ensures in
-    let ready = taken_ready v r m u base asked place first x.call x.left at_first taken.0 c.readies.ensures.alike
-    (λ d there. subst (λ (k : Asked g.row.V.Denot). AreReadied m u place first k d x.call (Some x.left)) e
-    (subst (λ (o : Option (VecDeque (ℕ × ℕ) Global)). AreReadied m u place first c.get_mut.result.now.asked d x.call o)
-    c.in-Ok-Some.field-0-is (c.in-Ok-Some.ensures.ok d there))) in
-    let n = c.goes_on.new.self in (
-      goes_on_as v r u n c.goes_on.result base asked ready.0 x can ready.2
-          (subst (λ (p : Prepared g.row.V.Denot). load.GoesOn u n c.goes_on.result p.call p.left.items) ready.1 c.goes_on.ensures.does),
-      inr (record {
-        block = ready.2.0;
-        found = ready.2.1;
-        at = ready.0;
-        call = x;
-        middle = u;
-        there = ready.2.2;
-        is = ready.2.3;
-        ready = ready.2.4;
-        goes = subst
-            (λ (p : Prepared g.row.V.Denot). HasGone (judged u.words.reads.entries p.left.items) u n c.goes_on.result p.call p.left.items)
-            ready.1 c.goes_on.ensures.goes;
-      }),
-    )
+    let u = c.goes_on_key.new.self in
+    let t = c.goes_on_key.new.said in
+    subst
+    (λ (z : TxActor g.row.V.Denot × Told g.row.V.Denot). StepsOn v (at r (stage.Copying asked)) z.0 z.1 base asked × HasTaken v r z.0 z.1 base asked)
+    (λ i. (sym c.waits.ensures.actor i, sym c.waits.ensures.told i))
+    (subst (λ (w : Option (Waiting g.row.V.Denot)). StepsOn v (at r (stage.Copying asked)) (waiting_at w u) (told_at w t) base asked
+    × HasTaken v r (waiting_at w u) (told_at w t) base asked) c.in-Ok-Some.field-0-is (c.in-Ok-Some.ensures.ok r base can taken))
 
 pub returns-in-Ok-Some-clause-keeps : goal.returns-in-Ok-Some-clause-keeps
 returns-in-Ok-Some-clause-keeps g c r base can taken noreads =
     let v = c.args.blocks.now in
-    let m = c.args.self.now in
-    let u = c.readies.new.self in
+    let from = at r (stage.Copying c.args.taken.asked) in
+    let u = c.goes_on_key.new.self in
+    subst (λ (z : TxActor g.row.V.Denot). KeepsIn v from z) (sym c.waits.ensures.actor)
+    (subst (λ (w : Option (Waiting g.row.V.Denot)). KeepsIn v from (waiting_at w u)) c.in-Ok-Some.field-0-is
+    (c.in-Ok-Some.ensures.keeps r base can taken noreads))
+
+-- or not
+pub returns-in-Ok-None-clause-ok : goal.returns-in-Ok-None-clause-ok
+returns-in-Ok-None-clause-ok g c r base can taken =
+    let v = c.args.blocks.now in
     let asked = c.args.taken.asked in
-    let place = c.args.taken.place in
-    let first = c.first_of-first.result in
-    let at_first : first ≡ first_of v.words v.blocks asked.collection =
-    subst (λ (k : Asked g.row.V.Denot). first ≡ first_of v.words v.blocks k.collection) c.get.ensures c.first_of-first.ensures.first in
-    let x : Prepared g.row.V.Denot = record { call = c.readies.new.call; left = c.in-Ok-Some.left } in
-    let e : c.get_mut.result.now.asked ≡ asked =
-    ap (λ (z : running.Answered g.row.V.Denot). z.asked) c.get_mut.ensures.value ∙ c.answering-call.ensures in
-    let ready = taken_ready v r m u base asked place first x.call x.left at_first taken.0 c.readies.ensures.alike
-    (λ d there. subst (λ (k : Asked g.row.V.Denot). AreReadied m u place first k d x.call (Some x.left)) e
-    (subst (λ (o : Option (VecDeque (ℕ × ℕ) Global)). AreReadied m u place first c.get_mut.result.now.asked d x.call o)
-    c.in-Ok-Some.field-0-is (c.in-Ok-Some.ensures.ok d there))) in
-    let n = c.goes_on.new.self in
-    keeps_going v r u n base asked ready.0 x can ready.2 noreads
-    (subst (λ (p : Prepared g.row.V.Denot). CanGoOn v u p.call p.left.items → KeepsIn v (at u stage.Idle) n) ready.1
-    (c.goes_on.ensures.keeps v))
+    let u = c.goes_on_key.new.self in
+    let t = c.goes_on_key.new.said in
+    subst (λ (w : Option (Waiting g.row.V.Denot)). StepsOn v (at r (stage.Copying asked)) (waiting_at w u) (told_at w t) base asked
+    × HasTaken v r (waiting_at w u) (told_at w t) base asked) c.in-Ok-None.field-0-is (c.in-Ok-None.ensures.ok r base can taken)
+
+pub returns-in-Ok-None-clause-keeps : goal.returns-in-Ok-None-clause-keeps
+returns-in-Ok-None-clause-keeps g c r base can taken noreads =
+    let u = c.goes_on_key.new.self in
+    subst (λ (w : Option (Waiting g.row.V.Denot)). KeepsIn c.args.blocks.now (at r (stage.Copying c.args.taken.asked)) (waiting_at w u))
+    c.in-Ok-None.field-0-is (c.in-Ok-None.ensures.keeps r base can taken noreads)
 
 -- an allocation failed
-pub returns-in_default-clause-err : goal.returns-in_default-clause-err
-returns-in_default-clause-err g c r base can taken =
-    starves_behind c.args.blocks.now r c.args.self.now c.readies.new.self c.gives_up.new.self c.gives_up.result base c.args.taken.asked
-    c.args.taken.place can taken.0 taken.1 c.readies.ensures.alike c.gives_up.ensures.does
-
-pub returns-in_default-clause-keeps : goal.returns-in_default-clause-keeps
-returns-in_default-clause-keeps g c r base can taken noreads =
-    keeps_behind c.args.blocks.now r c.args.self.now c.readies.new.self c.gives_up.new.self base c.args.taken.asked c.args.taken.place can
-    taken.0 c.readies.ensures.alike (c.gives_up.ensures.keeps c.args.blocks.now)
-
-pub returns-in_default-clause-leaves : goal.returns-in_default-clause-leaves
-returns-in_default-clause-leaves g c =
-    copies_idle (at c.args.self.now stage.Idle) c.readies.new.self c.gives_up.new.self c.gives_up.ensures.leaves
+pub returns-in-Err-clause-keeps : goal.returns-in-Err-clause-keeps
+returns-in-Err-clause-keeps g c r base can taken noreads = c.in-Err.ensures.bounds r base can taken

@@ -1,0 +1,114 @@
+use Rattle.std.proofs.Common.{[], refl, sym, le-leb}
+use Rattle.step_core.specs.declared.actor.Place.TheVariants.{Look}
+use Rattle.tx_actor.proofs.LoadStepLemmas.{loads_word}
+use Rattle.tx_actor.specs.Running.{at}
+use Rattle.tx_actor.specs.declared.actor.Stage.TheVariants as stage
+use Rattle.tx_table.specs.Seated.{opening_of}
+use Rattle.tx_turns.specs.Ties.{laid_in}
+use Rattle.tx_turns.specs.Straight.{at_place}
+use Rattle.tx_turns.proofs.StraightLemmas.{LoadLaws, led_then, loading_hears, loading_last, look_due, look_loads, look_steps}
+use Rattle.tx_turns.proofs.keys.look_key.Goals as goal
+
+pub load_lock-found-requires-clause-own : goal.load_lock-found-requires-clause-own
+load_lock-found-requires-clause-own g c =
+    c.requires.ties.owns
+
+pub load_lock-found-requires-clause-live : goal.load_lock-found-requires-clause-live
+load_lock-found-requires-clause-live g c =
+    c.requires.ties.live
+
+pub load_lock-found-requires-clause-location : goal.load_lock-found-requires-clause-location
+load_lock-found-requires-clause-location g c =
+    c.requires.ties.running.fits.place.0
+
+pub load_lock-found-requires-clause-due : goal.load_lock-found-requires-clause-due
+load_lock-found-requires-clause-due g c =
+    let r = at c.args.actor.now (stage.Loading c.args.call c.args.left) in
+    look_due c.args.table.now c.args.seat.now r c.args.location
+    (loads_word (at_place r (Look c.args.location)) r.stage refl c.requires.ties.running.room) c.requires.ties
+
+pub fetch_key-requires-clause-ties : goal.fetch_key-requires-clause-ties
+fetch_key-requires-clause-ties g c =
+    let r = at c.args.actor.now (stage.Loading c.args.call c.args.left) in
+    let led = look_loads (record {
+      steps = c.steps_as_worlds.ensures;
+      hear = c.loads_as_worlds.ensures.heard;
+      seats = c.seats_as_actors.ensures;
+      stay = c.loads_stay_own.ensures;
+      others = c.copies_by_stage.ensures.others;
+      keep = c.loads_keep_running.ensures;
+    }) c.args.table.now c.args.seat.now c.load_lock-found.new.seat r c.args.location c.in-Free.version
+    c.load_lock-found.result [] refl c.requires.small c.requires.ties c.requires.own c.load_lock-found.ensures (sym c.in-Free.ensures.is)
+    (le-leb c.in-Free.version c.args.actor.now.words.rv c.if-version-actor.true) in
+    led.ties
+
+pub fetch_key-requires-clause-own : goal.fetch_key-requires-clause-own
+fetch_key-requires-clause-own g c =
+    let r = at c.args.actor.now (stage.Loading c.args.call c.args.left) in
+    let led = look_loads (record {
+      steps = c.steps_as_worlds.ensures;
+      hear = c.loads_as_worlds.ensures.heard;
+      seats = c.seats_as_actors.ensures;
+      stay = c.loads_stay_own.ensures;
+      others = c.copies_by_stage.ensures.others;
+      keep = c.loads_keep_running.ensures;
+    }) c.args.table.now c.args.seat.now c.load_lock-found.new.seat r c.args.location c.in-Free.version
+    c.load_lock-found.result [] refl c.requires.small c.requires.ties c.requires.own c.load_lock-found.ensures (sym c.in-Free.ensures.is)
+    (le-leb c.in-Free.version c.args.actor.now.words.rv c.if-version-actor.true) in
+    led.own
+
+pub returns-then-version-actor : goal.returns-then-version-actor
+returns-then-version-actor g c =
+    let r = at c.args.actor.now (stage.Loading c.args.call c.args.left) in
+    let led = look_loads (record {
+      steps = c.steps_as_worlds.ensures;
+      hear = c.loads_as_worlds.ensures.heard;
+      seats = c.seats_as_actors.ensures;
+      stay = c.loads_stay_own.ensures;
+      others = c.copies_by_stage.ensures.others;
+      keep = c.loads_keep_running.ensures;
+    }) c.args.table.now c.args.seat.now c.load_lock-found.new.seat r c.args.location c.in-Free.version
+    c.load_lock-found.result [] refl c.requires.small c.requires.ties c.requires.own c.load_lock-found.ensures (sym c.in-Free.ensures.is)
+    (le-leb c.in-Free.version c.args.actor.now.words.rv c.if-version-actor.true) in
+    led_then c.args.table.now c.args.seat.now c.load_lock-found.new.seat c.fetch_key.new.seat c.fetch_key.new.actor c.fetch_key.result []
+    led.leads c.fetch_key.ensures
+
+pub look-told-requires : goal.look-told-requires
+look-told-requires g c =
+    record { place = refl }
+
+pub loaded-requires : goal.loaded-requires
+loaded-requires g c =
+    let r = at c.args.actor.now (stage.Loading c.args.call c.args.left) in
+    record {
+      prepared = (loading_hears (record {
+        steps = c.steps_as_worlds.ensures;
+        hear = c.loads_as_worlds.ensures.heard;
+        seats = c.seats_as_actors.ensures;
+        stay = c.loads_stay_own.ensures;
+        others = c.copies_by_stage.ensures.others;
+        keep = c.loads_keep_running.ensures;
+      }) c.args.table.now c.args.seat.now c.load_lock-found.new.seat
+          (at_place r (Look c.args.location)) c.look-told.new.self c.look-told.result refl c.requires.ties
+          (look_steps (opening_of c.args.table.now) c.args.seat.now c.load_lock-found.new.seat c.args.actor.now.words c.look-told.new.self
+          c.args.location c.load_lock-found.result c.look-told.result c.load_lock-found.ensures c.look-told.ensures.actor
+          c.look-told.ensures.answer) (λ _. c.look-told.ensures.room) c.look-told.ensures.keeps.fits).0;
+    }
+
+pub returns : goal.returns
+returns g c =
+    let r = at c.args.actor.now (stage.Loading c.args.call c.args.left) in
+    loading_last (record {
+      steps = c.steps_as_worlds.ensures;
+      hear = c.loads_as_worlds.ensures.heard;
+      seats = c.seats_as_actors.ensures;
+      stay = c.loads_stay_own.ensures;
+      others = c.copies_by_stage.ensures.others;
+      keep = c.loads_keep_running.ensures;
+    }) c.args.table.now c.args.seat.now c.load_lock-found.new.seat
+    (at_place r (Look c.args.location)) c.loaded.new.self c.look-told.new.self c.look-told.result c.loaded.result []
+    refl c.requires.small c.requires.ties c.requires.own
+    (look_steps (opening_of c.args.table.now) c.args.seat.now c.load_lock-found.new.seat c.args.actor.now.words c.look-told.new.self
+    c.args.location c.load_lock-found.result c.look-told.result c.load_lock-found.ensures c.look-told.ensures.actor
+    c.look-told.ensures.answer) (λ _. c.look-told.ensures.room) c.look-told.ensures.keeps.fits
+    c.loaded.ensures.does (c.loaded.ensures.keeps (laid_in c.args.table.now)).running c.loaded.ensures.goes
