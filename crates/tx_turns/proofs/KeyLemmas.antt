@@ -14,20 +14,17 @@ use Rattle.vlock_word.specs.declared.lock_word.LockWord.TheVariants.{Free, Locke
 use Rattle.tx_machine.specs.Actor as machine
 use Rattle.tx_machine.specs.Notices as notice
 use Rattle.replay_log.specs.declared.base.Base.{Base}
-use Rattle.replay_log.specs.Seats.{World}
 use Rattle.replay_log.specs.WorldProgress.{AreSmall}
 use Rattle.seq_model.specs.declared.event.Event.TheVariants.{Starve}
-use Rattle.seq_model.specs.declared.record.Record.{Record}
 use Rattle.step_core.specs.Answers.{result_of}
 use Rattle.step_core.specs.Shown as words
 use Rattle.step_core.specs.Sound.{Fits, KeepsRoom}
 use Rattle.step_core.specs.declared.actor.Actor.{Actor}
 use Rattle.step_core.specs.declared.actor.Place.TheVariants.{Again}
 use Rattle.step_core.specs.declared.answer.WordAnswer.{WordAnswer}
-use Rattle.step_core.specs.declared.answer.WordRefusal.{WordRefusal}
 use Rattle.actor_parts.specs.Blocks.{BlocksView}
 use Rattle.actor_parts.specs.Copied.{CopiesFor, CopiesReached}
-use Rattle.actor_parts.specs.Dispatch.{AreSteps, after_try, next_of, notice_told}
+use Rattle.actor_parts.specs.Dispatch.{AreSteps, after_try, notice_told}
 use Rattle.actor_parts.specs.Requests.{HasNoReads}
 use Rattle.actor_parts.specs.Sizes.{SizesCopies}
 use Rattle.actor_parts.specs.declared.next.Next.TheVariants as next
@@ -57,9 +54,7 @@ use Rattle.tx_table.specs.declared.table.TxTable.{TxTable}
 use Rattle.tx_table.specs.Shown.{IsBaseAt}
 use Rattle.tx_table.specs.Seated.{Stepped, Takes, actor, blocks_in, opening_of, out, view}
 use Rattle.tx_turns.specs.Asked.{HasTaken as HasHeardOf, Starved}
-use Rattle.tx_turns.specs.Driven.{Driven}
 use Rattle.tx_turns.specs.Own.{HasOwn}
-use Rattle.tx_turns.specs.Refused.{IsGivenUp}
 use Rattle.tx_turns.specs.Straight.{HasDriven, HasLed, HasPut, HasStopped, LeadsAll, at_place}
 use Rattle.tx_turns.specs.Ties.{Ties, Turned, commits, laid_in}
 use Rattle.tx_turns.proofs.AskedLemmas.{starved}

@@ -1,5 +1,4 @@
-use Rattle.std.proofs.Common.{List, [], sym, subst}
-use Rattle.replay_log.specs.declared.base.Base.{Base}
+use Rattle.std.proofs.Common.{[], sym, subst}
 use Rattle.tx_actor.specs.declared.actor.TxActor.{TxActor}
 use Rattle.tx_turns.specs.Own.{HasOwn}
 use Rattle.tx_turns.specs.Ties.{Ties}

@@ -14,3 +14,12 @@ finish_from-requires-clause-come g c = (
 pub returns-in-Quiet-clause-leads : goal.returns-in-Quiet-clause-leads
 returns-in-Quiet-clause-leads g c s h =
     c.finish_from.ensures.leads s (subst (λ (n : Told _). Driven (opening_of c.args.table.now) s c.args.seat.now n None) c.in-Quiet.is h)
+
+-- it has answered
+pub returns-in_default-clause-leads : goal.returns-in_default-clause-leads
+returns-in_default-clause-leads g c s h = h
+
+pub returns-in_default-clause-own : goal.returns-in_default-clause-own
+returns-in_default-clause-own g c =
+    answered_own c.args.table.now c.requires.come.0 c.args.seat.now c.args.actor.now c.args.bases.now.items c.args.told None
+    c.in_default.not-Quiet c.requires.come.1 c.requires.ties c.requires.own

@@ -38,8 +38,8 @@ pub returns-in-Err-clause-driven : goal.returns-in-Err-clause-driven
 returns-in-Err-clause-driven g c =
     let o = opening_of c.args.table.now in
     let s = c.args.seat.now in
-    given_up o s c.key_on.new.seat (c.in-Err.ensures.stopped.wants s (driven_first o s c.requires.under)) c.give_up.new.seat c.give_up.result
-    c.give_up.ensures.answered c.give_up.ensures.driven
+    given_up o s c.key_on.new.seat (c.in-Err.ensures.stopped.wants s (driven_first o s c.requires.under)) c.give_up.new.seat
+    c.give_up.result c.give_up.ensures.answered c.give_up.ensures.driven
 
 pub returns-in-Err-clause-own : goal.returns-in-Err-clause-own
 returns-in-Err-clause-own g c =

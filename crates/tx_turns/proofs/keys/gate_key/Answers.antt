@@ -23,7 +23,6 @@ take_gate-requires-clause-live g c =
 pub take_gate-requires-clause-collection : goal.take_gate-requires-clause-collection
 take_gate-requires-clause-collection g c =
     let t = c.args.table.now in
-    let s = c.args.seat.now in
     let p = c.args.actor.now in
     let asked = c.args.asked in
     let r = at p (stage.Trying asked c.args.tries) in
@@ -47,7 +46,6 @@ take_gate-requires-clause-due g c =
 pub wait-requires : goal.wait-requires
 wait-requires g c =
     let t = c.args.table.now in
-    let s = c.args.seat.now in
     let p = c.args.actor.now in
     let asked = c.args.asked in
     let r = at p (stage.Trying asked c.args.tries) in
@@ -62,10 +60,8 @@ take_key-requires-clause-ties g c =
     let s = c.args.seat.now in
     let p = c.args.actor.now in
     let asked = c.args.asked in
-    let r = at p (stage.Trying asked c.args.tries) in
     let k = c.get.result.now.collection in
     let same : k ≡ asked.collection = ap (λ (a : Asked g.row.V.Denot). a.collection) c.get.ensures in
-    let due = ap (λ (j : ℕ). next.TryGate j) (sym same) in
     let won = gate_won c.free_gates_are_held.ensures c.steps_as_worlds.ensures c.events_keep_copies.ensures.steps
     c.copies_by_stage.ensures.others
     t s c.take_gate.new.seat p asked c.args.tries k c.in-Some.base same c.requires.ties c.requires.own c.in-Some.ensures.0
@@ -78,10 +74,8 @@ take_key-requires-clause-own g c =
     let s = c.args.seat.now in
     let p = c.args.actor.now in
     let asked = c.args.asked in
-    let r = at p (stage.Trying asked c.args.tries) in
     let k = c.get.result.now.collection in
     let same : k ≡ asked.collection = ap (λ (a : Asked g.row.V.Denot). a.collection) c.get.ensures in
-    let due = ap (λ (j : ℕ). next.TryGate j) (sym same) in
     let won = gate_won c.free_gates_are_held.ensures c.steps_as_worlds.ensures c.events_keep_copies.ensures.steps
     c.copies_by_stage.ensures.others
     t s c.take_gate.new.seat p asked c.args.tries k c.in-Some.base same c.requires.ties c.requires.own c.in-Some.ensures.0
@@ -94,10 +88,8 @@ returns-in-None-clause-led g c =
     let s = c.args.seat.now in
     let p = c.args.actor.now in
     let asked = c.args.asked in
-    let r = at p (stage.Trying asked c.args.tries) in
     let k = c.get.result.now.collection in
     let same : k ≡ asked.collection = ap (λ (a : Asked g.row.V.Denot). a.collection) c.get.ensures in
-    let due = ap (λ (j : ℕ). next.TryGate j) (sym same) in
     subst (λ (bs : List (Base g.row.V.Denot)). HasDriven t s c.take_gate.new.seat c.tried_gate.new.self c.tried_gate.result bs)
     (sym c.requires.none)
     (gate_lost c.steps_as_worlds.ensures c.events_keep_copies.ensures.steps c.copies_by_stage.ensures.others t s c.take_gate.new.seat p
@@ -110,10 +102,8 @@ returns-in-Some-clause-led g c =
     let s = c.args.seat.now in
     let p = c.args.actor.now in
     let asked = c.args.asked in
-    let r = at p (stage.Trying asked c.args.tries) in
     let k = c.get.result.now.collection in
     let same : k ≡ asked.collection = ap (λ (a : Asked g.row.V.Denot). a.collection) c.get.ensures in
-    let due = ap (λ (j : ℕ). next.TryGate j) (sym same) in
     let won = gate_won c.free_gates_are_held.ensures c.steps_as_worlds.ensures c.events_keep_copies.ensures.steps
     c.copies_by_stage.ensures.others
     t s c.take_gate.new.seat p asked c.args.tries k c.in-Some.base same c.requires.ties c.requires.own c.in-Some.ensures.0
@@ -128,10 +118,8 @@ returns-in-Some-clause-stopped g c =
     let s = c.args.seat.now in
     let p = c.args.actor.now in
     let asked = c.args.asked in
-    let r = at p (stage.Trying asked c.args.tries) in
     let k = c.get.result.now.collection in
     let same : k ≡ asked.collection = ap (λ (a : Asked g.row.V.Denot). a.collection) c.get.ensures in
-    let due = ap (λ (j : ℕ). next.TryGate j) (sym same) in
     let won = gate_won c.free_gates_are_held.ensures c.steps_as_worlds.ensures c.events_keep_copies.ensures.steps
     c.copies_by_stage.ensures.others
     t s c.take_gate.new.seat p asked c.args.tries k c.in-Some.base same c.requires.ties c.requires.own c.in-Some.ensures.0

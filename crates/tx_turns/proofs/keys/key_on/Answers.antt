@@ -1,6 +1,4 @@
-use Rattle.std.proofs.Common.{List, sym, subst, ◌∙◌}
-use Rattle.tx_actor.specs.Running.{at}
-use Rattle.tx_actor.specs.declared.actor.Stage.TheVariants as stage
+use Rattle.std.proofs.Common.{sym, ◌∙◌}
 use Rattle.tx_turns.proofs.KeyLemmas.{try_starved}
 use Rattle.tx_turns.proofs.keys.key_on.Goals as goal
 

@@ -27,12 +27,8 @@ takes_call-requires g c =
     let p = c.args.actor.now in
     let asked = c.args.asked in
     let b = c.args.base in
-    let r = at p (stage.Copying asked) in
-    let k = c.get.result.now.collection in
-    let same : k ≡ asked.collection = ap (λ (a : Asked g.row.V.Denot). a.collection) c.get.ensures in
-    let due = ap (λ (j : ℕ). next.Copy j) (sym same) in
-    let v = c.blocks.result.now in
-    let laid = laid_as t v c.blocks.ensures.words c.blocks.ensures.blocks in
+    let v = c.blocks-2.result.now in
+    let laid = laid_as t v c.blocks-2.ensures.words c.blocks-2.ensures.blocks in
     let can = may_take (record {
       steps = c.steps_as_worlds.ensures;
       taken = c.copied_as_worlds.ensures;
@@ -44,57 +40,28 @@ takes_call-requires g c =
     subst (λ (z : BlocksView × Base g.row.V.Denot). CanCopy z.0 p z.1 asked) (λ i. (sym laid i, sym c.get-shown.ensures i)) can
 
 pub put_gate-requires-clause-own : goal.put_gate-requires-clause-own
-put_gate-requires-clause-own g c =
-    c.requires.ties.owns
+put_gate-requires-clause-own g c = c.requires.ties.owns
 
 pub put_gate-requires-clause-live : goal.put_gate-requires-clause-live
-put_gate-requires-clause-live g c =
-    c.requires.ties.live
+put_gate-requires-clause-live g c = c.requires.ties.live
 
 pub put_gate-requires-clause-collection : goal.put_gate-requires-clause-collection
 put_gate-requires-clause-collection g c =
     let t = c.args.table.now in
-    let s = c.args.seat.now in
     let p = c.args.actor.now in
     let asked = c.args.asked in
-    let b = c.args.base in
     let r = at p (stage.Copying asked) in
     let k = c.get.result.now.collection in
     let same : k ≡ asked.collection = ap (λ (a : Asked g.row.V.Denot). a.collection) c.get.ensures in
     let due = ap (λ (j : ℕ). next.Copy j) (sym same) in
-    let v = c.blocks.result.now in
-    let laid = laid_as t v c.blocks.ensures.words c.blocks.ensures.blocks in
-    let can = may_take (record {
-      steps = c.steps_as_worlds.ensures;
-      taken = c.copied_as_worlds.ensures;
-      on = c.copies_go_on.ensures;
-      sized = c.sizes_copies.ensures.sizes;
-      of = c.copies_stay_own.ensures.blocks;
-      others = c.copies_by_stage.ensures.others;
-    }) t s p asked b c.requires.ties c.requires.own in
     named_copy r.stage k (length (blocks_in t)) due c.requires.ties.running.names
 
 pub put_gate-requires-clause-held : goal.put_gate-requires-clause-held
 put_gate-requires-clause-held g c =
-    let t = c.args.table.now in
     let s = c.args.seat.now in
     let p = c.args.actor.now in
     let asked = c.args.asked in
-    let b = c.args.base in
     let r = at p (stage.Copying asked) in
-    let k = c.get.result.now.collection in
-    let same : k ≡ asked.collection = ap (λ (a : Asked g.row.V.Denot). a.collection) c.get.ensures in
-    let due = ap (λ (j : ℕ). next.Copy j) (sym same) in
-    let v = c.blocks.result.now in
-    let laid = laid_as t v c.blocks.ensures.words c.blocks.ensures.blocks in
-    let can = may_take (record {
-      steps = c.steps_as_worlds.ensures;
-      taken = c.copied_as_worlds.ensures;
-      on = c.copies_go_on.ensures;
-      sized = c.sizes_copies.ensures.sizes;
-      of = c.copies_stay_own.ensures.blocks;
-      others = c.copies_by_stage.ensures.others;
-    }) t s p asked b c.requires.ties c.requires.own in
     (first_out s r asked.collection [] c.requires.own.out refl).0
 
 pub put_gate-requires-clause-due : goal.put_gate-requires-clause-due
@@ -108,16 +75,6 @@ put_gate-requires-clause-due g c =
     let k = c.get.result.now.collection in
     let same : k ≡ asked.collection = ap (λ (a : Asked g.row.V.Denot). a.collection) c.get.ensures in
     let due = ap (λ (j : ℕ). next.Copy j) (sym same) in
-    let v = c.blocks.result.now in
-    let laid = laid_as t v c.blocks.ensures.words c.blocks.ensures.blocks in
-    let can = may_take (record {
-      steps = c.steps_as_worlds.ensures;
-      taken = c.copied_as_worlds.ensures;
-      on = c.copies_go_on.ensures;
-      sized = c.sizes_copies.ensures.sizes;
-      of = c.copies_stay_own.ensures.blocks;
-      others = c.copies_by_stage.ensures.others;
-    }) t s p asked b c.requires.ties c.requires.own in
     may_put t s r k b c.requires.ties (copy_due c.steps_as_worlds.ensures t s r k due c.requires.ties)
     (held_base t s r k [] (b ∷ []) [] b (ap (λ (j : ℕ). j ∷ []) (sym same)) c.requires.own refl).0
 
@@ -128,12 +85,8 @@ go_key-requires-clause-put g c =
     let p = c.args.actor.now in
     let asked = c.args.asked in
     let b = c.args.base in
-    let r = at p (stage.Copying asked) in
-    let k = c.get.result.now.collection in
-    let same : k ≡ asked.collection = ap (λ (a : Asked g.row.V.Denot). a.collection) c.get.ensures in
-    let due = ap (λ (j : ℕ). next.Copy j) (sym same) in
-    let v = c.blocks.result.now in
-    let laid = laid_as t v c.blocks.ensures.words c.blocks.ensures.blocks in
+    let v = c.blocks-2.result.now in
+    let laid = laid_as t v c.blocks-2.ensures.words c.blocks-2.ensures.blocks in
     let can = may_take (record {
       steps = c.steps_as_worlds.ensures;
       taken = c.copied_as_worlds.ensures;
@@ -142,13 +95,10 @@ go_key-requires-clause-put g c =
       of = c.copies_stay_own.ensures.blocks;
       others = c.copies_by_stage.ensures.others;
     }) t s p asked b c.requires.ties c.requires.own in
-    let put = key_put t s c.put_gate.new.seat p c.takes_call.new.self asked b c.get-shown.result.now c.in-Ok-Some.taken v laid
-    c.get-shown.ensures
-    c.requires.idle c.requires.ties c.requires.own c.put_gate.ensures can
+    key_put t s c.put_gate.new.seat p c.takes_call.new.self asked b c.get-shown.result.now c.in-Ok-Some.taken v laid
+    c.get-shown.ensures c.requires.idle c.requires.ties c.requires.own c.put_gate.ensures can
     (subst (λ (o : Option (Taken g.row.V.Denot)). AreTakenFor v p c.takes_call.new.self c.get-shown.result.now asked o)
-    c.in-Ok-Some.field-0-is
-    c.in-Ok-Some.ensures.ok) in
-    put
+    c.in-Ok-Some.field-0-is c.in-Ok-Some.ensures.ok)
 
 pub returns-in-Ok-Some-clause-led : goal.returns-in-Ok-Some-clause-led
 returns-in-Ok-Some-clause-led g c =
@@ -157,12 +107,8 @@ returns-in-Ok-Some-clause-led g c =
     let p = c.args.actor.now in
     let asked = c.args.asked in
     let b = c.args.base in
-    let r = at p (stage.Copying asked) in
-    let k = c.get.result.now.collection in
-    let same : k ≡ asked.collection = ap (λ (a : Asked g.row.V.Denot). a.collection) c.get.ensures in
-    let due = ap (λ (j : ℕ). next.Copy j) (sym same) in
-    let v = c.blocks.result.now in
-    let laid = laid_as t v c.blocks.ensures.words c.blocks.ensures.blocks in
+    let v = c.blocks-2.result.now in
+    let laid = laid_as t v c.blocks-2.ensures.words c.blocks-2.ensures.blocks in
     let can = may_take (record {
       steps = c.steps_as_worlds.ensures;
       taken = c.copied_as_worlds.ensures;
@@ -172,11 +118,9 @@ returns-in-Ok-Some-clause-led g c =
       others = c.copies_by_stage.ensures.others;
     }) t s p asked b c.requires.ties c.requires.own in
     let put = key_put t s c.put_gate.new.seat p c.takes_call.new.self asked b c.get-shown.result.now c.in-Ok-Some.taken v laid
-    c.get-shown.ensures
-    c.requires.idle c.requires.ties c.requires.own c.put_gate.ensures can
+    c.get-shown.ensures c.requires.idle c.requires.ties c.requires.own c.put_gate.ensures can
     (subst (λ (o : Option (Taken g.row.V.Denot)). AreTakenFor v p c.takes_call.new.self c.get-shown.result.now asked o)
-    c.in-Ok-Some.field-0-is
-    c.in-Ok-Some.ensures.ok) in
+    c.in-Ok-Some.field-0-is c.in-Ok-Some.ensures.ok) in
     subst (λ (bs : List (Base g.row.V.Denot)). IfOk c.go_key.result (λ n. HasDriven t s c.go_key.new.seat c.go_key.new.actor n bs))
     (sym c.requires.none) (if_ok c.go_key.result (λ n h. h put) c.go_key.ensures.led)
 
@@ -187,12 +131,8 @@ returns-in-Ok-Some-clause-stopped g c =
     let p = c.args.actor.now in
     let asked = c.args.asked in
     let b = c.args.base in
-    let r = at p (stage.Copying asked) in
-    let k = c.get.result.now.collection in
-    let same : k ≡ asked.collection = ap (λ (a : Asked g.row.V.Denot). a.collection) c.get.ensures in
-    let due = ap (λ (j : ℕ). next.Copy j) (sym same) in
-    let v = c.blocks.result.now in
-    let laid = laid_as t v c.blocks.ensures.words c.blocks.ensures.blocks in
+    let v = c.blocks-2.result.now in
+    let laid = laid_as t v c.blocks-2.ensures.words c.blocks-2.ensures.blocks in
     let can = may_take (record {
       steps = c.steps_as_worlds.ensures;
       taken = c.copied_as_worlds.ensures;
@@ -202,11 +142,9 @@ returns-in-Ok-Some-clause-stopped g c =
       others = c.copies_by_stage.ensures.others;
     }) t s p asked b c.requires.ties c.requires.own in
     let put = key_put t s c.put_gate.new.seat p c.takes_call.new.self asked b c.get-shown.result.now c.in-Ok-Some.taken v laid
-    c.get-shown.ensures
-    c.requires.idle c.requires.ties c.requires.own c.put_gate.ensures can
+    c.get-shown.ensures c.requires.idle c.requires.ties c.requires.own c.put_gate.ensures can
     (subst (λ (o : Option (Taken g.row.V.Denot)). AreTakenFor v p c.takes_call.new.self c.get-shown.result.now asked o)
-    c.in-Ok-Some.field-0-is
-    c.in-Ok-Some.ensures.ok) in
+    c.in-Ok-Some.field-0-is c.in-Ok-Some.ensures.ok) in
     subst (λ (bs : List (Base g.row.V.Denot)). OnErr c.go_key.result (HasStopped t s c.go_key.new.seat c.go_key.new.actor bs))
     (sym c.requires.none) (on_err c.go_key.result (λ h. h put) c.go_key.ensures.stopped)
 
@@ -217,20 +155,7 @@ returns-in-Ok-None-clause-led g c =
     let p = c.args.actor.now in
     let asked = c.args.asked in
     let b = c.args.base in
-    let r = at p (stage.Copying asked) in
-    let k = c.get.result.now.collection in
-    let same : k ≡ asked.collection = ap (λ (a : Asked g.row.V.Denot). a.collection) c.get.ensures in
-    let due = ap (λ (j : ℕ). next.Copy j) (sym same) in
-    let v = c.blocks.result.now in
-    let laid = laid_as t v c.blocks.ensures.words c.blocks.ensures.blocks in
-    let can = may_take (record {
-      steps = c.steps_as_worlds.ensures;
-      taken = c.copied_as_worlds.ensures;
-      on = c.copies_go_on.ensures;
-      sized = c.sizes_copies.ensures.sizes;
-      of = c.copies_stay_own.ensures.blocks;
-      others = c.copies_by_stage.ensures.others;
-    }) t s p asked b c.requires.ties c.requires.own in
+    let v = c.blocks-2.result.now in
     let hand : b ∷ [] ≡ c.push_reserved.new.bases.items =
     sym (c.push_reserved.ensures.items ∙ ap (λ (bs : List (Base g.row.V.Denot)). bs ++ b ∷ []) c.requires.none) in
     let at_it = subst (λ (o : Option (Taken g.row.V.Denot)). AreTakenFor v p c.takes_call.new.self c.get-shown.result.now asked o)
@@ -246,19 +171,8 @@ returns-in-Err-clause-stopped g c =
     let asked = c.args.asked in
     let b = c.args.base in
     let r = at p (stage.Copying asked) in
-    let k = c.get.result.now.collection in
-    let same : k ≡ asked.collection = ap (λ (a : Asked g.row.V.Denot). a.collection) c.get.ensures in
-    let due = ap (λ (j : ℕ). next.Copy j) (sym same) in
-    let v = c.blocks.result.now in
-    let laid = laid_as t v c.blocks.ensures.words c.blocks.ensures.blocks in
-    let can = may_take (record {
-      steps = c.steps_as_worlds.ensures;
-      taken = c.copied_as_worlds.ensures;
-      on = c.copies_go_on.ensures;
-      sized = c.sizes_copies.ensures.sizes;
-      of = c.copies_stay_own.ensures.blocks;
-      others = c.copies_by_stage.ensures.others;
-    }) t s p asked b c.requires.ties c.requires.own in
+    let v = c.blocks-2.result.now in
+    let laid = laid_as t v c.blocks-2.ensures.words c.blocks-2.ensures.blocks in
     let q = c.takes_call.new.self in
     let hand : b ∷ [] ≡ c.push_reserved-in-Err.new.bases.items =
     sym (c.push_reserved-in-Err.ensures.items ∙ ap (λ (bs : List (Base g.row.V.Denot)). bs ++ b ∷ []) c.requires.none) in

@@ -71,9 +71,10 @@ returns-in-Ok-Some-clause-ok g c r base can taken =
     (λ d there. subst (λ (k : Asked g.row.V.Denot). AreReadied m u place first k d x.call (Some x.left)) e
     (subst (λ (o : Option (VecDeque (ℕ × ℕ) Global)). AreReadied m u place first c.get_mut.result.now.asked d x.call o)
     c.in-Ok-Some.field-0-is (c.in-Ok-Some.ensures.ok d there))) in
-    let n = waiting_at c.goes_to.result c.goes_to.new.self in (
-      goes_on_as v r u n (told_at c.goes_to.result c.goes_to.new.said) base asked ready.0 x can ready.2
-          (subst (λ (p : Prepared g.row.V.Denot). load.GoesOn u n (told_at c.goes_to.result c.goes_to.new.said) p.call p.left.items) ready.1 c.goes_to.ensures.does),
+    let n = waiting_at c.goes_to.result c.goes_to.new.self in
+    let told = told_at c.goes_to.result c.goes_to.new.said in (
+      goes_on_as v r u n told base asked ready.0 x can ready.2
+          (subst (λ (p : Prepared g.row.V.Denot). load.GoesOn u n told p.call p.left.items) ready.1 c.goes_to.ensures.does),
       inr (record {
         block = ready.2.0;
         found = ready.2.1;
@@ -84,7 +85,7 @@ returns-in-Ok-Some-clause-ok g c r base can taken =
         is = ready.2.3;
         ready = ready.2.4;
         goes = subst
-            (λ (p : Prepared g.row.V.Denot). HasGone (judged u.words.reads.entries p.left.items) u n (told_at c.goes_to.result c.goes_to.new.said) p.call p.left.items)
+            (λ (p : Prepared g.row.V.Denot). HasGone (judged u.words.reads.entries p.left.items) u n told p.call p.left.items)
             ready.1 c.goes_to.ensures.goes;
       }),
     )

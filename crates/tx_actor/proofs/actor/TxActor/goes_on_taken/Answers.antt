@@ -17,7 +17,8 @@ returns-in-Ok-Some-clause-ok g c r base can taken =
     let u = c.goes_on_key.new.self in
     let t = c.goes_on_key.new.said in
     subst
-    (λ (z : TxActor g.row.V.Denot × Told g.row.V.Denot). StepsOn v (at r (stage.Copying asked)) z.0 z.1 base asked × HasTaken v r z.0 z.1 base asked)
+    (λ (z : TxActor g.row.V.Denot × Told g.row.V.Denot). StepsOn v (at r (stage.Copying asked)) z.0 z.1 base asked
+    × HasTaken v r z.0 z.1 base asked)
     (λ i. (sym c.waits.ensures.actor i, sym c.waits.ensures.told i))
     (subst (λ (w : Option (Waiting g.row.V.Denot)). StepsOn v (at r (stage.Copying asked)) (waiting_at w u) (told_at w t) base asked
     × HasTaken v r (waiting_at w u) (told_at w t) base asked) c.in-Ok-Some.field-0-is (c.in-Ok-Some.ensures.ok r base can taken))
