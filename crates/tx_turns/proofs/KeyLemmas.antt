@@ -3,7 +3,7 @@
 -- The actor between two steps is a term, with the call that is in hand at its stage. So each step is the turn that it is of that actor: the
 -- try of its gate (`gate_won`, `gate_lost`), and the store that puts the gate back (`put_copied`, `put_behind`).
 use Rattle.std.proofs.Common.{◌≡◌, ℕ, true, false, List, [], ◌∷◌, ◌++◌, Option, Some, None, Result, Ok, Err, IfOk, OnErr, inl}
-use Rattle.std.proofs.Common.{Bool, eqb, refl, sym, ap, subst}
+use Rattle.std.proofs.Common.{Bool, eqb, refl, sym, ap, subst, ◌∙◌}
 use Rattle.std.specs.Prelude.{if◌then◌else◌}
 use Rattle.atomic_table.specs.Table.{rest}
 use Rattle.std.specs.declared.alloc.Global.{Global}
@@ -297,3 +297,17 @@ module _ {V : Type 0} where
     can = subst (λ (a : Asked V). CanCopy (laid_in t) r b a) (sym taken.0) can;
     taken = subst (λ (z : BlocksView × Base V). IsTakenCall z.0 r u z.1 p) (λ i. (laid i, same i)) taken.1;
   }
+
+  -- the base that is pushed is the only one in hand
+  pub in_hand : (bs cs : List (Base V)) (b : Base V) → cs ≡ bs ++ b ∷ [] → bs ≡ [] → b ∷ [] ≡ cs
+  in_hand bs cs b more none = sym (more ∙ ap (λ (ds : List (Base V)). ds ++ b ∷ []) none)
+
+  -- what holds of the seat that put the gate back so, holds of s
+  pub put_then : (t : TxTable V) (s m : Seat V) (r u : TxActor V) (asked : Asked V) (b d : Base V) (p : Taken V) (v : BlocksView)
+      → v ≡ laid_in t → d ≡ b → r.stage ≡ stage.Idle → Ties t s (at r (stage.Copying asked))
+      → HasOwn t s (at r (stage.Copying asked)) (b ∷ []) → Takes (opening_of t) s (view s).clock 1 None (rest (out s)) m
+      → CanCopy (laid_in t) r b asked → AreTakenFor v r u d asked (Some p) → (P : Seat V → Type 0)
+      → ((h : HasPut t m u p) → P h.seat) → P s
+  unfolding key_put
+  put_then t s m r u asked b d p v laid same idle ties has takes can taken P f =
+      f (key_put t s m r u asked b d p v laid same idle ties has takes can taken)
