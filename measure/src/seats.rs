@@ -15,7 +15,7 @@ use std::io;
 use std::rt::Runtime;
 use std::thread::{Threads, join};
 use std::time::Instant;
-use tx_engine::TxSeat;
+use tx_engine::{Tx, TxSeat, begin};
 use tx_table::TxTable;
 
 /// What comes of so many transactions of each thread, and the seconds that they take. There are one, two or four threads.
@@ -164,30 +164,34 @@ fn transact(
     ensures ready { IsReady table.now seat.new }
 {
     let calls = drawn(work, random);
-    seat.begin(table)?;
-    make_calls(table, seat, calls)?;
-    let _ = seat.commit(table)?;
+    let mut tx = begin(seat, table)?;
+    make_calls(&mut tx, calls)?;
+    let _ = tx.commit()?;
     Ok(())
 }
 
-fn make_calls(table: &TxTable<u64>, seat: &mut TxSeat<u64>, calls: Calls) -> Result<(), Refusal>
-    requires ready { IsReady table.now seat.old }
-    requires since { HasBegunSince table.now seat.old }
-    ensures ready { IsReady table.now seat.new }
-    ensures since { HasBegunSince table.now seat.new }
+fn make_calls(tx: &mut Tx<'_, u64>, calls: Calls) -> Result<(), Refusal>
+    requires ready { IsReady tx.old.table.now tx.old.seat.now }
+    requires since { HasBegunSince tx.old.table.now tx.old.seat.now }
+    ensures same_reference { tx.new.seat.ghost_name ≡ tx.old.seat.ghost_name }
+    ensures same_table { tx.new.table.now ≡ tx.old.table.now }
+    ensures ready { IsReady tx.new.table.now tx.new.seat.now }
+    ensures since { HasBegunSince tx.new.table.now tx.new.seat.now }
 {
     'calls: for call in calls {
-        make_call(table, seat, call)?;
+        make_call(tx, call)?;
     }
     Ok(())
 }
 
-fn make_call(table: &TxTable<u64>, seat: &mut TxSeat<u64>, call: Call<u64>) -> Result<(), Refusal>
-    requires ready { IsReady table.now seat.old }
-    requires since { HasBegunSince table.now seat.old }
-    ensures ready { IsReady table.now seat.new }
-    ensures since { HasBegunSince table.now seat.new }
+fn make_call(tx: &mut Tx<'_, u64>, call: Call<u64>) -> Result<(), Refusal>
+    requires ready { IsReady tx.old.table.now tx.old.seat.now }
+    requires since { HasBegunSince tx.old.table.now tx.old.seat.now }
+    ensures same_reference { tx.new.seat.ghost_name ≡ tx.old.seat.ghost_name }
+    ensures same_table { tx.new.table.now ≡ tx.old.table.now }
+    ensures ready { IsReady tx.new.table.now tx.new.seat.now }
+    ensures since { HasBegunSince tx.new.table.now tx.new.seat.now }
 {
-    let _ = seat.call(table, call)?;
+    let _ = tx.call(call.op, call.target)?;
     Ok(())
 }

@@ -15,7 +15,7 @@ use seq_model::{ACTOR_LIMIT, Job, Memory, Value};
 use std::alloc::Global;
 use std::sync::Wait;
 use std::thread::Threads;
-use tx_engine::{Pause, Priority, TxSeat};
+use tx_engine::{Pause, Priority, TxSeat, resume};
 use tx_table::TxTable;
 
 /// All that is to be filled: a report with room for what may come of these lists, and the lists as a tree.
@@ -62,11 +62,11 @@ pub fn run_workers_owned<
         Ok((draft, tree)) => {
             let priority = Priority::new();
             let (mut seat, tree) = run_tree(rt, tries, pause, &priority, table, seat, tree);
-            seat.abort(table);
+            resume(&mut seat, table).abort();
             (seat, Ok(draft.filled(tree)))
         }
         Err(memory) => {
-            seat.abort(table);
+            resume(&mut seat, table).abort();
             (seat, Err(memory))
         }
     }

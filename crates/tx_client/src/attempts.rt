@@ -24,7 +24,7 @@ use seq_model::{Failure, Refusal, Value};
 use std::hint::spin_loop;
 use std::marker::{Brand, PhantomData};
 use std::thread::yield_now;
-use tx_engine::{Receipt, TxSeat};
+use tx_engine::{Receipt, TxSeat, begin_read, resume};
 use tx_table::TxTable;
 
 /// From so many attempts on a client yields its thread between two of them; before, it spins.
@@ -53,19 +53,25 @@ fn wait(attempts: u64) {
     }
 }
 
-/// Begins a transaction: a declared reader, or one that may write.
-fn begin<V: Value>(table: &TxTable<V>, seat: &mut TxSeat<V>, declared: bool) -> Result<u64, Refusal>
+/// Begins a transaction, which is left open at the seat: a declared reader, or one that may write.
+fn begin<V: Value>(table: &TxTable<V>, seat: &mut TxSeat<V>, declared: bool) -> Result<(), Refusal>
     requires ready { IsReady table.now seat.old }
     ensures ready { IsReady table.now seat.new }
-    ensures since { HasBegunSince table.now seat.new }
+    ensures since { IfOk result (λ _. HasBegunSince table.now seat.new) }
     ensures keeps { KeepsReceipts seat.old.seat seat.new.seat }
     ensures asks { HasAsked declared (requests_of seat.old.seat) (requests_of seat.new.seat) }
-    ensures reads { declared ≡ true → is_declared (opening_of table.now) seat.new.seat ≡ true }
+    ensures reads { IfOk result (λ _. declared ≡ true → is_declared (opening_of table.now) seat.new.seat ≡ true) }
 {
     if declared {
-        seat.begin_read(table)
+        match begin_read(seat, table) {
+            Ok(_) => Ok(()),
+            Err(cause) => Err(cause),
+        }
     } else {
-        seat.begin(table)
+        match tx_engine::begin(seat, table) {
+            Ok(_) => Ok(()),
+            Err(cause) => Err(cause),
+        }
     }
 }
 
@@ -142,12 +148,12 @@ fn finish<V: Value, T: Drop, E: Drop>(
     let _ = declared;
     let Ran { refused, gave } = ran;
     match gave {
-        Ok(value) => match seat.commit(table) {
+        Ok(value) => match resume(seat, table).commit() {
             Ok(receipt) => Ok((value, receipt)),
             Err(cause) => Err(Failure::Refused(first_refusal(refused, cause))),
         },
         Err(error) => {
-            seat.abort(table);
+            resume(seat, table).abort();
             match refused {
                 Some(cause) => Err(Failure::Refused(cause)),
                 None => Err(Failure::Aborted(error)),

@@ -4,9 +4,9 @@ ghost use Rattle.tx_handles.specs.Made.{HasMade, RefusesForeign, with_call};
 
 use crate::scope::Scope;
 use actor_parts::Boxed;
-use seq_model::{Call, Op, Refusal, Reply, Value};
+use seq_model::{Op, Refusal, Reply, Value};
 use std::marker::{Model, PhantomData};
-use tx_engine::TxSeat;
+use tx_engine::{TxSeat, resume};
 use tx_handles::MakesCalls;
 use tx_table::TxTable;
 
@@ -69,7 +69,8 @@ impl<'t, V: Value, S: Scope<V>> Transaction<'t, V, S> {
     fn request(&mut self, target: u32, op: Op<V>) -> Result<Reply<V>, Refusal>
         ensures { IfOk result (λ reply. self.new ≡ with_call self.old target op reply) }
     {
-        match self.seat.get_mut().call(self.table, Call { target, op }) {
+        let answered = resume(self.seat.get_mut(), self.table).call(op, target);
+        match answered {
             Ok(reply) => {
                 self.refused = None;
                 Ok(reply)

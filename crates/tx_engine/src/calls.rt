@@ -84,7 +84,7 @@ pub(crate) fn ask_open<V: Value>(
     }
 }
 
-/// A call on a word or on a collection, with its reply, like [`crate::TxSeat::call`] of an open transaction.
+/// A call on a word or on a collection, with its reply, like [`crate::Tx::call`] of an open transaction.
 pub(crate) fn call<V: Value>(
     alloc: Global,
     table: &TxTable<V>,

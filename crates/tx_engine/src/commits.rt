@@ -28,7 +28,7 @@ fn commit_told<V: Value>(told: Told<V>, receipt: Option<Record<V>>) -> Result<Re
     }
 }
 
-/// An open transaction commits, like [`crate::TxSeat::commit`].
+/// An open transaction commits, like [`crate::Tx::commit`].
 pub(crate) fn commit<V: Value>(
     alloc: Global,
     table: &TxTable<V>,

@@ -1,4 +1,5 @@
-//! Transactions that threads run on the shared table: [`begin`] gives a [`Tx`], which borrows its [`TxSeat`].
+//! Transactions that threads run on the shared table: [`begin`] gives a [`Tx`], which borrows its [`TxSeat`], and by which all requests are
+//! made; [`resume`] gives one again that was dropped while it was open.
 //!
 //! A *seat* of the table has a running actor beside it, to which it is tied (`tx_turns`). A request is asked, and driven there:
 //! its turns are taken, one atomic step on the table each, until it is answered or refused. Its result is what the definitions say of it
@@ -36,5 +37,5 @@ pub use seats::TxSeat;
 pub use seq_model::{Ask, Job};
 pub use tasks::Task;
 pub use tries::retry;
-pub use tx::{Receipt, Tx, begin, begin_read, learn};
+pub use tx::{Receipt, Tx, begin, begin_read, learn, resume};
 pub use unheld::attempt;

@@ -19,7 +19,7 @@ use std::alloc::Global;
 use tx_actor::{Stage, TxActor};
 use tx_table::{Seat, TxTable};
 
-/// A seat of a table, with the actor that runs its transactions there, one at a time.
+/// A seat of a table, with the actor that runs its transactions there, one at a time. Their requests are made by a [`crate::Tx`].
 pub struct TxSeat<V> {
     pub(crate) seat: Seat<V>,
     pub(crate) actor: TxActor<V>,
@@ -99,8 +99,8 @@ impl<V: Value> TxSeat<V> {
         matches!(&self.actor.stage, Stage::Open)
     }
 
-    /// A transaction that is open ends without a commit. Where none is open, nothing is done.
-    pub fn abort(&mut self, table: &TxTable<V>)
+    /// An abort, like [`crate::Tx::abort`].
+    pub(crate) fn abort(&mut self, table: &TxTable<V>)
         requires ready { IsReady table.now self.old }
         ensures ready { IsReady table.now self.new }
         ensures rests { standing (opening_of table.now) self.new.seat ≡ Rests }
@@ -124,10 +124,8 @@ impl<V: Value> TxSeat<V> {
         }
     }
 
-    /// A transaction begins; one that was left open is aborted first. It is answered with the number at which it has begun, which is no
-    /// lower than the last number of the seat. `Exhausted` at the limit of the clock, which the seat shows from then on, and no
-    /// transaction is open then.
-    pub fn begin(&mut self, table: &TxTable<V>) -> Result<u64, Refusal>
+    /// A begin, like [`crate::begin`], with the number at which the transaction has begun.
+    pub(crate) fn begin(&mut self, table: &TxTable<V>) -> Result<u64, Refusal>
         requires ready { IsReady table.now self.old }
         ensures ready { IsReady table.now self.new }
         ensures since { HasBegunSince table.now self.new }
@@ -153,9 +151,8 @@ impl<V: Value> TxSeat<V> {
         )
     }
 
-    /// A transaction begins that writes nothing, by the rules of `begin`: a change is `NoSuch` in it. It keeps no read set, so that its
-    /// reads are as many as its calls may be.
-    pub fn begin_read(&mut self, table: &TxTable<V>) -> Result<u64, Refusal>
+    /// A declared reader's begin, like [`crate::begin_read`].
+    pub(crate) fn begin_read(&mut self, table: &TxTable<V>) -> Result<u64, Refusal>
         requires ready { IsReady table.now self.old }
         ensures ready { IsReady table.now self.new }
         ensures since { HasBegunSince table.now self.new }
@@ -182,15 +179,8 @@ impl<V: Value> TxSeat<V> {
         )
     }
 
-    /// A call on a word or on a collection, with its reply. What it changes is seen by others once the transaction commits.
-    ///
-    /// `NoTransaction` where none is open; then `NoSuch` where there is no such word or collection, or it is of another kind, and for a
-    /// change in a declared reader; then `TooLong` past the limit of calls, or where what it reads or writes doesn't fit the sets: the
-    /// transaction is as it was. `Moved` where a word or a location of a collection is locked, was changed since the transaction began, or
-    /// changed between the two loads of a read (TL2, DISC 2006), `Stale` where what it copied of a collection has not the edition with
-    /// which it is read, `GateBusy` where another seat held the collection's gate at each of 64 tries, and `Memory`: the transaction
-    /// is ended.
-    pub fn call(&mut self, table: &TxTable<V>, call: Call<V>) -> Result<Reply<V>, Refusal>
+    /// A call, like [`crate::Tx::call`].
+    pub(crate) fn call(&mut self, table: &TxTable<V>, call: Call<V>) -> Result<Reply<V>, Refusal>
         requires ready { IsReady table.now self.old }
         requires since { HasBegunSince table.now self.old }
         ensures called { HasCalled table.now self.old self.new call result }
@@ -208,8 +198,8 @@ impl<V: Value> TxSeat<V> {
         )
     }
 
-    /// A word is read, by the rules of `call`: refused as `NoTransaction`, `NoSuch`, `TooLong`, `Memory` or `Moved`.
-    pub fn read(&mut self, table: &TxTable<V>, word: u32) -> Result<Reply<V>, Refusal>
+    /// A word is read, like [`crate::Tx::read`].
+    pub(crate) fn read(&mut self, table: &TxTable<V>, word: u32) -> Result<Reply<V>, Refusal>
         requires ready { IsReady table.now self.old }
         requires since { HasBegunSince table.now self.old }
         ensures called { HasCalled table.now self.old self.new (record { target = word; op = op.Read }) result }
@@ -221,9 +211,13 @@ impl<V: Value> TxSeat<V> {
         self.call(table, call)
     }
 
-    /// A word is written, once the transaction commits, by the rules of `call`: refused as `NoTransaction`, `NoSuch`, `TooLong` or
-    /// `Memory`.
-    pub fn write(&mut self, table: &TxTable<V>, word: u32, value: u64) -> Result<Reply<V>, Refusal>
+    /// A word is written, like [`crate::Tx::write`].
+    pub(crate) fn write(
+        &mut self,
+        table: &TxTable<V>,
+        word: u32,
+        value: u64,
+    ) -> Result<Reply<V>, Refusal>
         requires ready { IsReady table.now self.old }
         requires since { HasBegunSince table.now self.old }
         ensures called { HasCalled table.now self.old self.new (record { target = word; op = op.Write value }) result }
@@ -235,13 +229,8 @@ impl<V: Value> TxSeat<V> {
         self.call(table, call)
     }
 
-    /// The open transaction commits: all its words are written, its changes to collections are made, and what it read is as it read it, at
-    /// one moment. Its receipt has its calls with their replies, and its number is the last number of the seat from then on.
-    ///
-    /// `NoTransaction` where none is open. `Busy` where a location to be written is locked or was changed, `Invalid` where one that was
-    /// read is locked by another or was changed (TL2, DISC 2006), `GateBusy` where another seat held the gate of a collection to be written
-    /// at each of 64 tries, and `Memory`: the transaction is ended, and has written nothing.
-    pub fn commit(&mut self, table: &TxTable<V>) -> Result<Record<V>, Refusal>
+    /// A commit, like [`crate::Tx::commit`].
+    pub(crate) fn commit(&mut self, table: &TxTable<V>) -> Result<Record<V>, Refusal>
         requires ready { IsReady table.now self.old }
         requires since { HasBegunSince table.now self.old }
         ensures finished { HasFinished table.now self.old self.new result }

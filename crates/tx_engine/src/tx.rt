@@ -18,7 +18,7 @@ use tx_table::TxTable;
 pub type Receipt<V> = Record<V>;
 
 /// A transaction at a seat of a table. One that is dropped while it is open holds no lock and no gate; it is open until its seat begins
-/// the next one, which aborts it first.
+/// the next one, which aborts it first, and [`resume`] gives it again.
 #[derive(Drop)]
 pub struct Tx<'a, V> {
     pub(crate) table: &'a TxTable<V>,
@@ -42,7 +42,7 @@ pub fn begin<'a, V: Value>(
     ensures begun { IfOk result (λ tx. IsBegunSince false (opening_of table.now) seat.old tx.seat.now) }
 {
     seat.begin(table)?;
-    Ok(Tx::over(seat, table))
+    Ok(resume(seat, table))
 }
 
 /// A transaction begins that writes nothing, by the rules of `begin`: a change is `NoSuch` in it. It keeps no read set, so that its reads
@@ -62,7 +62,16 @@ pub fn begin_read<'a, V: Value>(
     ensures begun { IfOk result (λ tx. IsBegunSince true (opening_of table.now) seat.old tx.seat.now) }
 {
     seat.begin_read(table)?;
-    Ok(Tx::over(seat, table))
+    Ok(resume(seat, table))
+}
+
+/// The transaction that is open at the seat, whose last `Tx` was dropped. Where none is open, each request is refused as `NoTransaction`.
+pub fn resume<'a, V: Value>(seat: &'a mut TxSeat<V>, table: &'a TxTable<V>) -> Tx<'a, V>
+    ensures same_reference { result.seat.ghost_name ≡ seat.entry.ghost_name }
+    ensures same_table { result.table.now ≡ table.now }
+    ensures same_seat { result.seat.now ≡ seat.old }
+{
+    Tx { table, seat }
 }
 
 /// The seat learns of a commit with this number, like `TxSeat::learn`.
@@ -79,16 +88,15 @@ pub fn learn<V: Value>(table: &TxTable<V>, seat: &mut TxSeat<V>, number: u64) ->
 }
 
 impl<'a, V: Value> Tx<'a, V> {
-    fn over(seat: &'a mut TxSeat<V>, table: &'a TxTable<V>) -> Tx<'a, V>
-        ensures same_reference { result.seat.ghost_name ≡ seat.entry.ghost_name }
-        ensures same_table { result.table.now ≡ table.now }
-        ensures same_seat { result.seat.now ≡ seat.old }
-    {
-        Tx { table, seat }
-    }
-
-    /// A call on a word or a collection, like `TxSeat::call`: `target` is the number of a word for `Read` and `Write`, and else of a
-    /// collection.
+    /// A call on a word or on a collection, with its reply. What it changes is seen by others once the transaction commits. `target` is the
+    /// number of a word for `Read` and `Write`, and else of a collection.
+    ///
+    /// `NoTransaction` where none is open; then `NoSuch` where there is no such word or collection, or it is of another kind, and for a
+    /// change in a declared reader; then `TooLong` past the limit of calls, or where what it reads or writes doesn't fit the sets: the
+    /// transaction is as it was. `Moved` where a word or a location of a collection is locked, was changed since the transaction began, or
+    /// changed between the two loads of a read (TL2, DISC 2006), `Stale` where what it copied of a collection has not the edition with
+    /// which it is read, `GateBusy` where another seat held the collection's gate at each of 64 tries, and `Memory`: the transaction
+    /// is ended.
     pub fn call(&mut self, op: Op<V>, target: u32) -> Result<Reply<V>, Refusal>
         requires ready { IsReady self.old.table.now self.old.seat.now }
         requires since { HasBegunSince self.old.table.now self.old.seat.now }
@@ -100,7 +108,7 @@ impl<'a, V: Value> Tx<'a, V> {
         self.seat.call(self.table, Call { target, op })
     }
 
-    /// A word is read, like `TxSeat::read`.
+    /// A word is read, by the rules of `call`: refused as `NoTransaction`, `NoSuch`, `TooLong`, `Memory` or `Moved`.
     pub fn read(&mut self, word: u32) -> Result<Reply<V>, Refusal>
         requires ready { IsReady self.old.table.now self.old.seat.now }
         requires since { HasBegunSince self.old.table.now self.old.seat.now }
@@ -112,7 +120,8 @@ impl<'a, V: Value> Tx<'a, V> {
         self.seat.read(self.table, word)
     }
 
-    /// A word is written, once the transaction commits, like `TxSeat::write`.
+    /// A word is written, once the transaction commits, by the rules of `call`: refused as `NoTransaction`, `NoSuch`, `TooLong` or
+    /// `Memory`.
     pub fn write(&mut self, word: u32, value: u64) -> Result<Reply<V>, Refusal>
         requires ready { IsReady self.old.table.now self.old.seat.now }
         requires since { HasBegunSince self.old.table.now self.old.seat.now }
@@ -124,7 +133,12 @@ impl<'a, V: Value> Tx<'a, V> {
         self.seat.write(self.table, word, value)
     }
 
-    /// The transaction commits, with its receipt, like `TxSeat::commit`.
+    /// The transaction commits: all its words are written, its changes to collections are made, and what it read is as it read it, at one
+    /// moment. Its receipt has its calls with their replies, and its number is the last number of the seat from then on.
+    ///
+    /// `NoTransaction` where none is open. `Busy` where a location to be written is locked or was changed, `Invalid` where one that was
+    /// read is locked by another or was changed (TL2, DISC 2006), `GateBusy` where another seat held the gate of a collection to be written
+    /// at each of 64 tries, and `Memory`: the transaction is ended, and has written nothing.
     pub fn commit(self) -> Result<Receipt<V>, Refusal>
         requires ready { IsReady self.table.now self.seat.now }
         requires since { HasBegunSince self.table.now self.seat.now }

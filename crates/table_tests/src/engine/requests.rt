@@ -7,7 +7,7 @@ use row_parts::script_of;
 use seq_model::{Refusal, Request};
 use std::alloc::Global;
 use text_formats::{EventLine, number};
-use tx_engine::{Attempt, Pause, TxSeat, attempt_with, learn};
+use tx_engine::{Attempt, Pause, TxSeat, attempt_with, begin, begin_read, learn, resume};
 use tx_table::TxTable;
 
 /// The request that this row spells.
@@ -36,8 +36,8 @@ fn ask<V: Told>(
     ensures fit { IsFit table.now seat.new }
 {
     match request {
-        Request::Begin => Ok(Answer::Begun(seat.begin(table)?)),
-        Request::BeginRead => Ok(Answer::Begun(seat.begin_read(table)?)),
+        Request::Begin => begin_as(table, seat, false),
+        Request::BeginRead => begin_as(table, seat, true),
         Request::Call(call) => {
             let call = V::call_of(call)?;
             Ok(Answer::Replied(shown::call(table, seat, call)?))
@@ -46,6 +46,28 @@ fn ask<V: Told>(
         Request::Abort => {
             shown::abort(table, seat);
             Ok(Answer::Said("aborted"))
+        }
+    }
+}
+
+/// A transaction begins, and is left open at the seat.
+pub fn begin_as<V: Told>(
+    table: &TxTable<V>,
+    seat: &mut TxSeat<V>,
+    declared: bool,
+) -> Result<Answer<V>, Refusal>
+    requires fit { IsFit table.now seat.old }
+    ensures fit { IsFit table.now seat.new }
+{
+    if declared {
+        match begin_read(seat, table) {
+            Ok(_) => Ok(Answer::Said("begun")),
+            Err(refusal) => Err(refusal),
+        }
+    } else {
+        match begin(seat, table) {
+            Ok(_) => Ok(Answer::Said("begun")),
+            Err(refusal) => Err(refusal),
         }
     }
 }
@@ -64,7 +86,7 @@ pub fn learn_number<V: Told>(
         return Err(Refusal::NoSuch);
     };
     let learnt = learn(table, seat, told);
-    seat.abort(table);
+    resume(seat, table).abort();
     learnt?;
     Ok(Answer::Said("learnt"))
 }
@@ -141,7 +163,10 @@ fn make_each<V: Told>(
 {
     'calls: for line in lines {
         match line {
-            EventLine::Do(_, Request::Call(call)) => drop(seat.call(table, V::call_of(call)?)?),
+            EventLine::Do(_, Request::Call(call)) => {
+                let call = V::call_of(call)?;
+                drop(shown::call(table, seat, call)?);
+            }
             _ => return Err(Refusal::NoSuch),
         }
     }

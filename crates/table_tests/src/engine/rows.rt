@@ -1,7 +1,7 @@
 //! Rows at a seat.
 ghost use Rattle.table_tests.specs.Fit.{IsFit};
 
-use super::requests::{ask_row, attempt_words, learn_number, make_often};
+use super::requests::{ask_row, attempt_words, begin_as, learn_number, make_often};
 use crate::borrowed::calls::{Placed, Style};
 use crate::borrowed::ends::{End, end_of};
 use crate::borrowed::lists::calls_of;
@@ -10,7 +10,7 @@ use crate::shared::{Answer, Meeting, Page, Stand, Told};
 use seq_model::Refusal;
 use std::alloc::Global;
 use text_formats::number;
-use tx_engine::TxSeat;
+use tx_engine::{TxSeat, resume};
 use tx_table::TxTable;
 
 /// Answers the row if it is one of this seat; unless an allocation failed before: then no other seat is to wait for this one.
@@ -77,7 +77,7 @@ fn leave<V: Told>(
     requires fit { IsFit table.now seat.old }
     ensures fit { IsFit table.now seat.new }
 {
-    let _ = seat.begin(table)?;
+    begin_as(table, seat, false)?;
     make_often(alloc, table, seat, calls, 1)?;
     Ok(Answer::Said("left open"))
 }
@@ -142,6 +142,6 @@ fn borrow<V: Told>(
         end,
         calls.as_slice(),
     );
-    seat.abort(table);
+    resume(seat, table).abort();
     answered
 }

@@ -8,7 +8,7 @@ use crate::shared::{Meeting, Order, Page, Stand, Told};
 use crate::worker::retries::{AMONG_OTHERS, commit_after};
 use seq_model::Refusal;
 use std::thread::{Threads, join_mut};
-use tx_engine::TxSeat;
+use tx_engine::{TxSeat, resume};
 use tx_table::TxTable;
 
 /// Where a row of the first seat stands that waits for none.
@@ -37,8 +37,8 @@ pub fn in_turn<V: Told>(
     ensures first { IsReady table.now first.new }
     ensures second { IsReady table.now second.new }
 {
-    first.abort(table);
-    second.abort(table);
+    resume(first, table).abort();
+    resume(second, table).abort();
     let meeting = Meeting::new(2, Order::LastIsFirst);
     'rows: for row in rows.lines() {
         answer_at(page, table, first, FIRST, &meeting, row);
@@ -158,7 +158,7 @@ fn answer_seat<V: Told>(
     requires ready { IsReady table.now seat.old }
     ensures ready { IsReady table.now seat.new }
 {
-    seat.abort(table);
+    resume(seat, table).abort();
     let mut above = 0u64;
     'rows: for row in rows.lines() {
         answer_at(page, table, seat, Stand { worker, above }, meeting, row);

@@ -11,12 +11,12 @@ returns g c =
     let t = c.args.table.now in
     let s = c.args.seat.now in
     let begun = c.in_ok-begin_read.ensures in
-    let same = sym c.over.ensures.same_seat in (
-      (ap some (sym c.over.ensures.same_reference), (λ w. refl), tt),
+    let same = sym c.resume.ensures.same_seat in (
+      (ap some (sym c.resume.ensures.same_reference), (λ w. refl), tt),
       record {
         refused = tt;
-        same_reference = c.over.ensures.same_reference;
-        same_table = c.over.ensures.same_table;
+        same_reference = c.resume.ensures.same_reference;
+        same_table = c.resume.ensures.same_table;
         ready = subst (IsReady t) same begun.ready;
         since = subst (HasBegunSince t) same begun.since;
         keeps = subst (λ u. KeepsReceipts s.seat u.seat) same begun.keeps;
@@ -28,6 +28,7 @@ returns g c =
           asks = begun.asks;
           aborted = begun.aborted;
           noted = begun.noted;
+          same = begun.same;
         };
       },
     )
