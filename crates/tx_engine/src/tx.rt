@@ -88,6 +88,13 @@ pub fn learn<V: Value>(table: &TxTable<V>, seat: &mut TxSeat<V>, number: u64) ->
 }
 
 impl<'a, V: Value> Tx<'a, V> {
+    /// The number at which the transaction has begun: it sees what was committed up to that number.
+    pub fn began_at(&self) -> u64
+        ensures { result ≡ self.now.seat.now.actor.rv }
+    {
+        self.seat.actor.rv
+    }
+
     /// A call on a word or on a collection, with its reply. What it changes is seen by others once the transaction commits. `target` is the
     /// number of a word for `Read` and `Write`, and else of a collection.
     ///

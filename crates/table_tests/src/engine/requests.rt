@@ -61,12 +61,12 @@ pub fn begin_as<V: Told>(
 {
     if declared {
         match begin_read(seat, table) {
-            Ok(_) => Ok(Answer::Said("begun")),
+            Ok(tx) => Ok(Answer::Begun(tx.began_at())),
             Err(refusal) => Err(refusal),
         }
     } else {
         match begin(seat, table) {
-            Ok(_) => Ok(Answer::Said("begun")),
+            Ok(tx) => Ok(Answer::Begun(tx.began_at())),
             Err(refusal) => Err(refusal),
         }
     }

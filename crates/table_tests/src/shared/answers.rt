@@ -6,6 +6,7 @@ use tx_table::Block;
 /// What a row is answered that is not refused.
 #[derive(Drop)]
 pub enum Answer<V> {
+    Begun(u64),
     Replied(Reply<V>),
     Committed(Record<V>),
     Number(u64),

@@ -73,6 +73,7 @@ impl<V: Told> Page<V> {
             self.print("; ");
         }
         let is_heard = match answered {
+            Ok(Answer::Begun(number)) => write!(self.text, "begun {number}").is_ok(),
             Ok(Answer::Replied(reply)) => V::print_reply(&mut self.text, &reply).is_ok(),
             Ok(Answer::Committed(receipt)) => {
                 let is_printed = print_receipt(&mut self.text, &receipt).is_ok();
