@@ -6,7 +6,8 @@
 Each crate is proved from nothing, as `rt ci` proves it, once those below it are. What passed is kept in crates/NAME/out, with a sum of
 all files that it was made of, and a later run passes it over as long as these are the same. So after a failure is mended, only what
 changed and what is above it is proved again; other crates are proved while one fails. With names, only these and what they stand on.
-It tries no edit and runs no program: `rt ci` does, from nothing, and its verdict alone counts.
+What `rt ci` keeps on the machine is taken, and what is proved here is kept for it, where the kit keeps anything (13f does).
+It tries no edit and runs no program: `rt ci` does, and its verdict alone counts.
 
 A line tells of each crate how long it took, how many are done, and how long the rest may take; what the prover says of a crate is in
 crates/NAME/out/proof.log.
@@ -89,9 +90,13 @@ class Run:
 
     def __init__(self, crates, names, lanes):
         self.crates, self.lanes = crates, lanes
+        # what `rt ci` keeps on this machine, where the kit keeps anything
+        self.store = rt.Kept([*crates.values()]) if hasattr(rt, "Kept") else None
         wanted = {it for name in names for it in [name, *(dep.name for dep in below(crates[name]))]} or {*crates}
         self.proved = {it.name for it in crates.values() if self.is_kept(it)}
         self.left = [it for it in crates.values() if it.name in wanted and it.name not in self.proved]
+        for name in self.proved if self.store else ():
+            self.store.is_built(crates[name])
         self.failed, self.running, self.changed = set(), {}, threading.Condition(threading.RLock())
         self.total = len(wanted)
         self.begun, self.done = time.time(), 0
@@ -109,25 +114,39 @@ class Run:
     def is_kept(self, crate):
         return os.path.isfile(self.kept(crate)) and rtlib.text_of(self.kept(crate)) == stamp(crate)
 
-    def prove(self, crate, jobs):
-        begun, crate = time.time(), copy.copy(crate)
-        made_of, status = stamp(crate), 1
-        os.makedirs(f"{crate.folder}/out", exist_ok=True)
+    def takes(self, crate, key):
+        """Takes what a run of `rt ci` on this machine kept of the same files over the same libraries, and answers whether it could."""
+        return self.store is not None and self.store.give(crate, False, key)
+
+    def passes(self, crate, jobs):
+        """Whether the crate is proved from nothing."""
         with open(f"{crate.folder}/out/proof.log", "w", encoding="utf-8") as crate.out:
             try:
-                status = rtlib.fmt(crate.folder, "--check", crate.out) or crate.ci(["--jobs", str(jobs)], False)
+                return not (rtlib.fmt(crate.folder, "--check", crate.out) or crate.ci(["--jobs", str(jobs)], False))
             except SystemExit:
-                pass
-        if not status:
+                return False
+
+    def prove(self, crate, jobs):
+        begun, crate = time.time(), copy.copy(crate)
+        made_of, key = stamp(crate), self.store and self.store.key(crate)
+        os.makedirs(f"{crate.folder}/out", exist_ok=True)
+        is_taken = self.takes(crate, key)
+        is_proved = is_taken or self.passes(crate, jobs)
+        if is_proved:
             for file in [self.kept(crate)] + [f"{crate.folder}/out/rlib/stamp"] * (not crate.is_program):
+                os.makedirs(os.path.dirname(file), exist_ok=True)
                 with open(file, "w", encoding="utf-8") as it:
                     it.write(made_of)
+        if is_proved and self.store:
+            self.store.is_built(crate)
+            if not is_taken:
+                self.store.keep(crate, False, key)
+        how = "was proved before on this machine" if is_taken else f"proved, {time.time() - begun:.0f} s, {jobs} jobs"
         with self.changed:
             del self.running[crate.name]
-            (self.failed if status else self.proved).add(crate.name)
+            (self.proved if is_proved else self.failed).add(crate.name)
             self.done += lines_of(crate)
-            what = f"NOT PROVED: see crates/{crate.name}/out/proof.log" if status else "proved"
-            print(f"{self.state()}: {crate.name} {what}, {time.time() - begun:.0f} s, {jobs} jobs", flush=True)
+            print(f"{self.state()}: {crate.name} {how if is_proved else f'NOT PROVED: see crates/{crate.name}/out/proof.log'}", flush=True)
             self.changed.notify_all()
 
     def state(self):
