@@ -7,16 +7,14 @@ use Rattle.tx_table.specs.Seated.{opening_of}
 use Rattle.tx_turns.specs.Ties.{laid_in}
 use Rattle.tx_turns.specs.Straight.{at_place}
 use Rattle.tx_turns.proofs.KeyLemmas.{found_last, found_may}
-use Rattle.tx_turns.proofs.StraightLemmas.{LoadLaws, again_due, again_steps, loading_hears, loading_last}
+use Rattle.tx_turns.proofs.StraightLemmas.{again_due, again_steps, loading_hears, loading_last}
 use Rattle.tx_turns.proofs.keys.again_key.Goals as goal
 
 pub load_lock-found-requires-clause-own : goal.load_lock-found-requires-clause-own
-load_lock-found-requires-clause-own g c =
-    c.requires.ties.owns
+load_lock-found-requires-clause-own g c = c.requires.ties.owns
 
 pub load_lock-found-requires-clause-live : goal.load_lock-found-requires-clause-live
-load_lock-found-requires-clause-live g c =
-    c.requires.ties.live
+load_lock-found-requires-clause-live g c = c.requires.ties.live
 
 pub load_lock-found-requires-clause-location : goal.load_lock-found-requires-clause-location
 load_lock-found-requires-clause-location g c =

@@ -4,16 +4,14 @@ use Rattle.tx_actor.proofs.LoadStepLemmas.{loads_word}
 use Rattle.tx_actor.specs.Running.{at}
 use Rattle.tx_actor.specs.declared.actor.Stage.TheVariants as stage
 use Rattle.tx_turns.specs.Straight.{at_place}
-use Rattle.tx_turns.proofs.StraightLemmas.{LoadLaws, fetch_due, fetch_loads, led_then}
+use Rattle.tx_turns.proofs.StraightLemmas.{fetch_due, fetch_loads, led_then}
 use Rattle.tx_turns.proofs.keys.fetch_key.Goals as goal
 
 pub load_value-value-requires-clause-own : goal.load_value-value-requires-clause-own
-load_value-value-requires-clause-own g c =
-    c.requires.ties.owns
+load_value-value-requires-clause-own g c = c.requires.ties.owns
 
 pub load_value-value-requires-clause-live : goal.load_value-value-requires-clause-live
-load_value-value-requires-clause-live g c =
-    c.requires.ties.live
+load_value-value-requires-clause-live g c = c.requires.ties.live
 
 pub load_value-value-requires-clause-location : goal.load_value-value-requires-clause-location
 load_value-value-requires-clause-location g c =

@@ -13,12 +13,10 @@ use Rattle.tx_turns.proofs.KeyLemmas.{driven_then, gate_lost, gate_won, if_ok, o
 use Rattle.tx_turns.proofs.keys.gate_key.Goals as goal
 
 pub take_gate-requires-clause-own : goal.take_gate-requires-clause-own
-take_gate-requires-clause-own g c =
-    c.requires.ties.owns
+take_gate-requires-clause-own g c = c.requires.ties.owns
 
 pub take_gate-requires-clause-live : goal.take_gate-requires-clause-live
-take_gate-requires-clause-live g c =
-    c.requires.ties.live
+take_gate-requires-clause-live g c = c.requires.ties.live
 
 pub take_gate-requires-clause-collection : goal.take_gate-requires-clause-collection
 take_gate-requires-clause-collection g c =

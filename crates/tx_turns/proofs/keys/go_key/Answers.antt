@@ -3,7 +3,7 @@ use Rattle.actor_parts.specs.Blocks.{BlocksView}
 use Rattle.tx_actor.specs.Taking.{WasTaken}
 use Rattle.tx_actor.proofs.HavingLemmas.{asks_nothing}
 use Rattle.tx_turns.proofs.TurnLemmas.{laid_as}
-use Rattle.tx_turns.proofs.KeyLemmas.{CopyLaws, key_behind, key_copied, led_driven}
+use Rattle.tx_turns.proofs.KeyLemmas.{key_behind, key_copied, led_driven}
 use Rattle.tx_turns.proofs.keys.go_key.Goals as goal
 
 pub goes_on_key-requires : goal.goes_on_key-requires

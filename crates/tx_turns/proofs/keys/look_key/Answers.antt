@@ -6,16 +6,14 @@ use Rattle.tx_actor.specs.declared.actor.Stage.TheVariants as stage
 use Rattle.tx_table.specs.Seated.{opening_of}
 use Rattle.tx_turns.specs.Ties.{laid_in}
 use Rattle.tx_turns.specs.Straight.{at_place}
-use Rattle.tx_turns.proofs.StraightLemmas.{LoadLaws, led_then, loading_hears, loading_last, look_due, look_loads, look_steps}
+use Rattle.tx_turns.proofs.StraightLemmas.{led_then, loading_hears, loading_last, look_due, look_loads, look_steps}
 use Rattle.tx_turns.proofs.keys.look_key.Goals as goal
 
 pub load_lock-found-requires-clause-own : goal.load_lock-found-requires-clause-own
-load_lock-found-requires-clause-own g c =
-    c.requires.ties.owns
+load_lock-found-requires-clause-own g c = c.requires.ties.owns
 
 pub load_lock-found-requires-clause-live : goal.load_lock-found-requires-clause-live
-load_lock-found-requires-clause-live g c =
-    c.requires.ties.live
+load_lock-found-requires-clause-live g c = c.requires.ties.live
 
 pub load_lock-found-requires-clause-location : goal.load_lock-found-requires-clause-location
 load_lock-found-requires-clause-location g c =

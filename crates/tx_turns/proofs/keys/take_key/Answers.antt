@@ -18,7 +18,7 @@ use Rattle.tx_turns.proofs.GateLemmas.{copy_due, first_out, held_base, may_put}
 use Rattle.tx_turns.proofs.TurnLemmas.{laid_as}
 use Rattle.tx_turns.proofs.AskedLemmas.{starved}
 use Rattle.tx_turns.specs.Straight.{HasDriven, HasStopped}
-use Rattle.tx_turns.proofs.KeyLemmas.{CopyLaws, if_ok, in_hand, key_put, may_take, on_err, put_then, take_starved}
+use Rattle.tx_turns.proofs.KeyLemmas.{if_ok, in_hand, key_put, may_take, on_err, put_then, take_starved}
 use Rattle.tx_turns.proofs.keys.take_key.Goals as goal
 
 pub takes_call-requires : goal.takes_call-requires
@@ -180,8 +180,9 @@ returns-in-Err-clause-stopped g c =
     let v = c.blocks-2.result.now in
     let laid = laid_as t v c.blocks-2.ensures.words c.blocks-2.ensures.blocks in
     let q = c.takes_call.new.self in
-    let hand = in_hand c.args.bases.now.items c.push_reserved-in-Err.new.self.items b c.push_reserved-in-Err.ensures.items c.requires.none in
+    let cs = c.push_reserved-in-Err.new.self.items in
+    let hand = in_hand c.args.bases.now.items cs b c.push_reserved-in-Err.ensures.items c.requires.none in
     let running = subst (λ (z : BlocksView). IsRunning z r → IsRunning z q) laid c.in-Err.ensures.keeps.running c.requires.ties.running in
-    take_starved c.events_keep_copies.ensures.starves c.copies_by_stage.ensures.others t s c.refuse.new.seat p q asked b
-    c.push_reserved-in-Err.new.self.items hand c.requires.ties c.requires.own
+    take_starved c.events_keep_copies.ensures.starves c.copies_by_stage.ensures.others t s c.refuse.new.seat p q asked b cs hand
+    c.requires.ties c.requires.own
     (starved t s c.refuse.new.seat r q Quiet c.requires.ties c.refuse.ensures running c.in-Err.ensures.err) c.in-Err.ensures.leaves
