@@ -3,6 +3,7 @@ ghost use Rattle.std.specs.Prelude.{◌≡◌, ◌≤◌, IfOk, OnErr, length};
 ghost use Rattle.std.specs.Thread.{IsSend, IsSync};
 ghost use Rattle.tx_table.specs.Seated.{opening_of, view};
 ghost use Rattle.actor_laws.specs.Phases.{Rests};
+ghost use Rattle.tx_engine.specs.Borrowed.{IsAborted};
 ghost use Rattle.tx_engine.specs.Ready.{IsReady, standing};
 ghost use Rattle.job_workers.specs.Reports.{HasNotRun, HasRoomFor, HasRun, IsReportOf, IsTreeOf, jobs_of};
 
@@ -31,6 +32,14 @@ fn prepare<V: Value, J: Job<V> + Drop>(
     let count = lists.len() as u64;
     let tree = tree_of(alloc, &mut lists, count, 1)?;
     Ok((draft, tree))
+}
+
+/// A transaction that is open at the seat ends without a commit.
+fn abort<V: Value>(table: &TxTable<V>, seat: &mut TxSeat<V>)
+    requires ready { IsReady table.now seat.old }
+    ensures { IsAborted table.now seat.old seat.new }
+{
+    resume(seat, table).abort();
 }
 
 /// Like `run_workers`, with a seat that is handed in and back.
@@ -62,11 +71,11 @@ pub fn run_workers_owned<
         Ok((draft, tree)) => {
             let priority = Priority::new();
             let (mut seat, tree) = run_tree(rt, tries, pause, &priority, table, seat, tree);
-            resume(&mut seat, table).abort();
+            abort(table, &mut seat);
             (seat, Ok(draft.filled(tree)))
         }
         Err(memory) => {
-            resume(&mut seat, table).abort();
+            abort(table, &mut seat);
             (seat, Err(memory))
         }
     }

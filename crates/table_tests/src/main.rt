@@ -10,6 +10,7 @@ mod borrowed;
 mod copies;
 mod engine;
 mod pairs;
+mod resumed;
 mod sections;
 mod sessions;
 mod shared;

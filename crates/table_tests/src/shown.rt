@@ -10,9 +10,10 @@ ghost use Rattle.tx_engine.specs.Ready.{standing};
 ghost use Rattle.table_tests.specs.Fit.{IsFit};
 ghost use Rattle.tx_engine.specs.Aborted.{SeesOneState, ShownBy, WasAborted, WasAbortedFor};
 
+use crate::resumed;
 use seq_model::{Call, Record, Refusal, Reply, Value};
+use tx_engine::TxSeat;
 use tx_engine::laws::{aborted_transactions_saw_one_state, open_transactions_see_one_state};
-use tx_engine::{TxSeat, resume};
 use tx_table::TxTable;
 
 /// A call. Where it is refused and has ended its transaction, the table shows it as an aborted one that saw one state; where the
@@ -31,7 +32,8 @@ pub fn call<V: Value>(
 {
     aborted_transactions_saw_one_state::<V>();
     open_transactions_see_one_state::<V>();
-    resume(seat, table).call(call.op, call.target)
+    let Call { target, op } = call;
+    resumed::call(table, seat, target, op)
 }
 
 /// A commit. Where it is refused, the table shows its transaction as an aborted one that saw one state.
@@ -43,7 +45,7 @@ pub fn commit<V: Value>(table: &TxTable<V>, seat: &mut TxSeat<V>) -> Result<Reco
         ShownBy table.now seat.new.seat (WasAbortedFor (contents_in table.now) (opening_of table.now) seat.old.seat calls cause)) }
 {
     aborted_transactions_saw_one_state::<V>();
-    resume(seat, table).commit()
+    resumed::commit(table, seat)
 }
 
 /// An abort. The table shows the transaction that was open as an aborted one that saw one state.
@@ -55,5 +57,5 @@ pub fn abort<V: Value>(table: &TxTable<V>, seat: &mut TxSeat<V>)
         ShownBy table.now seat.new.seat (WasAborted (contents_in table.now) (opening_of table.now) seat.old.seat calls None) }
 {
     aborted_transactions_saw_one_state::<V>();
-    resume(seat, table).abort();
+    resumed::abort(table, seat);
 }

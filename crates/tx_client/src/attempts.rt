@@ -7,8 +7,9 @@ ghost use Rattle.std.specs.Prelude.{◌≡◌, IfErr, IfOk, Err, Ok, Some, false
 ghost use Rattle.tx_table.specs.Seated.{opening_of};
 ghost use Rattle.tx_turns.specs.Driven.{is_declared};
 ghost use Rattle.tx_turns.specs.Requested.{requests_of};
-ghost use Rattle.tx_engine.specs.Ready.{HasBegunSince, IsReady};
-ghost use Rattle.tx_engine.specs.Requests.{KeepsReceipts};
+ghost use Rattle.tx_engine.specs.Borrowed.{IsAborted};
+ghost use Rattle.tx_engine.specs.Ready.{HasBegunSince, HasFinished, IsReady};
+ghost use Rattle.tx_engine.specs.Requests.{HasAskedToBegin, KeepsReceipts};
 ghost use Rattle.tx_client.specs.Asked.{HasAsked};
 ghost use Rattle.tx_client.specs.Ends.{EndsAs};
 ghost use Rattle.tx_client.specs.Frames.{HasMadeCalls, calls_made};
@@ -59,7 +60,7 @@ fn begin<V: Value>(table: &TxTable<V>, seat: &mut TxSeat<V>, declared: bool) -> 
     ensures ready { IsReady table.now seat.new }
     ensures since { IfOk result (λ _. HasBegunSince table.now seat.new) }
     ensures keeps { KeepsReceipts seat.old.seat seat.new.seat }
-    ensures asks { HasAsked declared (requests_of seat.old.seat) (requests_of seat.new.seat) }
+    ensures asks { HasAskedToBegin declared (opening_of table.now) seat.old.seat seat.new.seat }
     ensures reads { IfOk result (λ _. declared ≡ true → is_declared (opening_of table.now) seat.new.seat ≡ true) }
 {
     if declared {
@@ -129,6 +130,23 @@ fn run<V: Value, B: Body<V>>(
     run_in::<V, Brand, B>(table, caller, seat, body)
 }
 
+/// The transaction that is open at the seat commits.
+fn commit<V: Value>(table: &TxTable<V>, seat: &mut TxSeat<V>) -> Result<Receipt<V>, Refusal>
+    requires ready { IsReady table.now seat.old }
+    requires since { HasBegunSince table.now seat.old }
+    ensures finished { HasFinished table.now seat.old seat.new result }
+{
+    resume(seat, table).commit()
+}
+
+/// It ends without a commit.
+fn abort<V: Value>(table: &TxTable<V>, seat: &mut TxSeat<V>)
+    requires ready { IsReady table.now seat.old }
+    ensures { IsAborted table.now seat.old seat.new }
+{
+    resume(seat, table).abort();
+}
+
 /// Commits the transaction, or aborts it where its body returned an error. Where a call ended the transaction and the body went on, the
 /// answer is that call's refusal.
 fn finish<V: Value, T: Drop, E: Drop>(
@@ -148,12 +166,12 @@ fn finish<V: Value, T: Drop, E: Drop>(
     let _ = declared;
     let Ran { refused, gave } = ran;
     match gave {
-        Ok(value) => match resume(seat, table).commit() {
+        Ok(value) => match commit(table, seat) {
             Ok(receipt) => Ok((value, receipt)),
             Err(cause) => Err(Failure::Refused(first_refusal(refused, cause))),
         },
         Err(error) => {
-            resume(seat, table).abort();
+            abort(table, seat);
             match refused {
                 Some(cause) => Err(Failure::Refused(cause)),
                 None => Err(Failure::Aborted(error)),
@@ -188,12 +206,14 @@ fn attempt<V: Value, B: Body<V>>(
     ensures reads { IfOk result.1 (λ done. declared ≡ true → done.1.writes ≡ false) }
 {
     let mut seat = seat;
-    if let Err(cause) = begin(table, seat.get_mut(), declared) {
-        return (seat, Err(Failure::Refused(cause)));
+    match begin(table, seat.get_mut(), declared) {
+        Ok(()) => {
+            let (mut seat, ran) = run(table, caller, seat, body);
+            let ended = finish(table, seat.get_mut(), ran, declared);
+            (seat, ended)
+        }
+        Err(cause) => (seat, Err(Failure::Refused(cause))),
     }
-    let (mut seat, ran) = run(table, caller, seat, body);
-    let ended = finish(table, seat.get_mut(), ran, declared);
-    (seat, ended)
 }
 
 /// Attempts a body until it commits: at most so many times, and once at least. Only a conflict is followed by another attempt. Each attempt

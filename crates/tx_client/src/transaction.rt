@@ -1,5 +1,6 @@
 //! A transaction, as a body sees it.
 ghost use Rattle.std.specs.Prelude.{◌≡◌, IfOk};
+ghost use Rattle.tx_engine.specs.Ready.{HasBegunSince, HasCalled, IsReady};
 ghost use Rattle.tx_handles.specs.Made.{HasMade, RefusesForeign, with_call};
 
 use crate::scope::Scope;
@@ -64,13 +65,26 @@ fn foreign_refusal(refused: Option<Refusal>, is_open: bool) -> Option<Refusal> {
     }
 }
 
+/// A call of the transaction that is open at the seat.
+fn call_at<V: Value>(
+    table: &TxTable<V>,
+    seat: &mut TxSeat<V>,
+    target: u32,
+    op: Op<V>,
+) -> Result<Reply<V>, Refusal>
+    requires ready { IsReady table.now seat.old }
+    requires since { HasBegunSince table.now seat.old }
+    ensures called { HasCalled table.now seat.old seat.new (record { target = target; op = op }) result }
+{
+    resume(seat, table).call(op, target)
+}
+
 impl<'t, V: Value, S: Scope<V>> Transaction<'t, V, S> {
     /// A call on the word or the collection with this number. A call that is answered is added to the calls that were made.
     fn request(&mut self, target: u32, op: Op<V>) -> Result<Reply<V>, Refusal>
         ensures { IfOk result (λ reply. self.new ≡ with_call self.old target op reply) }
     {
-        let answered = resume(self.seat.get_mut(), self.table).call(op, target);
-        match answered {
+        match call_at(self.table, self.seat.get_mut(), target, op) {
             Ok(reply) => {
                 self.refused = None;
                 Ok(reply)

@@ -2,12 +2,12 @@
 ghost use Rattle.table_tests.specs.Fit.{IsFit};
 
 use crate::shared::{Answer, Listed, Meeting, Told, job_of};
-use crate::shown;
+use crate::{resumed, shown};
 use row_parts::script_of;
 use seq_model::{Refusal, Request};
 use std::alloc::Global;
 use text_formats::{EventLine, number};
-use tx_engine::{Attempt, Pause, TxSeat, attempt_with, begin, begin_read, learn, resume};
+use tx_engine::{Attempt, Pause, TxSeat, attempt_with, learn};
 use tx_table::TxTable;
 
 /// The request that this row spells.
@@ -50,7 +50,8 @@ fn ask<V: Told>(
     }
 }
 
-/// A transaction begins, and is left open at the seat.
+/// A transaction begins, a declared reader or not, and is left open.
+#[tactic(auto, using(crate::proofs::FitLemmas::rests_fit))]
 pub fn begin_as<V: Told>(
     table: &TxTable<V>,
     seat: &mut TxSeat<V>,
@@ -59,16 +60,9 @@ pub fn begin_as<V: Told>(
     requires fit { IsFit table.now seat.old }
     ensures fit { IsFit table.now seat.new }
 {
-    if declared {
-        match begin_read(seat, table) {
-            Ok(tx) => Ok(Answer::Begun(tx.began_at())),
-            Err(refusal) => Err(refusal),
-        }
-    } else {
-        match begin(seat, table) {
-            Ok(tx) => Ok(Answer::Begun(tx.began_at())),
-            Err(refusal) => Err(refusal),
-        }
+    match resumed::begin(table, seat, declared) {
+        Ok(number) => Ok(Answer::Begun(number)),
+        Err(refusal) => Err(refusal),
     }
 }
 
@@ -86,7 +80,7 @@ pub fn learn_number<V: Told>(
         return Err(Refusal::NoSuch);
     };
     let learnt = learn(table, seat, told);
-    resume(seat, table).abort();
+    resumed::abort(table, seat);
     learnt?;
     Ok(Answer::Said("learnt"))
 }

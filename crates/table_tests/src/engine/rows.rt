@@ -6,11 +6,12 @@ use crate::borrowed::calls::{Placed, Style};
 use crate::borrowed::ends::{End, end_of};
 use crate::borrowed::lists::calls_of;
 use crate::borrowed::transacted::transact;
+use crate::resumed;
 use crate::shared::{Answer, Meeting, Page, Stand, Told};
 use seq_model::Refusal;
 use std::alloc::Global;
 use text_formats::number;
-use tx_engine::{TxSeat, resume};
+use tx_engine::TxSeat;
 use tx_table::TxTable;
 
 /// Answers the row if it is one of this seat; unless an allocation failed before: then no other seat is to wait for this one.
@@ -142,6 +143,6 @@ fn borrow<V: Told>(
         end,
         calls.as_slice(),
     );
-    resume(seat, table).abort();
+    resumed::abort(table, seat);
     answered
 }

@@ -4,11 +4,12 @@ ghost use Rattle.std.specs.Thread.{IsSend, IsSync};
 ghost use Rattle.tx_engine.specs.Ready.{IsReady};
 
 use super::rows::answer_at;
+use crate::resumed;
 use crate::shared::{Meeting, Order, Page, Stand, Told};
 use crate::worker::retries::{AMONG_OTHERS, commit_after};
 use seq_model::Refusal;
 use std::thread::{Threads, join_mut};
-use tx_engine::{TxSeat, resume};
+use tx_engine::TxSeat;
 use tx_table::TxTable;
 
 /// Where a row of the first seat stands that waits for none.
@@ -37,8 +38,8 @@ pub fn in_turn<V: Told>(
     ensures first { IsReady table.now first.new }
     ensures second { IsReady table.now second.new }
 {
-    resume(first, table).abort();
-    resume(second, table).abort();
+    resumed::abort(table, first);
+    resumed::abort(table, second);
     let meeting = Meeting::new(2, Order::LastIsFirst);
     'rows: for row in rows.lines() {
         answer_at(page, table, first, FIRST, &meeting, row);
@@ -158,7 +159,7 @@ fn answer_seat<V: Told>(
     requires ready { IsReady table.now seat.old }
     ensures ready { IsReady table.now seat.new }
 {
-    resume(seat, table).abort();
+    resumed::abort(table, seat);
     let mut above = 0u64;
     'rows: for row in rows.lines() {
         answer_at(page, table, seat, Stand { worker, above }, meeting, row);

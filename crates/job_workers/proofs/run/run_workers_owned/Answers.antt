@@ -21,12 +21,12 @@ filled-requires-clause-missed g c =
 pub returns-in-Ok-clause-report : goal.returns-in-Ok-clause-report
 returns-in-Ok-clause-report g c =
     is_report g.J.Job.asks c.args.table.now c.args.tries c.args.lists.items c.in-Ok.tree.value c.run_tree-seat.result.1.value
-    c.in-Ok.ensures.tree c.args.seat c.run_tree-seat.result.0 c.run_tree-seat.ensures c.abort.new.self c.filled.result c.abort.ensures.keeps
+    c.in-Ok.ensures.tree c.args.seat c.run_tree-seat.result.0 c.run_tree-seat.ensures c.abort.new.seat c.filled.result c.abort.ensures.keeps
     c.filled.ensures.receipts c.filled.ensures.missed
 
 pub returns-in-Ok-clause-gains : goal.returns-in-Ok-clause-gains
 returns-in-Ok-clause-gains g c =
     let after = c.run_tree-seat.result.1.value in
-    let all = keeps_gains c.args.seat c.run_tree-seat.result.0 c.abort.new.self (gained after) c.run_tree-seat.ensures.gains
+    let all = keeps_gains c.args.seat c.run_tree-seat.result.0 c.abort.new.seat (gained after) c.run_tree-seat.ensures.gains
     c.abort.ensures.keeps in
     rw (c.filled.ensures.receipts, flat_gained after) all
