@@ -1,4 +1,5 @@
 //! Transactions that take one item out of a queue, or the least element out of a priority queue, and put one in, by how much it holds.
+//! Into a priority queue they put that element back, or a later one, as a queue of events does.
 use crate::clock::seconds_since;
 use seq_model::{Counts, QueueItems, Refusal};
 use std::alloc::Global;
@@ -14,7 +15,16 @@ const TRANSACTIONS: u32 = 20_000;
 #[derive(Clone, Copy)]
 enum Turn {
     Queue(Queue),
-    PriorityQueue(PriorityQueue),
+    /// The least element comes back.
+    Least(PriorityQueue),
+    /// In its place comes one that is later by up to so much.
+    Later(PriorityQueue, u64),
+}
+
+/// What element comes in place of this one, which is later by up to so much: scattered, and the same in each run.
+fn later(element: u64, by: u64) -> u64 {
+    let step = element.wrapping_mul(11_400_714_819_323_198_485) >> 20;
+    element.wrapping_add(step % by.max(1)).wrapping_add(1)
 }
 
 impl Body<u64> for Turn {
@@ -28,26 +38,33 @@ impl Body<u64> for Turn {
                 let item = queue.dequeue(tx)?;
                 queue.enqueue(tx, item.unwrap_or(0))??;
             }
-            Turn::PriorityQueue(queue) => {
+            Turn::Least(queue) => {
                 let element = queue.take_least(tx)?;
                 queue.insert(tx, element.unwrap_or(0))??;
+            }
+            Turn::Later(queue, by) => {
+                let element = queue.take_least(tx)?;
+                queue.insert(tx, later(element.unwrap_or(0), *by))??;
             }
         }
         Ok(())
     }
 }
 
-/// Prints what a transaction takes on 1,000 to 1,000,000 items or elements, and then on 1,024 elements in 1 to 1,024 stripes; and how
+/// Prints what a transaction takes on 1,000 to 1,000,000 items or elements, and then on 1,024 elements in 16 to 1,024 stripes; and how
 /// long the store took to open and to close.
 pub fn measure(rt: &(impl Runtime + AllocGlobal)) -> io::Result<()> {
     for items in [1_000, 10_000, 100_000, 1_000_000] {
         report_queue(rt, items)?;
     }
     for elements in [1_000, 10_000, 100_000, 1_000_000] {
-        report_priority_queue(rt, 1, elements)?;
+        report_priority_queue(rt, 1, elements, false)?;
+    }
+    for elements in [1_000, 10_000, 100_000, 1_000_000] {
+        report_priority_queue(rt, 1, elements, true)?;
     }
     for stripes in [16, 256, 1_024] {
-        report_priority_queue(rt, stripes, 1_024)?;
+        report_priority_queue(rt, stripes, 1_024, false)?;
     }
     Ok(())
 }
@@ -64,11 +81,17 @@ fn report_priority_queue(
     rt: &(impl Runtime + AllocGlobal),
     stripes: u32,
     elements: u64,
+    later: bool,
 ) -> io::Result<()> {
-    let (layout, turn) = priority_queue_of(rt.alloc(), stripes, elements).map_err(refused)?;
+    let (layout, queue) = priority_queue_of(rt.alloc(), stripes, elements).map_err(refused)?;
+    let (turn, put) = if later {
+        (Turn::Later(queue, elements), ", a later one put in")
+    } else {
+        (Turn::Least(queue), "")
+    };
     let (opened, turned, closed) = timed(rt, layout, turn)?;
     println!(rt;
-        "a priority queue of {elements}, stripes {stripes}: {turned:.1} microseconds a transaction, opened in {opened:.3} s, closed in {closed:.3} s"
+        "a priority queue of {elements}{put}, stripes {stripes}: {turned:.1} microseconds a transaction, opened in {opened:.3} s, closed in {closed:.3} s"
     )
 }
 
@@ -90,14 +113,14 @@ fn priority_queue_of(
     alloc: Global,
     stripes: u32,
     elements: u64,
-) -> Result<(Layout<u64>, Turn), Refusal> {
+) -> Result<(Layout<u64>, PriorityQueue), Refusal> {
     let mut held = Counts::new(alloc);
     for element in 0..elements {
         held.set_copies(element, 1)?;
     }
     let mut layout = Layout::new(alloc);
     let queue = layout.priority_queue(stripes, held)?;
-    Ok((layout, Turn::PriorityQueue(queue)))
+    Ok((layout, queue))
 }
 
 /// The seconds in which the store opens, the microseconds of a transaction, and the seconds in which it closes.
