@@ -253,13 +253,14 @@ draw_transactions() {
         source="$source, $(rows transactions.csv "queue,5,seats") using 4:5:6:7 with yerrorlines linetype 4 title 'one queue'"
     fi
     draw transactions transactions.csv "$title" <<END
-set xlabel "threads (transactions of four calls, of which one of ten changes something)"
+set xlabel "threads (four calls a transaction; of ten calls one changes something, on the queue five)"
 set ylabel "thousand transactions a second"
 set xtics (1, 2, 4)
 set xrange [0.8:4.2]
 set logscale y
-set ytics ("300" 300, "1,000" 1000, "3,000" 3000, "10,000" 10000, "30,000" 30000)
-set yrange [300:30000]
+set ytics ("200" 200, "1,000" 1000, "3,000" 3000, "10,000" 10000, "30,000" 30000)
+set yrange [200:30000]
+set key maxrows 2 samplen 2 font ",12"
 plot $source
 END
 }
