@@ -90,7 +90,8 @@ measure_sizes() {
     echo "on,stripes,holds,microseconds,least,most"
     repeat "$1" bases | sed -nE \
         -e 's/^a queue of ([0-9]+): ([0-9.]+) microseconds.*/queue,1,\1,\2/p' \
-        -e 's/^a priority queue of ([0-9]+), stripes ([0-9]+): ([0-9.]+) microseconds.*/priority queue,\2,\1,\3/p' | means
+        -e 's/^a priority queue of ([0-9]+), stripes ([0-9]+): ([0-9.]+) microseconds.*/priority queue,\2,\1,\3/p' \
+        -e 's/^a priority queue of ([0-9]+), stripes ([0-9]+), a later one put in: ([0-9.]+) microseconds.*/later ones,\2,\1,\3/p' | means
 }
 
 # One run of `bench` with four clients: its refusals by cause.
@@ -294,7 +295,8 @@ set xtics ("1,000" 1000, "10,000" 10000, "100,000" 100000, "1,000,000" 1000000)
 set xrange [700:1500000]
 set yrange [0:5]
 plot $(rows sizes.csv "queue,1") using 3:4 with linespoints linetype 1 title "queue", \\
-    $(rows sizes.csv "priority queue,1") using 3:4 with linespoints linetype 2 title "priority queue, one stripe"
+    $(rows sizes.csv "priority queue,1") using 3:4 with linespoints linetype 2 title "priority queue, the least put back", \\
+    $(rows sizes.csv "later ones,1") using 3:4 with linespoints linetype 3 title "priority queue, a later one put in"
 END
 }
 

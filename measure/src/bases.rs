@@ -11,6 +11,9 @@ use wolimevar::{Body, Layout, PriorityQueue, Queue, Scope, Store, Transaction};
 /// How many transactions each row makes, one after another.
 const TRANSACTIONS: u32 = 20_000;
 
+/// How many a row makes whose collection is empty after each dequeue, or each take of its least.
+const EMPTYING: u32 = 1_000_000;
+
 /// What a transaction takes from and puts into.
 #[derive(Clone, Copy)]
 enum Turn {
@@ -51,11 +54,11 @@ impl Body<u64> for Turn {
     }
 }
 
-/// Prints what a transaction takes on 1,000 to 1,000,000 items or elements, and then on 1,024 elements in 16 to 1,024 stripes; and how
-/// long the store took to open and to close.
+/// Prints what a transaction takes on 1,000 to 1,000,000 items or elements, then on 1,024 elements in 16 to 1,024 stripes, then where one
+/// item or element goes round a million times; and how long the store took to open and to close.
 pub fn measure(rt: &(impl Runtime + AllocGlobal)) -> io::Result<()> {
     for items in [1_000, 10_000, 100_000, 1_000_000] {
-        report_queue(rt, items)?;
+        report_queue(rt, items, TRANSACTIONS)?;
     }
     for elements in [1_000, 10_000, 100_000, 1_000_000] {
         report_priority_queue(rt, 1, elements, false)?;
@@ -66,15 +69,26 @@ pub fn measure(rt: &(impl Runtime + AllocGlobal)) -> io::Result<()> {
     for stripes in [16, 256, 1_024] {
         report_priority_queue(rt, stripes, 1_024, false)?;
     }
-    Ok(())
+    report_queue(rt, 1, EMPTYING)?;
+    report_one_element(rt)
 }
 
-fn report_queue(rt: &(impl Runtime + AllocGlobal), items: u64) -> io::Result<()> {
+fn report_queue(
+    rt: &(impl Runtime + AllocGlobal),
+    items: u64,
+    transactions: u32,
+) -> io::Result<()> {
     let (layout, turn) = queue_of(rt.alloc(), items).map_err(refused)?;
-    let (opened, turned, closed) = timed(rt, layout, turn)?;
+    let (opened, turned, closed) = timed(rt, layout, turn, transactions)?;
     println!(rt;
-        "a queue of {items}: {turned:.1} microseconds a transaction, opened in {opened:.3} s, closed in {closed:.3} s"
+        "a queue of {items}: {turned:.1} microseconds a transaction, opened in {opened:.2} ms, closed in {closed:.2} ms"
     )
+}
+
+fn report_one_element(rt: &(impl Runtime + AllocGlobal)) -> io::Result<()> {
+    let (layout, queue) = priority_queue_of(rt.alloc(), 1, 1).map_err(refused)?;
+    let (_, turned, _) = timed(rt, layout, Turn::Later(queue, 1_000), EMPTYING)?;
+    println!(rt; "a priority queue of 1, a later one put in: {turned:.1} microseconds a transaction")
 }
 
 fn report_priority_queue(
@@ -89,9 +103,9 @@ fn report_priority_queue(
     } else {
         (Turn::Least(queue), "")
     };
-    let (opened, turned, closed) = timed(rt, layout, turn)?;
+    let (opened, turned, closed) = timed(rt, layout, turn, TRANSACTIONS)?;
     println!(rt;
-        "a priority queue of {elements}{put}, stripes {stripes}: {turned:.1} microseconds a transaction, opened in {opened:.3} s, closed in {closed:.3} s"
+        "a priority queue of {elements}, stripes {stripes}{put}: {turned:.1} microseconds a transaction, opened in {opened:.2} ms, closed in {closed:.2} ms"
     )
 }
 
@@ -123,27 +137,29 @@ fn priority_queue_of(
     Ok((layout, queue))
 }
 
-/// The seconds in which the store opens, the microseconds of a transaction, and the seconds in which it closes.
+/// The milliseconds in which the store opens, the microseconds of one of so many transactions, and the milliseconds in which it closes.
 fn timed(
     rt: &(impl Runtime + AllocGlobal),
     layout: Layout<u64>,
     turn: Turn,
+    transactions: u32,
 ) -> io::Result<(f64, f64, f64)> {
     let start = Instant::now(rt);
     let mut store = layout.open().map_err(refused)?;
     let opened = seconds_since(rt, start)?;
     let start = Instant::now(rt);
-    let ended = turn_all(&mut store, turn);
+    let ended = turn_all(&mut store, turn, transactions);
     let turned = seconds_since(rt, start)?;
     let start = Instant::now(rt);
     close(store).map_err(refused)?;
     let closed = seconds_since(rt, start)?;
     ended.map_err(refused)?;
-    Ok((opened, turned * 1e6 / f64::from(TRANSACTIONS), closed))
+    let microseconds = turned * 1e6 / f64::from(transactions);
+    Ok((opened * 1e3, microseconds, closed * 1e3))
 }
 
-fn turn_all(store: &mut Store<u64>, turn: Turn) -> Result<(), Refusal> {
-    for _ in 0..TRANSACTIONS {
+fn turn_all(store: &mut Store<u64>, turn: Turn, transactions: u32) -> Result<(), Refusal> {
+    for _ in 0..transactions {
         let _ = store.atomically(1, &turn)?;
     }
     Ok(())
