@@ -34,3 +34,4 @@ pub mod LockLemmas
 pub mod CheckLemmas
 pub mod BeginLemmas
 pub mod KeyLemmas
+pub mod CommitLemmas

@@ -9,16 +9,13 @@ ghost use Rattle.actor_laws.specs.Phases.{Ends};
 ghost use Rattle.tx_turns.specs.Ties.{Ties};
 ghost use Rattle.tx_turns.specs.Own.{HasOwn};
 ghost use Rattle.tx_turns.specs.Driven.{Driven, IsOnGate, seat_in, standing, told_in};
-ghost use Rattle.tx_turns.specs.Straight.{IsLedTo, LeadsAll, LeadsAllFrom, LeadsBy, LeadsFrom, WantsBy};
+ghost use Rattle.tx_turns.specs.Straight.{IsLedTo, LeadsBy, LeadsFrom, WantsBy};
 
 use crate::begins::begun_on;
-use crate::checks::checked_on;
+use crate::commits::commit_on;
 use crate::keys::{call_to_try, key_on};
-use crate::locks::locked_on;
 use crate::reads::{steps_on, word_read_on};
-use crate::releases::released_on;
-use crate::stores::stored_on;
-use crate::turns::{says, step, store_next, turn_apart, turn_on_gate};
+use crate::turns::{says, step, turn_apart, turn_on_gate};
 use actor_parts::{Boxed, Next};
 use replay_log::Base;
 use seq_model::{Memory, Record, Value};
@@ -178,117 +175,6 @@ fn finish_after<V: Value>(
     finish_from(alloc, table, seat, actor, bases, made)
 }
 
-/// The steps of a commit on the words after its first store, whose answer this is: whether all were quiet. The values that are left are
-/// stored, and the locks are given back.
-#[inline(always)]
-fn write_on<V: Value>(
-    table: &TxTable<V>,
-    seat: &mut Seat<V>,
-    actor: &mut TxActor<V>,
-    bases: &[Boxed<Base<V>>],
-    told: Told<V>,
-    said: &mut Told<V>,
-) -> bool
-    requires ties { Ties table.now seat.old actor.old }
-    requires own { HasOwn table.now seat.old actor.old bases.now }
-    requires small { AreSmall (blocks_in table.now) }
-    ensures leads { LeadsAllFrom (opening_of table.now) seat.old seat.new told (told_in result said.new) }
-    ensures answered { result ≡ false → said.new ≢ Told.Quiet }
-    ensures ties { Ties table.now seat.new actor.new }
-    ensures own { HasOwn table.now seat.new actor.new bases.now }
-{
-    if !says(told, said) {
-        return false;
-    }
-    if !stored_on(table, seat, actor, bases, said) {
-        return false;
-    }
-    released_on(table, seat, actor, bases, said)
-}
-
-/// The turns of a commit after its first store, which gave this answer and made its receipt.
-#[inline(always)]
-fn write_back<V: Value>(
-    alloc: Global,
-    table: &TxTable<V>,
-    seat: &mut Seat<V>,
-    actor: &mut TxActor<V>,
-    bases: &mut Vec<Boxed<Base<V>>>,
-    told: Told<V>,
-    made: Option<Record<V>>,
-) -> (Told<V>, Option<Record<V>>)
-    requires ties { Ties table.now seat.old actor.old }
-    requires own { HasOwn table.now seat.old actor.old bases.old.items }
-    requires small { AreSmall (blocks_in table.now) }
-    requires come { IsLedTo (opening_of table.now) seat.old told made }
-    ensures leads { LeadsFrom (opening_of table.now) seat.old seat.new told result.0 made result.1 }
-    ensures answered { result.0 ≢ Told.Quiet }
-    ensures ties { Ties table.now seat.new actor.new }
-    ensures own { HasOwn table.now seat.new actor.new [] }
-{
-    let mut said = Told::Quiet;
-    let quiet = write_on(table, seat, actor, bases.as_slice(), told, &mut said);
-    finish_after(alloc, table, seat, actor, bases, quiet, said, made)
-}
-
-/// Whether the first value store is next, after turns that were quiet.
-#[inline(always)]
-fn is_ready<V>(quiet: bool, actor: &TxActor<V>) -> bool
-    ensures quiet { result ≡ true → quiet ≡ true }
-    ensures due { result ≡ true → next_of (stage_of actor.now.stage) ≡ Next.FirstStore }
-{
-    quiet && matches!(&actor.stage, Stage::Ready(_))
-}
-
-/// The first value store of a commit, and the turns after it.
-#[inline(always)]
-fn store_through<V: Value>(
-    alloc: Global,
-    table: &TxTable<V>,
-    seat: &mut Seat<V>,
-    actor: &mut TxActor<V>,
-    bases: &mut Vec<Boxed<Base<V>>>,
-) -> (Told<V>, Option<Record<V>>)
-    requires ties { Ties table.now seat.old actor.old }
-    requires own { HasOwn table.now seat.old actor.old bases.old.items }
-    requires small { AreSmall (blocks_in table.now) }
-    requires due { next_of (stage_of actor.old.stage) ≡ Next.FirstStore }
-    requires come { IsLedTo (opening_of table.now) seat.old Told.Quiet None }
-    ensures leads { LeadsBy (opening_of table.now) seat.old seat.new result.0 None result.1 }
-    ensures answered { result.0 ≢ Told.Quiet }
-    ensures ties { Ties table.now seat.new actor.new }
-    ensures own { HasOwn table.now seat.new actor.new [] }
-{
-    match store_next(alloc, table, seat, actor, bases) {
-        Ok((told, made)) => write_back(alloc, table, seat, actor, bases, told, made),
-        Err(_) => (give_up(alloc, table, seat, actor, bases), None),
-    }
-}
-
-/// The steps of a commit on the words up to its first store: whether all were quiet. The locks are taken, then the number, and what was
-/// read is checked.
-#[inline(always)]
-fn commit_on<V: Value>(
-    table: &TxTable<V>,
-    seat: &mut Seat<V>,
-    actor: &mut TxActor<V>,
-    bases: &[Boxed<Base<V>>],
-    said: &mut Told<V>,
-) -> bool
-    requires ties { Ties table.now seat.old actor.old }
-    requires own { HasOwn table.now seat.old actor.old bases.now }
-    requires small { AreSmall (blocks_in table.now) }
-    ensures leads { LeadsAll (opening_of table.now) seat.old seat.new (told_in result said.new) }
-    ensures answered { result ≡ false → said.new ≢ Told.Quiet }
-    ensures ties { Ties table.now seat.new actor.new }
-    ensures own { HasOwn table.now seat.new actor.new bases.now }
-{
-    if !locked_on(table, seat, actor, bases, said) {
-        return false;
-    }
-    checked_on(table, seat, actor, bases, said)
-}
-
 /// A commit of a transaction that has written.
 #[inline(always)]
 fn commit_through<V: Value>(
@@ -308,11 +194,11 @@ fn commit_through<V: Value>(
     ensures own { HasOwn table.now seat.new actor.new [] }
 {
     let mut said = Told::Quiet;
-    let quiet = commit_on(table, seat, actor, bases.as_slice(), &mut said);
-    if is_ready(quiet, actor) {
-        return store_through(alloc, table, seat, actor, bases);
+    let mut made = None;
+    match commit_on(alloc, table, seat, actor, bases, &mut said, &mut made) {
+        Ok(quiet) => finish_after(alloc, table, seat, actor, bases, quiet, said, made),
+        Err(_) => (give_up(alloc, table, seat, actor, bases), None),
     }
-    finish_after(alloc, table, seat, actor, bases, quiet, said, None)
 }
 
 /// Whether a transaction without writes is to commit, by a step on the words.
@@ -343,7 +229,9 @@ fn close_through<V: Value>(
     ensures own { HasOwn table.now seat.new actor.new [] }
 {
     let (told, made) = step(alloc, table, seat, actor, bases.as_slice());
-    write_back(alloc, table, seat, actor, bases, told, made)
+    let mut said = Told::Quiet;
+    let quiet = says(told, &mut said);
+    finish_after(alloc, table, seat, actor, bases, quiet, said, made)
 }
 
 /// The turns of the request that is under way, up to its answer, with the receipt that they make. They end, whatever the other seats do.

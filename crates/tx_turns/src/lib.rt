@@ -20,6 +20,7 @@
 mod asks;
 mod begins;
 mod checks;
+mod commits;
 mod driving;
 mod due;
 pub mod due_laws;

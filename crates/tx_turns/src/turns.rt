@@ -96,7 +96,7 @@ pub(crate) fn step<V: Value>(
 
 /// A try on a gate: whether it was quiet. Where an allocation fails no step is taken, and the request is aborted.
 #[inline(always)]
-fn try_next<V: Value>(
+pub(crate) fn try_next<V: Value>(
     table: &TxTable<V>,
     seat: &mut Seat<V>,
     actor: &mut TxActor<V>,
@@ -151,7 +151,7 @@ fn copy_next<V: Value>(
 
 /// A base is put back with its log: whether that was quiet.
 #[inline(always)]
-fn home_next<V: Value>(
+pub(crate) fn home_next<V: Value>(
     table: &TxTable<V>,
     seat: &mut Seat<V>,
     actor: &mut TxActor<V>,
@@ -288,7 +288,7 @@ pub fn turn<V: Value>(
 }
 
 /// The receipt that was made last is kept.
-fn keep<V: Value>(made: Option<Record<V>>, kept: &mut Option<Record<V>>)
+pub(crate) fn keep<V: Value>(made: Option<Record<V>>, kept: &mut Option<Record<V>>)
     ensures { kept.new ≡ latest made kept.old }
 {
     match made {

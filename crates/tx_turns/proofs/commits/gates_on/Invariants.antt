@@ -1,0 +1,15 @@
+use Rattle.replay_log.specs.WorldProgress.{left_of}
+use Rattle.tx_actor.specs.declared.actor.Told.TheVariants as told
+use Rattle.tx_table.specs.Seated.{actor, acts, opening_of}
+use Rattle.tx_turns.specs.Straight.{LeadsAll}
+use Rattle.tx_turns.specs.Ties.{Ties}
+use Rattle.tx_turns.specs.Own.{HasOwn}
+use Rattle.tx_turns.proofs.commits.gates_on.Given as goal
+
+abbrev pub invariant-gates : goal.invariant-gates
+invariant-gates g l =
+    Ties l.table l.seat l.actor × HasOwn l.table l.seat l.actor l.bases.items
+    × LeadsAll (opening_of l.table) l.initial.seat l.seat told.Quiet
+
+abbrev pub decreases-gates : goal.decreases-gates
+decreases-gates g l = left_of (acts (opening_of l.table) l.seat) (actor l.seat)

@@ -1,0 +1,195 @@
+//! A commit of a transaction that has written: its steps, in the order of TL2 (DISC 2006).
+//!
+//! [`commit_on`] has that order. Each of its parts takes the steps of one kind, in straight code, where they are next, and else does nothing;
+//! so where others are in its way, and the transaction is being aborted, all that comes after does nothing, and the loop over turns goes on
+//! from there. The gates and the homes of collections are taken and put back here; the steps on the words have files of their own.
+ghost use Rattle.std.specs.Prelude.{◌≡◌, ◌≢◌, false, true, IfOk, IfSome, OnErr, Option};
+ghost use Rattle.seq_model.specs.declared.record.Record.{Record as Made};
+ghost use Rattle.actor_parts.specs.Dispatch.{next_of};
+ghost use Rattle.replay_log.specs.WorldProgress.{AreSmall};
+ghost use Rattle.tx_actor.specs.Running.{stage_of};
+ghost use Rattle.tx_table.specs.Seated.{blocks_in, opening_of};
+ghost use Rattle.tx_turns.specs.Ties.{Ties};
+ghost use Rattle.tx_turns.specs.Own.{HasOwn};
+ghost use Rattle.tx_turns.specs.Driven.{told_in};
+ghost use Rattle.tx_turns.specs.Straight.{LeadsAll, LeadsBy, WantsBy};
+
+use crate::checks::checked_on;
+use crate::locks::locked_on;
+use crate::releases::released_on;
+use crate::stores::stored_on;
+use crate::turns::{home_next, keep, says, store_next, try_next};
+use actor_parts::{Boxed, Next, at_place};
+use replay_log::Base;
+use seq_model::{Memory, Record, Value};
+use std::alloc::Global;
+use tx_actor::{Stage, Told, TxActor};
+use tx_table::{Seat, TxTable};
+
+/// The gate that a commit is to try.
+#[inline(always)]
+fn gate_to_try<V>(actor: &TxActor<V>) -> Option<u32>
+    ensures { IfSome result (λ k. next_of (stage_of actor.now.stage) ≡ Next.TryGate k) }
+{
+    match &actor.stage {
+        Stage::Gating(homes, got, _) => at_place(homes, *got),
+        _ => None,
+    }
+}
+
+/// The gates that a commit takes, where it is to take some: each is tried up to its last try. Where an allocation fails the transaction
+/// is being aborted.
+#[inline(always)]
+fn gates_on<V: Value>(
+    table: &TxTable<V>,
+    seat: &mut Seat<V>,
+    actor: &mut TxActor<V>,
+    bases: &mut Vec<Boxed<Base<V>>>,
+    said: &mut Told<V>,
+) -> Result<bool, Memory>
+    requires ties { Ties table.now seat.old actor.old }
+    requires own { HasOwn table.now seat.old actor.old bases.old.items }
+    requires small { AreSmall (blocks_in table.now) }
+    ensures leads { IfOk result (λ quiet. LeadsAll (opening_of table.now) seat.old seat.new (told_in quiet said.new)) }
+    ensures answered { IfOk result (λ quiet. quiet ≡ false → said.new ≢ Told.Quiet) }
+    ensures ties { Ties table.now seat.new actor.new }
+    ensures own { HasOwn table.now seat.new actor.new bases.new.items }
+    ensures wants { OnErr result ((d : Option (Made V)) → WantsBy (opening_of table.now) seat.old seat.new d) }
+{
+    'gates: loop {
+        match gate_to_try(actor) {
+            Some(k) => match try_next(table, seat, actor, bases, said, k) {
+                Ok(quiet) => {
+                    if !quiet {
+                        return Ok(false);
+                    }
+                }
+                Err(_) => return Err(Memory),
+            },
+            None => return Ok(true),
+        }
+    }
+}
+
+/// Whether the first value store is next.
+#[inline(always)]
+fn is_ready<V>(actor: &TxActor<V>) -> bool
+    ensures { result ≡ true → next_of (stage_of actor.now.stage) ≡ Next.FirstStore }
+{
+    matches!(&actor.stage, Stage::Ready(_))
+}
+
+/// The first value store, with which the transaction commits, where it is next; its receipt is in `made` then. Where an allocation fails the
+/// transaction is being aborted.
+#[inline(always)]
+fn first_stored_on<V: Value>(
+    alloc: Global,
+    table: &TxTable<V>,
+    seat: &mut Seat<V>,
+    actor: &mut TxActor<V>,
+    bases: &mut Vec<Boxed<Base<V>>>,
+    said: &mut Told<V>,
+    made: &mut Option<Record<V>>,
+) -> Result<bool, Memory>
+    requires ties { Ties table.now seat.old actor.old }
+    requires own { HasOwn table.now seat.old actor.old bases.old.items }
+    ensures leads { IfOk result (λ quiet. LeadsBy (opening_of table.now) seat.old seat.new (told_in quiet said.new) made.old made.new) }
+    ensures answered { IfOk result (λ quiet. quiet ≡ false → said.new ≢ Told.Quiet) }
+    ensures ties { Ties table.now seat.new actor.new }
+    ensures own { HasOwn table.now seat.new actor.new bases.new.items }
+    ensures wants { OnErr result (WantsBy (opening_of table.now) seat.old seat.new made.old) }
+{
+    if !is_ready(actor) {
+        return Ok(true);
+    }
+    match store_next(alloc, table, seat, actor, bases) {
+        Ok((told, receipt)) => {
+            keep(receipt, made);
+            Ok(says(told, said))
+        }
+        Err(_) => Err(Memory),
+    }
+}
+
+/// The collection whose base a commit is to put back.
+#[inline(always)]
+fn home_to_put<V>(actor: &TxActor<V>) -> Option<u32>
+    ensures { IfSome result (λ k. next_of (stage_of actor.now.stage) ≡ Next.GoHome k) }
+{
+    match &actor.stage {
+        Stage::Homing(homes) => at_place(homes, 0),
+        _ => None,
+    }
+}
+
+/// The bases that a commit has written are put back with their logs, and so are their gates, where there are some.
+#[inline(always)]
+fn homes_on<V: Value>(
+    table: &TxTable<V>,
+    seat: &mut Seat<V>,
+    actor: &mut TxActor<V>,
+    bases: &mut Vec<Boxed<Base<V>>>,
+    said: &mut Told<V>,
+) -> bool
+    requires ties { Ties table.now seat.old actor.old }
+    requires own { HasOwn table.now seat.old actor.old bases.old.items }
+    requires small { AreSmall (blocks_in table.now) }
+    ensures leads { LeadsAll (opening_of table.now) seat.old seat.new (told_in result said.new) }
+    ensures answered { result ≡ false → said.new ≢ Told.Quiet }
+    ensures ties { Ties table.now seat.new actor.new }
+    ensures own { HasOwn table.now seat.new actor.new bases.new.items }
+{
+    'homes: loop {
+        match home_to_put(actor) {
+            Some(k) => {
+                if !home_next(table, seat, actor, bases, said, k) {
+                    return false;
+                }
+            }
+            None => return true,
+        }
+    }
+}
+
+/// The steps of a commit, in their order: whether all were quiet. The last one answers that it has committed, so where they are quiet the
+/// transaction is being aborted. Where an allocation fails it is too; its receipt is in `made` from the first value store on.
+#[inline(always)]
+pub(crate) fn commit_on<V: Value>(
+    alloc: Global,
+    table: &TxTable<V>,
+    seat: &mut Seat<V>,
+    actor: &mut TxActor<V>,
+    bases: &mut Vec<Boxed<Base<V>>>,
+    said: &mut Told<V>,
+    made: &mut Option<Record<V>>,
+) -> Result<bool, Memory>
+    requires ties { Ties table.now seat.old actor.old }
+    requires own { HasOwn table.now seat.old actor.old bases.old.items }
+    requires small { AreSmall (blocks_in table.now) }
+    ensures leads { IfOk result (λ quiet. LeadsBy (opening_of table.now) seat.old seat.new (told_in quiet said.new) made.old made.new) }
+    ensures answered { IfOk result (λ quiet. quiet ≡ false → said.new ≢ Told.Quiet) }
+    ensures ties { Ties table.now seat.new actor.new }
+    ensures own { HasOwn table.now seat.new actor.new bases.new.items }
+    ensures wants { OnErr result (WantsBy (opening_of table.now) seat.old seat.new made.old) }
+{
+    // the locks of what was written, and the number of the commit
+    if !locked_on(table, seat, actor, bases.as_slice(), said) {
+        return Ok(false);
+    }
+    if !checked_on(table, seat, actor, bases.as_slice(), said) {
+        return Ok(false);
+    }
+    if !gates_on(table, seat, actor, bases, said)? {
+        return Ok(false);
+    }
+    if !first_stored_on(alloc, table, seat, actor, bases, said, made)? {
+        return Ok(false);
+    }
+    if !stored_on(table, seat, actor, bases.as_slice(), said) {
+        return Ok(false);
+    }
+    if !homes_on(table, seat, actor, bases, said) {
+        return Ok(false);
+    }
+    Ok(released_on(table, seat, actor, bases.as_slice(), said))
+}
