@@ -1,4 +1,9 @@
 -- The locks of a commit and its number, taken in straight code.
+--
+-- A lock takes two steps: the load of its word, which changes of the actor nothing but its place (`seek_led`), and the exchange, after
+-- which it holds one lock more (`take_led`). So from one lock to the next all of the actor is as it was but for the locks that it holds.
+-- It hears of a word that is locked, of one that has changed since its load (`take_lost`), and, after the last lock, of the number
+-- (`stamp_heard`).
 use Rattle.std.proofs.Common.{◌≡◌, ℕ, ◌+◌, ◌*◌, ◌<◌, ◌≤◌, ◌^◌, ◌++◌, true, false, true≢false, List, [], ◌∷◌, Option, None, Result, Ok, Err, length, drop, get_or, refl, sym, ap, ◌∙◌, subst, arith}
 use Rattle.std.specs.VecDeque.{deque_capacity, deque_len}
 use Rattle.std.specs.declared.alloc.Global.{Global}
