@@ -4,7 +4,8 @@
 -- actor is there before the step, and the step is what the actor made of itself (`copy_can`, `copy_tied`). The gate was the only one, so
 -- nothing is out afterwards. Where an allocation fails once the gate is back, the seat reads for its call by then, and takes that in as one
 -- event more (`copy_behind`).
-use Rattle.std.proofs.Common.{◌≡◌, ℕ, ◌<◌, true, true≢false, List, [], ◌∷◌, Some, None, inr, refl, sym, ap, ◌∙◌, subst}
+use Rattle.std.proofs.Common.{◌≡◌, ℕ, ◌<◌, true, true≢false, List, [], ◌∷◌, Option, Some, None, inr, refl, sym, ap, ◌∙◌, subst}
+use Rattle.std.specs.Prelude.{slice_index_or}
 use Rattle.atomic_table.specs.Table.{Me, rest}
 use Rattle.tx_machine.specs.Content.{has}
 use Rattle.replay_log.specs.declared.base.Base.{Base}
@@ -57,10 +58,19 @@ use Rattle.tx_turns.specs.Bases.{AreBases, ArePreparedAt, IsBaseIn, gates_at, sl
 use Rattle.tx_turns.specs.Own.{HasOwn}
 use Rattle.tx_turns.specs.Refused.{IsGivenUp}
 use Rattle.tx_turns.proofs.BasesLemmas.{are_none, gates_is, prepared_none}
-use Rattle.tx_turns.proofs.GateLemmas.{copy_due, first_out, gate_tied, gate_turned}
+use Rattle.tx_turns.proofs.GateLemmas.{copy_due, first_here, first_out, front_same, gate_tied, gate_turned, some_held}
 use Rattle.tx_turns.proofs.ThereLemmas.{start}
 use Rattle.tx_turns.proofs.ThereLemmas.{own_after, there_base, there_copies, there_laid, there_next, there_reached, there_runs}
 use Rattle.tx_turns.proofs.ThereLemmas.{turn_gates}
+
+-- what is known of the copies of a call
+pub record CopyLaws (V : Type 0) : Type 0 where
+  pub steps : AreSteps V
+  pub taken : CopiesFor V
+  pub on : CopiesReached V
+  pub sized : SizesCopies V
+  pub of : BlocksLaw V
+  pub others : OthersLaw V
 
 module _ {V : Type 0} where
   pub copy_first : (s : own.Stage V) (k : ℕ) → next_of (stage_of s) ≡ next.Copy k → gates_at s ≡ k ∷ []
@@ -243,3 +253,70 @@ module _ {V : Type 0} where
   pub keeps_at : (v : BlocksView) (r q : TxActor V) (asked : Asked V) → r.stage ≡ stage.Copying asked
       → KeepsIn v (at r (stage.Copying asked)) q → KeepsIn v r q
   keeps_at v r q asked st h = subst (λ (s : own.Stage V). KeepsIn v (at r s) q) (sym st) h
+
+  -- ---- what the actor made of its call, at its table's blocks
+  abbrev pub GoesOn : BlocksView → TxActor V → Taken V → TxActor V → Told V → Type 0
+  GoesOn v u p q n =
+      (r : TxActor V) (base : Base V) → CanCopy v r base p.asked → IsTakenCall v r u base p
+      → StepsOn v (at r (stage.Copying p.asked)) q n base p.asked × HasTaken v r q n base p.asked
+
+  abbrev pub KeepsOn : BlocksView → TxActor V → Taken V → TxActor V → Type 0
+  KeepsOn v u p q =
+      (r : TxActor V) (base : Base V) → CanCopy v r base p.asked → IsTakenCall v r u base p → HasNoReads r.words
+      → KeepsIn v (at r (stage.Copying p.asked)) q
+
+  abbrev pub StarvesOn : BlocksView → TxActor V → Taken V → TxActor V → Type 0
+  StarvesOn v u p q =
+      (r : TxActor V) (base : Base V) → CanCopy v r base p.asked → IsTakenCall v r u base p
+      → StarvesBehind v (at r (stage.Copying p.asked)) q base p.asked
+
+  -- The program has seen the first base in hand as d, at its blocks v. What the call touches was taken of it, and the actor is m.
+  module _ (laws : CopyLaws V) (t : TxTable V) (s : table.Seat V) (r m : TxActor V) (k : ℕ) (bs : List (Base V)) (d : Base V)
+      (p : Taken V) (o : Option (Taken V)) (v : BlocksView) (laid : v ≡ laid_in t) (due : next_of (stage_of r.stage) ≡ next.Copy k)
+      (ties : Ties t s r) (has : HasOwn t s r bs) (seen : d ≡ slice_index_or bs 0 d) (is : o ≡ Some p)
+      (ok : AreTakenAt v r m d o r.stage) where
+    front : (cs : List (Base V)) × (bs ≡ d ∷ cs)
+    front = first_here bs d (some_held t s r k [] bs (copy_first r.stage k due) has) seen
+
+    pub lifted : (r.stage ≡ stage.Copying p.asked) × CanCopy v (at r stage.Idle) d p.asked × IsTakenCall v (at r stage.Idle) m d p
+    lifted =
+        taken_call v r m d p k due
+        (subst (λ (z : BlocksView). CanCopyAt z r d r.stage) (sym laid)
+        (copy_can laws.taken laws.on laws.sized laws.of laws.others t s r k bs front.0 d due ties has front.1))
+        (subst (λ (x : Option (Taken V)). AreTakenAt v r m d x r.stage) is ok)
+
+    -- so the program's base is the one that is put back
+    abbrev IsShown : BlocksView → Base V → Type 0
+    IsShown w b = (v ≡ w) × (d ≡ b)
+
+    shown : (b : Base V) (cs : List (Base V)) → bs ≡ b ∷ cs → IsShown (laid_in t) b
+    shown b cs hand = (laid, front_same bs d b front.0 cs front.1 hand)
+
+    bounds : (q : TxActor V) → KeepsOn v m p q → IsRunning (laid_in t) q
+    bounds q keeps =
+        subst (λ (z : BlocksView). IsRunning z r → IsRunning z q) laid
+        (keeps_at v r q p.asked lifted.0 (keeps (at r stage.Idle) d lifted.1 lifted.2 (copy_reads laws.on t s r k due ties))).running
+        ties.running
+
+    -- the call continues once the gate is back
+    pub lifted_on : CopiesStayOwn V → (u : table.Seat V) (q : TxActor V) (n : Told V) (cs : List (Base V)) (b : Base V) → bs ≡ b ∷ cs
+        → Takes (opening_of t) s (view s).clock 1 None (rest (out s)) u → GoesOn v m p q n → KeepsOn v m p q
+        → Ties t u q × Turned (opening_of t) s r u n × HasOwn t u q cs
+    lifted_on stay u q n cs b hand takes does keeps =
+        let same = shown b cs hand in
+        let done = does (at r stage.Idle) d lifted.1 lifted.2 in
+        copy_tied laws.steps stay laws.taken laws.on laws.sized laws.of laws.others t s u r q n k bs cs b due ties has hand takes
+        (subst (λ (z : BlocksView × Base V). StepsOnAt z.0 r q n z.1 r.stage) (λ i. (same.0 i, same.1 i))
+        (steps_at v r q n d p.asked lifted.0 done.0))
+        (subst (λ (z : BlocksView × Base V). HasTakenAt z.0 r q n z.1 r.stage) (λ i. (same.0 i, same.1 i))
+        (taken_at v r q n d p.asked lifted.0 done.1)) (bounds q keeps)
+
+    -- or an allocation fails for it
+    pub lifted_behind : (u z : table.Seat V) (q : TxActor V) (cs : List (Base V)) (b : Base V) → bs ≡ b ∷ cs
+        → Takes (opening_of t) s (view s).clock 1 None (rest (out s)) u → HasHeard u (Starve 0) z → StarvesOn v m p q → KeepsOn v m p q
+        → AsksNothing q → Ties t z q × IsGivenUp (opening_of t) s r z told.Quiet × HasOwn t z q cs
+    lifted_behind u z q cs b hand takes heard does keeps nothing =
+        let same = shown b cs hand in
+        copy_behind laws.steps laws.taken laws.on laws.sized laws.of laws.others t s u z r q k bs cs b due ties has hand takes heard
+        (subst (λ (z : BlocksView × Base V). StarvesBehindAt z.0 r q z.1 r.stage) (λ i. (same.0 i, same.1 i))
+        (behind_at v r q d p.asked lifted.0 (does (at r stage.Idle) d lifted.1 lifted.2))) nothing (bounds q keeps)

@@ -23,10 +23,8 @@ use Rattle.step_core.specs.declared.actor.Actor.{Actor}
 use Rattle.step_core.specs.declared.actor.Place.TheVariants.{Again}
 use Rattle.step_core.specs.declared.answer.WordAnswer.{WordAnswer}
 use Rattle.actor_parts.specs.Blocks.{BlocksView}
-use Rattle.actor_parts.specs.Copied.{CopiesFor, CopiesReached}
 use Rattle.actor_parts.specs.Dispatch.{AreSteps, after_try, notice_told}
 use Rattle.actor_parts.specs.Requests.{HasNoReads}
-use Rattle.actor_parts.specs.Sizes.{SizesCopies}
 use Rattle.actor_parts.specs.declared.next.Next.TheVariants as next
 use Rattle.tx_actor.specs.Answers.{CanAccept}
 use Rattle.tx_actor.specs.Copying.{CanCopy, HasTaken, StepsOn}
@@ -47,7 +45,7 @@ use Rattle.tx_actor.specs.declared.actor.Told.TheVariants as told
 use Rattle.tx_actor.specs.declared.actor.TxActor.{TxActor}
 use Rattle.tx_actor.specs.declared.taking.Taken.{Taken}
 use Rattle.tx_actor.specs.declared.taking.Waiting.{Waiting}
-use Rattle.tx_actor.proofs.OwnLemmas.{BlocksLaw, OthersLaw}
+use Rattle.tx_actor.proofs.OwnLemmas.{OthersLaw}
 use Rattle.tx_actor.proofs.OwnCopyLemmas.{can_at}
 use Rattle.tx_table.specs.declared.seat.Seat.{Seat}
 use Rattle.tx_table.specs.declared.table.TxTable.{TxTable}
@@ -58,21 +56,12 @@ use Rattle.tx_turns.specs.Own.{HasOwn}
 use Rattle.tx_turns.specs.Straight.{HasDriven, HasLed, HasPut, HasStopped, LeadsAll, at_place}
 use Rattle.tx_turns.specs.Ties.{Ties, Turned, commits, laid_in}
 use Rattle.tx_turns.proofs.AskedLemmas.{starved}
-use Rattle.tx_turns.proofs.CopyLemmas.{copy_behind, copy_can, copy_reads, copy_tied}
+use Rattle.tx_turns.proofs.CopyLemmas.{CopyLaws, GoesOn, KeepsOn, StarvesOn, copy_behind, copy_can, copy_reads, copy_tied}
 use Rattle.tx_turns.proofs.DrivenLemmas.{driven_on}
 use Rattle.tx_turns.proofs.EventLemmas.{starve_own}
 use Rattle.tx_turns.proofs.GateLemmas.{try_lost, try_won}
 use Rattle.tx_turns.proofs.GivenUpLemmas.{stops_at}
 use Rattle.tx_turns.proofs.StraightLemmas.{LoadLaws, again_steps, loading_hears, loading_last}
-
--- what is known of the copies of a call
-pub record CopyLaws (V : Type 0) : Type 0 where
-  pub steps : AreSteps V
-  pub taken : CopiesFor V
-  pub on : CopiesReached V
-  pub sized : SizesCopies V
-  pub of : BlocksLaw V
-  pub others : OthersLaw V
 
 -- where the second load was answered, it answered the edition
 edition_if : (l v j : ℕ) (x : Option WordAnswer) (b : Bool)
@@ -246,16 +235,6 @@ module _ {V : Type 0} where
         (subst (λ (m : notice.Notice). HasLoaded z q n z.stage m) (sym number) goes)
 
   -- ---- what the actor made of its call, at its table's blocks
-  abbrev GoesOn : BlocksView → TxActor V → Taken V → TxActor V → Told V → Type 0
-  GoesOn v u p q n =
-      (r : TxActor V) (base : Base V) → CanCopy v r base p.asked → IsTakenCall v r u base p
-      → StepsOn v (at r (stage.Copying p.asked)) q n base p.asked × HasTaken v r q n base p.asked
-
-  abbrev KeepsOn : BlocksView → TxActor V → Taken V → TxActor V → Type 0
-  KeepsOn v u p q =
-      (r : TxActor V) (base : Base V) → CanCopy v r base p.asked → IsTakenCall v r u base p → HasNoReads r.words
-      → KeepsIn v (at r (stage.Copying p.asked)) q
-
   pub key_copied : CopyLaws V → CopiesStayOwn V → (t : TxTable V) (m : Seat V) (u : TxActor V) (p : Taken V) (v : BlocksView)
       → v ≡ laid_in t → (q : TxActor V) (said : Told V) (o w : Option (Waiting V)) → o ≡ w
       → GoesOn v u p (waiting_at o q) (told_at o said) → KeepsOn v u p (waiting_at o q) → (h : HasPut t m u p)
@@ -265,11 +244,6 @@ module _ {V : Type 0} where
       does in
       let k = subst (λ (z : BlocksView × Option (Waiting V)). KeepsOn z.0 u p (waiting_at z.1 q)) (λ i. (laid i, e i)) keeps in
       put_copied laws stay t m u p h (waiting_at w q) (told_at w said) (d h.actor h.base h.can h.taken) (k h.actor h.base h.can h.taken)
-
-  abbrev StarvesOn : BlocksView → TxActor V → Taken V → TxActor V → Type 0
-  StarvesOn v u p q =
-      (r : TxActor V) (base : Base V) → CanCopy v r base p.asked → IsTakenCall v r u base p
-      → StarvesBehind v (at r (stage.Copying p.asked)) q base p.asked
 
   abbrev BoundsOn : BlocksView → TxActor V → Taken V → TxActor V → Type 0
   BoundsOn v u p q =

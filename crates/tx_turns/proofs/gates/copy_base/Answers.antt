@@ -1,5 +1,4 @@
 use Rattle.std.proofs.Common.{Option, [], inl, length, subst, sym}
-use Rattle.replay_log.specs.declared.base.Base.{Base}
 use Rattle.tx_actor.specs.declared.actor.Stage.TheVariants as stage
 use Rattle.tx_actor.specs.declared.actor.Told.TheVariants.{Quiet}
 use Rattle.tx_actor.specs.declared.actor.TxActor.{TxActor}
@@ -7,19 +6,18 @@ use Rattle.tx_actor.specs.declared.taking.Taken.{Taken}
 use Rattle.actor_parts.specs.Blocks.{BlocksView}
 use Rattle.tx_actor.proofs.NameLemmas.{named_copy}
 use Rattle.tx_actor.proofs.HavingLemmas.{asks_nothing}
-use Rattle.tx_actor.specs.Copying.{CanCopyAt, HasTakenAt, StepsOnAt}
+use Rattle.tx_actor.specs.Copying.{CanCopyAt}
 use Rattle.tx_actor.specs.Keeping.{IsRunning}
 use Rattle.tx_actor.specs.Running.{at}
-use Rattle.tx_actor.specs.Taking.{AreTakenAt, StarvesBehindAt}
+use Rattle.tx_actor.specs.Taking.{AreTakenAt}
 use Rattle.tx_table.specs.Seated.{blocks_in, opening_of}
 use Rattle.tx_turns.specs.Ties.{Turned}
 use Rattle.tx_turns.proofs.AskedLemmas.{starved}
 use Rattle.tx_turns.proofs.TurnLemmas.{laid_as}
 use Rattle.tx_turns.specs.Own.{HasOwn}
-use Rattle.tx_turns.proofs.CopyLemmas.{behind_at, copy_behind, copy_can, copy_first, copy_reads, copy_tied, keeps_at, none_same}
-use Rattle.tx_turns.proofs.CopyLemmas.{steps_at, taken_at, taken_call}
+use Rattle.tx_turns.proofs.CopyLemmas.{copy_can, copy_first, lifted, lifted_behind, lifted_on, none_same}
 use Rattle.tx_turns.proofs.EventLemmas.{starve_own}
-use Rattle.tx_turns.proofs.GateLemmas.{copy_due, first_here, first_out, front_same, held_base, may_put, some_held}
+use Rattle.tx_turns.proofs.GateLemmas.{copy_due, first_here, first_out, held_base, may_put, some_held}
 use Rattle.tx_turns.proofs.gates.copy_base.Goals as goal
 
 pub takes-requires : goal.takes-requires
@@ -75,235 +73,117 @@ put_gate-requires-clause-due g c =
 -- the gate is back
 pub goes_on_taken-requires : goal.goes_on_taken-requires
 goes_on_taken-requires g c =
-    let t = c.args.table.now in
-    let s = c.args.seat.now in
-    let r = c.args.actor.now in
-    let k = c.args.k in
-    let bs = c.args.bases.now.items in
-    let v = c.blocks-blocks.result.now in
-    let laid = laid_as t v c.blocks-blocks.ensures.words c.blocks-blocks.ensures.blocks in
-    let front = first_here bs c.front.result.now
-    (some_held t s r k [] bs (copy_first r.stage k c.requires.due) c.requires.own) c.front.ensures in
-    let can = subst (λ (z : BlocksView). CanCopyAt z r c.front.result.now r.stage) (sym laid)
-    (copy_can c.copied_as_worlds.ensures c.copies_go_on.ensures c.sizes_copies.ensures.sizes c.copies_stay_own.ensures.blocks
-    c.copies_by_stage.ensures.others t s r k bs front.0 c.front.result.now c.requires.due c.requires.ties c.requires.own front.1) in
-    let m = c.takes.new.self in
-    let call = taken_call v r m c.front.result.now c.in-Ok-Some.taken k c.requires.due can
-    (subst (λ (o : Option (Taken g.row.V.Denot)). AreTakenAt v r m c.front.result.now o r.stage) c.in-Ok-Some.field-0-is
-    c.in-Ok-Some.ensures.ok) in
-    let base = c.front.result.now in
-    let asked = c.in-Ok-Some.taken.asked in
-    (at r stage.Idle, base, call.1, call.2)
+    let call = lifted (record {
+      steps = c.steps_as_worlds.ensures;
+      taken = c.copied_as_worlds.ensures;
+      on = c.copies_go_on.ensures;
+      sized = c.sizes_copies.ensures.sizes;
+      of = c.copies_stay_own.ensures.blocks;
+      others = c.copies_by_stage.ensures.others;
+    }) c.args.table.now c.args.seat.now c.args.actor.now c.takes.new.self c.args.k c.args.bases.now.items c.front.result.now
+    c.in-Ok-Some.taken _ c.blocks-blocks.result.now (laid_as c.args.table.now c.blocks-blocks.result.now c.blocks-blocks.ensures.words
+    c.blocks-blocks.ensures.blocks) c.requires.due c.requires.ties c.requires.own c.front.ensures c.in-Ok-Some.field-0-is
+    c.in-Ok-Some.ensures.ok in
+    (at c.args.actor.now stage.Idle, c.front.result.now, call.1, call.2)
 
 pub returns-in-Ok-clause-turned : goal.returns-in-Ok-clause-turned
 returns-in-Ok-clause-turned g c =
-    let t = c.args.table.now in
-    let s = c.args.seat.now in
-    let r = c.args.actor.now in
-    let k = c.args.k in
-    let bs = c.args.bases.now.items in
-    let v = c.blocks-blocks.result.now in
-    let laid = laid_as t v c.blocks-blocks.ensures.words c.blocks-blocks.ensures.blocks in
-    let front = first_here bs c.front.result.now
-    (some_held t s r k [] bs (copy_first r.stage k c.requires.due) c.requires.own) c.front.ensures in
-    let can = subst (λ (z : BlocksView). CanCopyAt z r c.front.result.now r.stage) (sym laid)
-    (copy_can c.copied_as_worlds.ensures c.copies_go_on.ensures c.sizes_copies.ensures.sizes c.copies_stay_own.ensures.blocks
-    c.copies_by_stage.ensures.others t s r k bs front.0 c.front.result.now c.requires.due c.requires.ties c.requires.own front.1) in
-    let m = c.takes.new.self in
-    let call = taken_call v r m c.front.result.now c.in-Ok-Some.taken k c.requires.due can
-    (subst (λ (o : Option (Taken g.row.V.Denot)). AreTakenAt v r m c.front.result.now o r.stage) c.in-Ok-Some.field-0-is
-    c.in-Ok-Some.ensures.ok) in
-    let base = c.front.result.now in
-    let asked = c.in-Ok-Some.taken.asked in
-    let q = c.goes_on_taken.new.self in
-    let b = c.first-base.result in
-    let same = front_same bs base b front.0 c.first-base.new.bases.items front.1 c.first-base.ensures in
-    let keeps = keeps_at v r q asked call.0 (c.goes_on_taken.ensures.keeps (at r stage.Idle) base call.1 call.2
-    (copy_reads c.copies_go_on.ensures t s r k c.requires.due c.requires.ties)) in
-    let running = subst (λ (z : BlocksView). IsRunning z r → IsRunning z q) laid keeps.running c.requires.ties.running in
-    let does = c.in-Ok.ensures.ok (at r stage.Idle) base call.1 call.2 in
-    let n = c.in-Ok.told in
-    (copy_tied c.steps_as_worlds.ensures c.copied_stay_own.ensures c.copied_as_worlds.ensures c.copies_go_on.ensures
-    c.sizes_copies.ensures.sizes c.copies_stay_own.ensures.blocks c.copies_by_stage.ensures.others t s c.put_gate.new.seat r q
-    n k bs c.first-base.new.bases.items b c.requires.due c.requires.ties c.requires.own c.first-base.ensures c.put_gate.ensures
-    (subst (λ (z : BlocksView × Base g.row.V.Denot). StepsOnAt z.0 r q n z.1 r.stage) (λ i. (laid i, same i))
-    (steps_at v r q n base asked call.0 does.0))
-    (subst (λ (z : BlocksView × Base g.row.V.Denot). HasTakenAt z.0 r q n z.1 r.stage) (λ i. (laid i, same i))
-    (taken_at v r q n base asked call.0 does.1)) running).1
+    (lifted_on (record {
+      steps = c.steps_as_worlds.ensures;
+      taken = c.copied_as_worlds.ensures;
+      on = c.copies_go_on.ensures;
+      sized = c.sizes_copies.ensures.sizes;
+      of = c.copies_stay_own.ensures.blocks;
+      others = c.copies_by_stage.ensures.others;
+    }) c.args.table.now c.args.seat.now c.args.actor.now c.takes.new.self c.args.k c.args.bases.now.items c.front.result.now
+    c.in-Ok-Some.taken _ c.blocks-blocks.result.now (laid_as c.args.table.now c.blocks-blocks.result.now c.blocks-blocks.ensures.words
+    c.blocks-blocks.ensures.blocks) c.requires.due c.requires.ties c.requires.own c.front.ensures c.in-Ok-Some.field-0-is
+    c.in-Ok-Some.ensures.ok
+    c.copied_stay_own.ensures c.put_gate.new.seat c.goes_on_taken.new.self c.in-Ok.told c.first-base.new.bases.items c.first-base.result
+    c.first-base.ensures c.put_gate.ensures c.in-Ok.ensures.ok c.goes_on_taken.ensures.keeps).1
 
 pub returns-in-Ok-clause-ties : goal.returns-in-Ok-clause-ties
 returns-in-Ok-clause-ties g c =
-    let t = c.args.table.now in
-    let s = c.args.seat.now in
-    let r = c.args.actor.now in
-    let k = c.args.k in
-    let bs = c.args.bases.now.items in
-    let v = c.blocks-blocks.result.now in
-    let laid = laid_as t v c.blocks-blocks.ensures.words c.blocks-blocks.ensures.blocks in
-    let front = first_here bs c.front.result.now
-    (some_held t s r k [] bs (copy_first r.stage k c.requires.due) c.requires.own) c.front.ensures in
-    let can = subst (λ (z : BlocksView). CanCopyAt z r c.front.result.now r.stage) (sym laid)
-    (copy_can c.copied_as_worlds.ensures c.copies_go_on.ensures c.sizes_copies.ensures.sizes c.copies_stay_own.ensures.blocks
-    c.copies_by_stage.ensures.others t s r k bs front.0 c.front.result.now c.requires.due c.requires.ties c.requires.own front.1) in
-    let m = c.takes.new.self in
-    let call = taken_call v r m c.front.result.now c.in-Ok-Some.taken k c.requires.due can
-    (subst (λ (o : Option (Taken g.row.V.Denot)). AreTakenAt v r m c.front.result.now o r.stage) c.in-Ok-Some.field-0-is
-    c.in-Ok-Some.ensures.ok) in
-    let base = c.front.result.now in
-    let asked = c.in-Ok-Some.taken.asked in
-    let q = c.goes_on_taken.new.self in
-    let b = c.first-base.result in
-    let same = front_same bs base b front.0 c.first-base.new.bases.items front.1 c.first-base.ensures in
-    let keeps = keeps_at v r q asked call.0 (c.goes_on_taken.ensures.keeps (at r stage.Idle) base call.1 call.2
-    (copy_reads c.copies_go_on.ensures t s r k c.requires.due c.requires.ties)) in
-    let running = subst (λ (z : BlocksView). IsRunning z r → IsRunning z q) laid keeps.running c.requires.ties.running in
-    let does = c.in-Ok.ensures.ok (at r stage.Idle) base call.1 call.2 in
-    let n = c.in-Ok.told in
-    (copy_tied c.steps_as_worlds.ensures c.copied_stay_own.ensures c.copied_as_worlds.ensures c.copies_go_on.ensures
-    c.sizes_copies.ensures.sizes c.copies_stay_own.ensures.blocks c.copies_by_stage.ensures.others t s c.put_gate.new.seat r q
-    n k bs c.first-base.new.bases.items b c.requires.due c.requires.ties c.requires.own c.first-base.ensures c.put_gate.ensures
-    (subst (λ (z : BlocksView × Base g.row.V.Denot). StepsOnAt z.0 r q n z.1 r.stage) (λ i. (laid i, same i))
-    (steps_at v r q n base asked call.0 does.0))
-    (subst (λ (z : BlocksView × Base g.row.V.Denot). HasTakenAt z.0 r q n z.1 r.stage) (λ i. (laid i, same i))
-    (taken_at v r q n base asked call.0 does.1)) running).0
+    (lifted_on (record {
+      steps = c.steps_as_worlds.ensures;
+      taken = c.copied_as_worlds.ensures;
+      on = c.copies_go_on.ensures;
+      sized = c.sizes_copies.ensures.sizes;
+      of = c.copies_stay_own.ensures.blocks;
+      others = c.copies_by_stage.ensures.others;
+    }) c.args.table.now c.args.seat.now c.args.actor.now c.takes.new.self c.args.k c.args.bases.now.items c.front.result.now
+    c.in-Ok-Some.taken _ c.blocks-blocks.result.now (laid_as c.args.table.now c.blocks-blocks.result.now c.blocks-blocks.ensures.words
+    c.blocks-blocks.ensures.blocks) c.requires.due c.requires.ties c.requires.own c.front.ensures c.in-Ok-Some.field-0-is
+    c.in-Ok-Some.ensures.ok
+    c.copied_stay_own.ensures c.put_gate.new.seat c.goes_on_taken.new.self c.in-Ok.told c.first-base.new.bases.items c.first-base.result
+    c.first-base.ensures c.put_gate.ensures c.in-Ok.ensures.ok c.goes_on_taken.ensures.keeps).0
 
 pub returns-in-Ok-clause-own : goal.returns-in-Ok-clause-own
 returns-in-Ok-clause-own g c =
-    let t = c.args.table.now in
-    let s = c.args.seat.now in
-    let r = c.args.actor.now in
-    let k = c.args.k in
-    let bs = c.args.bases.now.items in
-    let v = c.blocks-blocks.result.now in
-    let laid = laid_as t v c.blocks-blocks.ensures.words c.blocks-blocks.ensures.blocks in
-    let front = first_here bs c.front.result.now
-    (some_held t s r k [] bs (copy_first r.stage k c.requires.due) c.requires.own) c.front.ensures in
-    let can = subst (λ (z : BlocksView). CanCopyAt z r c.front.result.now r.stage) (sym laid)
-    (copy_can c.copied_as_worlds.ensures c.copies_go_on.ensures c.sizes_copies.ensures.sizes c.copies_stay_own.ensures.blocks
-    c.copies_by_stage.ensures.others t s r k bs front.0 c.front.result.now c.requires.due c.requires.ties c.requires.own front.1) in
-    let m = c.takes.new.self in
-    let call = taken_call v r m c.front.result.now c.in-Ok-Some.taken k c.requires.due can
-    (subst (λ (o : Option (Taken g.row.V.Denot)). AreTakenAt v r m c.front.result.now o r.stage) c.in-Ok-Some.field-0-is
-    c.in-Ok-Some.ensures.ok) in
-    let base = c.front.result.now in
-    let asked = c.in-Ok-Some.taken.asked in
-    let q = c.goes_on_taken.new.self in
-    let b = c.first-base.result in
-    let same = front_same bs base b front.0 c.first-base.new.bases.items front.1 c.first-base.ensures in
-    let keeps = keeps_at v r q asked call.0 (c.goes_on_taken.ensures.keeps (at r stage.Idle) base call.1 call.2
-    (copy_reads c.copies_go_on.ensures t s r k c.requires.due c.requires.ties)) in
-    let running = subst (λ (z : BlocksView). IsRunning z r → IsRunning z q) laid keeps.running c.requires.ties.running in
-    let does = c.in-Ok.ensures.ok (at r stage.Idle) base call.1 call.2 in
-    let n = c.in-Ok.told in
-    (copy_tied c.steps_as_worlds.ensures c.copied_stay_own.ensures c.copied_as_worlds.ensures c.copies_go_on.ensures
-    c.sizes_copies.ensures.sizes c.copies_stay_own.ensures.blocks c.copies_by_stage.ensures.others t s c.put_gate.new.seat r q
-    n k bs c.first-base.new.bases.items b c.requires.due c.requires.ties c.requires.own c.first-base.ensures c.put_gate.ensures
-    (subst (λ (z : BlocksView × Base g.row.V.Denot). StepsOnAt z.0 r q n z.1 r.stage) (λ i. (laid i, same i))
-    (steps_at v r q n base asked call.0 does.0))
-    (subst (λ (z : BlocksView × Base g.row.V.Denot). HasTakenAt z.0 r q n z.1 r.stage) (λ i. (laid i, same i))
-    (taken_at v r q n base asked call.0 does.1)) running).2
+    (lifted_on (record {
+      steps = c.steps_as_worlds.ensures;
+      taken = c.copied_as_worlds.ensures;
+      on = c.copies_go_on.ensures;
+      sized = c.sizes_copies.ensures.sizes;
+      of = c.copies_stay_own.ensures.blocks;
+      others = c.copies_by_stage.ensures.others;
+    }) c.args.table.now c.args.seat.now c.args.actor.now c.takes.new.self c.args.k c.args.bases.now.items c.front.result.now
+    c.in-Ok-Some.taken _ c.blocks-blocks.result.now (laid_as c.args.table.now c.blocks-blocks.result.now c.blocks-blocks.ensures.words
+    c.blocks-blocks.ensures.blocks) c.requires.due c.requires.ties c.requires.own c.front.ensures c.in-Ok-Some.field-0-is
+    c.in-Ok-Some.ensures.ok
+    c.copied_stay_own.ensures c.put_gate.new.seat c.goes_on_taken.new.self c.in-Ok.told c.first-base.new.bases.items c.first-base.result
+    c.first-base.ensures c.put_gate.ensures c.in-Ok.ensures.ok c.goes_on_taken.ensures.keeps).2
 
 pub returns-in-Err-goes_on_taken-clause-ties : goal.returns-in-Err-goes_on_taken-clause-ties
 returns-in-Err-goes_on_taken-clause-ties g c =
-    let t = c.args.table.now in
-    let s = c.args.seat.now in
-    let r = c.args.actor.now in
-    let k = c.args.k in
-    let bs = c.args.bases.now.items in
-    let v = c.blocks-blocks.result.now in
-    let laid = laid_as t v c.blocks-blocks.ensures.words c.blocks-blocks.ensures.blocks in
-    let front = first_here bs c.front.result.now
-    (some_held t s r k [] bs (copy_first r.stage k c.requires.due) c.requires.own) c.front.ensures in
-    let can = subst (λ (z : BlocksView). CanCopyAt z r c.front.result.now r.stage) (sym laid)
-    (copy_can c.copied_as_worlds.ensures c.copies_go_on.ensures c.sizes_copies.ensures.sizes c.copies_stay_own.ensures.blocks
-    c.copies_by_stage.ensures.others t s r k bs front.0 c.front.result.now c.requires.due c.requires.ties c.requires.own front.1) in
-    let m = c.takes.new.self in
-    let call = taken_call v r m c.front.result.now c.in-Ok-Some.taken k c.requires.due can
-    (subst (λ (o : Option (Taken g.row.V.Denot)). AreTakenAt v r m c.front.result.now o r.stage) c.in-Ok-Some.field-0-is
-    c.in-Ok-Some.ensures.ok) in
-    let base = c.front.result.now in
-    let asked = c.in-Ok-Some.taken.asked in
-    let q = c.goes_on_taken.new.self in
-    let b = c.first-base.result in
-    let same = front_same bs base b front.0 c.first-base.new.bases.items front.1 c.first-base.ensures in
-    let keeps = keeps_at v r q asked call.0 (c.goes_on_taken.ensures.keeps (at r stage.Idle) base call.1 call.2
-    (copy_reads c.copies_go_on.ensures t s r k c.requires.due c.requires.ties)) in
-    let running = subst (λ (z : BlocksView). IsRunning z r → IsRunning z q) laid keeps.running c.requires.ties.running in
-    (copy_behind c.steps_as_worlds.ensures c.copied_as_worlds.ensures c.copies_go_on.ensures
-    c.sizes_copies.ensures.sizes c.copies_stay_own.ensures.blocks c.copies_by_stage.ensures.others t s c.put_gate.new.seat c.refuse.new.seat
-    r q k bs c.first-base.new.bases.items b c.requires.due c.requires.ties c.requires.own c.first-base.ensures c.put_gate.ensures
-    c.refuse.ensures
-    (subst (λ (z : BlocksView × Base g.row.V.Denot). StarvesBehindAt z.0 r q z.1 r.stage) (λ i. (laid i, same i))
-    (behind_at v r q base asked call.0 (c.in-Err-goes_on_taken.ensures.err (at r stage.Idle) base call.1 call.2)))
-    (asks_nothing m q c.in-Err-goes_on_taken.ensures.leaves) running).0
+    (lifted_behind (record {
+      steps = c.steps_as_worlds.ensures;
+      taken = c.copied_as_worlds.ensures;
+      on = c.copies_go_on.ensures;
+      sized = c.sizes_copies.ensures.sizes;
+      of = c.copies_stay_own.ensures.blocks;
+      others = c.copies_by_stage.ensures.others;
+    }) c.args.table.now c.args.seat.now c.args.actor.now c.takes.new.self c.args.k c.args.bases.now.items c.front.result.now
+    c.in-Ok-Some.taken _ c.blocks-blocks.result.now (laid_as c.args.table.now c.blocks-blocks.result.now c.blocks-blocks.ensures.words
+    c.blocks-blocks.ensures.blocks) c.requires.due c.requires.ties c.requires.own c.front.ensures c.in-Ok-Some.field-0-is
+    c.in-Ok-Some.ensures.ok
+    c.put_gate.new.seat c.refuse.new.seat c.goes_on_taken.new.self c.first-base.new.bases.items c.first-base.result c.first-base.ensures
+    c.put_gate.ensures c.refuse.ensures c.in-Err-goes_on_taken.ensures.err c.goes_on_taken.ensures.keeps
+    (asks_nothing c.takes.new.self c.goes_on_taken.new.self c.in-Err-goes_on_taken.ensures.leaves)).0
 
 pub returns-in-Err-goes_on_taken-clause-starved : goal.returns-in-Err-goes_on_taken-clause-starved
 returns-in-Err-goes_on_taken-clause-starved g c =
-    let t = c.args.table.now in
-    let s = c.args.seat.now in
-    let r = c.args.actor.now in
-    let k = c.args.k in
-    let bs = c.args.bases.now.items in
-    let v = c.blocks-blocks.result.now in
-    let laid = laid_as t v c.blocks-blocks.ensures.words c.blocks-blocks.ensures.blocks in
-    let front = first_here bs c.front.result.now
-    (some_held t s r k [] bs (copy_first r.stage k c.requires.due) c.requires.own) c.front.ensures in
-    let can = subst (λ (z : BlocksView). CanCopyAt z r c.front.result.now r.stage) (sym laid)
-    (copy_can c.copied_as_worlds.ensures c.copies_go_on.ensures c.sizes_copies.ensures.sizes c.copies_stay_own.ensures.blocks
-    c.copies_by_stage.ensures.others t s r k bs front.0 c.front.result.now c.requires.due c.requires.ties c.requires.own front.1) in
-    let m = c.takes.new.self in
-    let call = taken_call v r m c.front.result.now c.in-Ok-Some.taken k c.requires.due can
-    (subst (λ (o : Option (Taken g.row.V.Denot)). AreTakenAt v r m c.front.result.now o r.stage) c.in-Ok-Some.field-0-is
-    c.in-Ok-Some.ensures.ok) in
-    let base = c.front.result.now in
-    let asked = c.in-Ok-Some.taken.asked in
-    let q = c.goes_on_taken.new.self in
-    let b = c.first-base.result in
-    let same = front_same bs base b front.0 c.first-base.new.bases.items front.1 c.first-base.ensures in
-    let keeps = keeps_at v r q asked call.0 (c.goes_on_taken.ensures.keeps (at r stage.Idle) base call.1 call.2
-    (copy_reads c.copies_go_on.ensures t s r k c.requires.due c.requires.ties)) in
-    let running = subst (λ (z : BlocksView). IsRunning z r → IsRunning z q) laid keeps.running c.requires.ties.running in
-    (copy_behind c.steps_as_worlds.ensures c.copied_as_worlds.ensures c.copies_go_on.ensures
-    c.sizes_copies.ensures.sizes c.copies_stay_own.ensures.blocks c.copies_by_stage.ensures.others t s c.put_gate.new.seat c.refuse.new.seat
-    r q k bs c.first-base.new.bases.items b c.requires.due c.requires.ties c.requires.own c.first-base.ensures c.put_gate.ensures
-    c.refuse.ensures
-    (subst (λ (z : BlocksView × Base g.row.V.Denot). StarvesBehindAt z.0 r q z.1 r.stage) (λ i. (laid i, same i))
-    (behind_at v r q base asked call.0 (c.in-Err-goes_on_taken.ensures.err (at r stage.Idle) base call.1 call.2)))
-    (asks_nothing m q c.in-Err-goes_on_taken.ensures.leaves) running).1
+    (lifted_behind (record {
+      steps = c.steps_as_worlds.ensures;
+      taken = c.copied_as_worlds.ensures;
+      on = c.copies_go_on.ensures;
+      sized = c.sizes_copies.ensures.sizes;
+      of = c.copies_stay_own.ensures.blocks;
+      others = c.copies_by_stage.ensures.others;
+    }) c.args.table.now c.args.seat.now c.args.actor.now c.takes.new.self c.args.k c.args.bases.now.items c.front.result.now
+    c.in-Ok-Some.taken _ c.blocks-blocks.result.now (laid_as c.args.table.now c.blocks-blocks.result.now c.blocks-blocks.ensures.words
+    c.blocks-blocks.ensures.blocks) c.requires.due c.requires.ties c.requires.own c.front.ensures c.in-Ok-Some.field-0-is
+    c.in-Ok-Some.ensures.ok
+    c.put_gate.new.seat c.refuse.new.seat c.goes_on_taken.new.self c.first-base.new.bases.items c.first-base.result c.first-base.ensures
+    c.put_gate.ensures c.refuse.ensures c.in-Err-goes_on_taken.ensures.err c.goes_on_taken.ensures.keeps
+    (asks_nothing c.takes.new.self c.goes_on_taken.new.self c.in-Err-goes_on_taken.ensures.leaves)).1
 
 pub returns-in-Err-goes_on_taken-clause-own : goal.returns-in-Err-goes_on_taken-clause-own
 returns-in-Err-goes_on_taken-clause-own g c =
-    let t = c.args.table.now in
-    let s = c.args.seat.now in
-    let r = c.args.actor.now in
-    let k = c.args.k in
-    let bs = c.args.bases.now.items in
-    let v = c.blocks-blocks.result.now in
-    let laid = laid_as t v c.blocks-blocks.ensures.words c.blocks-blocks.ensures.blocks in
-    let front = first_here bs c.front.result.now
-    (some_held t s r k [] bs (copy_first r.stage k c.requires.due) c.requires.own) c.front.ensures in
-    let can = subst (λ (z : BlocksView). CanCopyAt z r c.front.result.now r.stage) (sym laid)
-    (copy_can c.copied_as_worlds.ensures c.copies_go_on.ensures c.sizes_copies.ensures.sizes c.copies_stay_own.ensures.blocks
-    c.copies_by_stage.ensures.others t s r k bs front.0 c.front.result.now c.requires.due c.requires.ties c.requires.own front.1) in
-    let m = c.takes.new.self in
-    let call = taken_call v r m c.front.result.now c.in-Ok-Some.taken k c.requires.due can
-    (subst (λ (o : Option (Taken g.row.V.Denot)). AreTakenAt v r m c.front.result.now o r.stage) c.in-Ok-Some.field-0-is
-    c.in-Ok-Some.ensures.ok) in
-    let base = c.front.result.now in
-    let asked = c.in-Ok-Some.taken.asked in
-    let q = c.goes_on_taken.new.self in
-    let b = c.first-base.result in
-    let same = front_same bs base b front.0 c.first-base.new.bases.items front.1 c.first-base.ensures in
-    let keeps = keeps_at v r q asked call.0 (c.goes_on_taken.ensures.keeps (at r stage.Idle) base call.1 call.2
-    (copy_reads c.copies_go_on.ensures t s r k c.requires.due c.requires.ties)) in
-    let running = subst (λ (z : BlocksView). IsRunning z r → IsRunning z q) laid keeps.running c.requires.ties.running in
-    (copy_behind c.steps_as_worlds.ensures c.copied_as_worlds.ensures c.copies_go_on.ensures
-    c.sizes_copies.ensures.sizes c.copies_stay_own.ensures.blocks c.copies_by_stage.ensures.others t s c.put_gate.new.seat c.refuse.new.seat
-    r q k bs c.first-base.new.bases.items b c.requires.due c.requires.ties c.requires.own c.first-base.ensures c.put_gate.ensures
-    c.refuse.ensures
-    (subst (λ (z : BlocksView × Base g.row.V.Denot). StarvesBehindAt z.0 r q z.1 r.stage) (λ i. (laid i, same i))
-    (behind_at v r q base asked call.0 (c.in-Err-goes_on_taken.ensures.err (at r stage.Idle) base call.1 call.2)))
-    (asks_nothing m q c.in-Err-goes_on_taken.ensures.leaves) running).2
+    (lifted_behind (record {
+      steps = c.steps_as_worlds.ensures;
+      taken = c.copied_as_worlds.ensures;
+      on = c.copies_go_on.ensures;
+      sized = c.sizes_copies.ensures.sizes;
+      of = c.copies_stay_own.ensures.blocks;
+      others = c.copies_by_stage.ensures.others;
+    }) c.args.table.now c.args.seat.now c.args.actor.now c.takes.new.self c.args.k c.args.bases.now.items c.front.result.now
+    c.in-Ok-Some.taken _ c.blocks-blocks.result.now (laid_as c.args.table.now c.blocks-blocks.result.now c.blocks-blocks.ensures.words
+    c.blocks-blocks.ensures.blocks) c.requires.due c.requires.ties c.requires.own c.front.ensures c.in-Ok-Some.field-0-is
+    c.in-Ok-Some.ensures.ok
+    c.put_gate.new.seat c.refuse.new.seat c.goes_on_taken.new.self c.first-base.new.bases.items c.first-base.result c.first-base.ensures
+    c.put_gate.ensures c.refuse.ensures c.in-Err-goes_on_taken.ensures.err c.goes_on_taken.ensures.keeps
+    (asks_nothing c.takes.new.self c.goes_on_taken.new.self c.in-Err-goes_on_taken.ensures.leaves)).2
 
 -- nothing was taken
 pub copy_here-requires-clause-own : goal.copy_here-requires-clause-own
