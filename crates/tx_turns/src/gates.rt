@@ -56,16 +56,21 @@ fn tries_left<V>(stage: &Stage<V>) -> u32 {
     0
 }
 
-/// What a try waits that found its gate taken: it looks at the gate, which leaves its line of the cache with the one that holds it, until
-/// it seems free. That one is done within microseconds where it has a core, so after each of the first 16 tries there are more looks than
-/// after the one before; after a later one the thread yields.
+/// How a try waits that found its gate taken: it loads the gate's word, which leaves its line of the cache with the one that holds it, until
+/// it seems free. That one is done within microseconds where it has a core, so after each of the first 16 tries there are more loads than
+/// after the one before. After a later one the thread yields before each load, and the more often the more tries were lost.
 #[inline(never)]
 pub(crate) fn wait<V: Value>(table: &TxTable<V>, stage: &Stage<V>, k: u32)
     requires { k < length (blocks_in table.now) }
 {
     let left = tries_left(stage);
     if left < 48 {
-        yield_now();
+        for _ in left..49 {
+            yield_now();
+            if !table.is_gate_taken(k) {
+                return;
+            }
+        }
         return;
     }
     for _ in left..65 {
