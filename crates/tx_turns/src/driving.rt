@@ -4,7 +4,7 @@ ghost use Rattle.actor_parts.specs.Dispatch.{next_of};
 ghost use Rattle.replay_log.specs.WorldProgress.{AreSmall};
 ghost use Rattle.tx_table.specs.Seated.{blocks_in, opening_of};
 ghost use Rattle.actor_laws.specs.Courses.{IsUnderWay};
-ghost use Rattle.tx_actor.specs.Running.{at, stage_of};
+ghost use Rattle.tx_actor.specs.Running.{stage_of};
 ghost use Rattle.actor_laws.specs.Phases.{Ends};
 ghost use Rattle.tx_turns.specs.Ties.{Ties};
 ghost use Rattle.tx_turns.specs.Own.{HasOwn};
@@ -13,14 +13,13 @@ ghost use Rattle.tx_turns.specs.Straight.{IsLedTo, LeadsBy, LeadsFrom, WantsBy};
 
 use crate::begins::begun_on;
 use crate::commits::commit_on;
-use crate::keys::{call_to_try, key_on};
-use crate::reads::{steps_on, word_read_on};
+use crate::reads::steps_on;
 use crate::turns::{says, step, turn_apart, turn_on_gate};
 use actor_parts::{Boxed, Next};
 use replay_log::Base;
 use seq_model::{Memory, Record, Value};
 use std::alloc::Global;
-use tx_actor::{Asking, Stage, Told, TxActor};
+use tx_actor::{Stage, Told, TxActor};
 use tx_table::{Seat, TxTable};
 
 /// Whether the next turn is a step on the words that makes no receipt.
@@ -96,7 +95,7 @@ fn advance<V: Value>(
 
 /// The turns of a transaction that is being aborted: its gates and locks are put back, and the last one answers why. They take no memory.
 #[inline(never)]
-fn give_up<V: Value>(
+pub(crate) fn give_up<V: Value>(
     alloc: Global,
     table: &TxTable<V>,
     seat: &mut Seat<V>,
@@ -149,7 +148,7 @@ fn finish_from<V: Value>(
 
 /// The answer of a request of which some turns were taken: what the last one answered, or, where all were quiet, that of the turns left.
 #[inline(always)]
-fn finish_after<V: Value>(
+pub(crate) fn finish_after<V: Value>(
     alloc: Global,
     table: &TxTable<V>,
     seat: &mut Seat<V>,
@@ -260,7 +259,7 @@ pub fn drive<V: Value>(
 
 /// The answer of a request of which some turns were taken, the last of which answered this; where that was nothing, that of the turns left.
 #[inline(always)]
-fn finish_told<V: Value>(
+pub(crate) fn finish_told<V: Value>(
     alloc: Global,
     table: &TxTable<V>,
     seat: &mut Seat<V>,
@@ -280,82 +279,6 @@ fn finish_told<V: Value>(
     match told {
         Told::Quiet => finish_from(alloc, table, seat, actor, bases, None),
         told => (told, None),
-    }
-}
-
-/// A call whose gate is to be tried.
-#[inline(always)]
-fn key_through<V: Value>(
-    alloc: Global,
-    table: &TxTable<V>,
-    seat: &mut Seat<V>,
-    actor: &mut TxActor<V>,
-    bases: &mut Vec<Boxed<Base<V>>>,
-    asked: Asking<V>,
-    tries: u32,
-) -> (Told<V>, Option<Record<V>>)
-    requires ties { Ties table.now seat.old (at actor.old (Stage.Trying asked tries)) }
-    requires own { HasOwn table.now seat.old (at actor.old (Stage.Trying asked tries)) [] }
-    requires small { AreSmall (blocks_in table.now) }
-    requires idle { actor.old.stage ≡ Stage.Idle }
-    requires none { bases.old.items ≡ [] }
-    requires under { IsUnderWay (seat_in (opening_of table.now) seat.old) (seat_in (opening_of table.now) seat.old) None }
-    ensures driven { Driven (opening_of table.now) seat.old seat.new result.0 result.1 }
-    ensures answered { result.0 ≢ Told.Quiet }
-    ensures ties { Ties table.now seat.new actor.new }
-    ensures own { HasOwn table.now seat.new actor.new [] }
-{
-    match key_on(alloc, table, seat, actor, bases, asked, tries) {
-        Ok(told) => finish_told(alloc, table, seat, actor, bases, told),
-        Err(_) => (give_up(alloc, table, seat, actor, bases), None),
-    }
-}
-
-/// A call that is no try on a gate: a word is read by straight code.
-#[inline(always)]
-fn word_through<V: Value>(
-    alloc: Global,
-    table: &TxTable<V>,
-    seat: &mut Seat<V>,
-    actor: &mut TxActor<V>,
-    bases: &mut Vec<Boxed<Base<V>>>,
-) -> (Told<V>, Option<Record<V>>)
-    requires ties { Ties table.now seat.old actor.old }
-    requires own { HasOwn table.now seat.old actor.old bases.old.items }
-    requires small { AreSmall (blocks_in table.now) }
-    requires under { IsUnderWay (seat_in (opening_of table.now) seat.old) (seat_in (opening_of table.now) seat.old) None }
-    ensures driven { Driven (opening_of table.now) seat.old seat.new result.0 result.1 }
-    ensures answered { result.0 ≢ Told.Quiet }
-    ensures ties { Ties table.now seat.new actor.new }
-    ensures own { HasOwn table.now seat.new actor.new [] }
-{
-    let mut said = Told::Quiet;
-    let quiet = word_read_on(table, seat, actor, bases.as_slice(), &mut said);
-    finish_after(alloc, table, seat, actor, bases, quiet, said, None)
-}
-
-/// Like [`drive`], of a call: a word is read by straight code, and a call whose gate is free goes by it up to its answer.
-#[inline(always)]
-pub fn drive_call<V: Value>(
-    alloc: Global,
-    table: &TxTable<V>,
-    seat: &mut Seat<V>,
-    actor: &mut TxActor<V>,
-    bases: &mut Vec<Boxed<Base<V>>>,
-) -> (Told<V>, Option<Record<V>>)
-    requires ties { Ties table.now seat.old actor.old }
-    requires own { HasOwn table.now seat.old actor.old [] }
-    requires small { AreSmall (blocks_in table.now) }
-    requires under { IsUnderWay (seat_in (opening_of table.now) seat.old) (seat_in (opening_of table.now) seat.old) None }
-    ensures driven { Driven (opening_of table.now) seat.old seat.new result.0 result.1 }
-    ensures answered { result.0 ≢ Told.Quiet }
-    ensures ties { Ties table.now seat.new actor.new }
-    ensures own { HasOwn table.now seat.new actor.new [] }
-{
-    bases.clear();
-    match call_to_try(actor) {
-        Some((asked, tries)) => key_through(alloc, table, seat, actor, bases, asked, tries),
-        None => word_through(alloc, table, seat, actor, bases),
     }
 }
 

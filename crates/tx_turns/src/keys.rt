@@ -1,22 +1,29 @@
-//! A call whose gate is to be tried, in straight code: the gate, what the call touches, and, of a call on a key, the loads of its location.
-//! The call is in hand from one step to the next, so nothing of its stage is stored. At any other finding it is the actor's again.
-ghost use Rattle.std.specs.Prelude.{◌≡◌, ◌<◌, [], ◌∷◌, IfNone, IfOk, IfSome, OnErr};
+//! A call, up to its answer.
+//!
+//! A call whose gate is to be tried is straight code: the gate, what the call touches, and, of a call on a key, the loads of its location. The
+//! call is in hand from one step to the next, so nothing of its stage is stored. At any other finding it is the actor's again, and the loop
+//! over turns has the rest. A word is read by straight code too.
+ghost use Rattle.std.specs.Prelude.{◌≡◌, ◌≢◌, ◌<◌, [], ◌∷◌, IfNone, IfOk, IfSome, None, OnErr};
 ghost use Rattle.std.specs.Vec.{vec_capacity, vec_len};
 ghost use Rattle.replay_log.specs.WorldProgress.{AreSmall};
 ghost use Rattle.step_core.specs.declared.actor.Place.TheVariants.{Again, Fetch, Look};
 ghost use Rattle.tx_actor.specs.Running.{at};
 ghost use Rattle.tx_actor.specs.declared.actor.Told.TheVariants as told;
-ghost use Rattle.tx_table.specs.Seated.{blocks_in};
+ghost use Rattle.tx_table.specs.Seated.{blocks_in, opening_of};
+ghost use Rattle.actor_laws.specs.Courses.{IsUnderWay};
 ghost use Rattle.tx_turns.specs.Ties.{Ties};
 ghost use Rattle.tx_turns.specs.Own.{HasOwn};
+ghost use Rattle.tx_turns.specs.Driven.{Driven, seat_in};
 ghost use Rattle.tx_turns.specs.Straight.{HasDriven, HasLed, HasPut, HasStopped, at_place};
 
 use crate::asks::starve;
+use crate::driving::{finish_after, finish_told, give_up};
 use crate::gates::{refuse, wait};
+use crate::reads::word_read_on;
 use actor_parts::word_laws::steps_as_worlds;
 use actor_parts::{Boxed, copied_as_worlds, copies_go_on, copies_stay, sizes_copies};
 use replay_log::Base;
-use seq_model::{Memory, Value};
+use seq_model::{Memory, Record, Value};
 use std::alloc::Global;
 use std::collections::VecDeque;
 use std::mem;
@@ -307,5 +314,81 @@ pub(crate) fn key_on<V: Value>(
             let _ = starve(table, seat, actor);
             Err(Memory)
         }
+    }
+}
+
+/// A call whose gate is to be tried.
+#[inline(always)]
+fn key_through<V: Value>(
+    alloc: Global,
+    table: &TxTable<V>,
+    seat: &mut Seat<V>,
+    actor: &mut TxActor<V>,
+    bases: &mut Vec<Boxed<Base<V>>>,
+    asked: Asking<V>,
+    tries: u32,
+) -> (Told<V>, Option<Record<V>>)
+    requires ties { Ties table.now seat.old (at actor.old (Stage.Trying asked tries)) }
+    requires own { HasOwn table.now seat.old (at actor.old (Stage.Trying asked tries)) [] }
+    requires small { AreSmall (blocks_in table.now) }
+    requires idle { actor.old.stage ≡ Stage.Idle }
+    requires none { bases.old.items ≡ [] }
+    requires under { IsUnderWay (seat_in (opening_of table.now) seat.old) (seat_in (opening_of table.now) seat.old) None }
+    ensures driven { Driven (opening_of table.now) seat.old seat.new result.0 result.1 }
+    ensures answered { result.0 ≢ Told.Quiet }
+    ensures ties { Ties table.now seat.new actor.new }
+    ensures own { HasOwn table.now seat.new actor.new [] }
+{
+    match key_on(alloc, table, seat, actor, bases, asked, tries) {
+        Ok(told) => finish_told(alloc, table, seat, actor, bases, told),
+        Err(_) => (give_up(alloc, table, seat, actor, bases), None),
+    }
+}
+
+/// A call that is no try on a gate: a word is read by straight code.
+#[inline(always)]
+fn word_through<V: Value>(
+    alloc: Global,
+    table: &TxTable<V>,
+    seat: &mut Seat<V>,
+    actor: &mut TxActor<V>,
+    bases: &mut Vec<Boxed<Base<V>>>,
+) -> (Told<V>, Option<Record<V>>)
+    requires ties { Ties table.now seat.old actor.old }
+    requires own { HasOwn table.now seat.old actor.old bases.old.items }
+    requires small { AreSmall (blocks_in table.now) }
+    requires under { IsUnderWay (seat_in (opening_of table.now) seat.old) (seat_in (opening_of table.now) seat.old) None }
+    ensures driven { Driven (opening_of table.now) seat.old seat.new result.0 result.1 }
+    ensures answered { result.0 ≢ Told.Quiet }
+    ensures ties { Ties table.now seat.new actor.new }
+    ensures own { HasOwn table.now seat.new actor.new [] }
+{
+    let mut said = Told::Quiet;
+    let quiet = word_read_on(table, seat, actor, bases.as_slice(), &mut said);
+    finish_after(alloc, table, seat, actor, bases, quiet, said, None)
+}
+
+/// Like [`crate::drive`], of a call: a word is read by straight code, and a call whose gate is free goes by it up to its answer.
+#[inline(always)]
+pub fn drive_call<V: Value>(
+    alloc: Global,
+    table: &TxTable<V>,
+    seat: &mut Seat<V>,
+    actor: &mut TxActor<V>,
+    bases: &mut Vec<Boxed<Base<V>>>,
+) -> (Told<V>, Option<Record<V>>)
+    requires ties { Ties table.now seat.old actor.old }
+    requires own { HasOwn table.now seat.old actor.old [] }
+    requires small { AreSmall (blocks_in table.now) }
+    requires under { IsUnderWay (seat_in (opening_of table.now) seat.old) (seat_in (opening_of table.now) seat.old) None }
+    ensures driven { Driven (opening_of table.now) seat.old seat.new result.0 result.1 }
+    ensures answered { result.0 ≢ Told.Quiet }
+    ensures ties { Ties table.now seat.new actor.new }
+    ensures own { HasOwn table.now seat.new actor.new [] }
+{
+    bases.clear();
+    match call_to_try(actor) {
+        Some((asked, tries)) => key_through(alloc, table, seat, actor, bases, asked, tries),
+        None => word_through(alloc, table, seat, actor, bases),
     }
 }

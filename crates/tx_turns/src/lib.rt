@@ -43,8 +43,9 @@ mod turns;
 mod words;
 
 pub use asks::{ask_abort, ask_begin, ask_begin_read, starve};
-pub use driving::{drive, drive_begin, drive_call, drive_commit};
+pub use driving::{drive, drive_begin, drive_commit};
 pub use due::{Due, next_due};
+pub use keys::drive_call;
 pub use learning::learn;
 pub use requests::ask;
 pub use stepping::step_words;

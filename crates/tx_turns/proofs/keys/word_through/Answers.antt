@@ -3,7 +3,7 @@ use Rattle.replay_log.specs.declared.base.Base.{Base}
 use Rattle.tx_table.specs.Seated.{opening_of}
 use Rattle.tx_turns.specs.Own.{HasOwn}
 use Rattle.tx_turns.proofs.DrivenLemmas.{driven_first}
-use Rattle.tx_turns.proofs.driving.word_through.Goals as goal
+use Rattle.tx_turns.proofs.keys.word_through.Goals as goal
 
 pub finish_after-requires-clause-own : goal.finish_after-requires-clause-own
 finish_after-requires-clause-own g c =

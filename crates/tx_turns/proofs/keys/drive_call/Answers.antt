@@ -2,7 +2,7 @@ use Rattle.std.proofs.Common.{[], sym, subst}
 use Rattle.tx_actor.specs.declared.actor.TxActor.{TxActor}
 use Rattle.tx_turns.specs.Own.{HasOwn}
 use Rattle.tx_turns.specs.Ties.{Ties}
-use Rattle.tx_turns.proofs.driving.drive_call.Goals as goal
+use Rattle.tx_turns.proofs.keys.drive_call.Goals as goal
 
 pub key_through-requires-clause-ties : goal.key_through-requires-clause-ties
 key_through-requires-clause-ties g c =

@@ -3,7 +3,7 @@ use Rattle.tx_table.specs.Seated.{opening_of}
 use Rattle.tx_turns.proofs.DrivenLemmas.{driven_first}
 use Rattle.tx_turns.proofs.GivenUpLemmas.{given_up, stopped_ends}
 use Rattle.tx_turns.proofs.RestLemmas.{answered_own}
-use Rattle.tx_turns.proofs.driving.key_through.Goals as goal
+use Rattle.tx_turns.proofs.keys.key_through.Goals as goal
 
 pub finish_told-requires-clause-ties : goal.finish_told-requires-clause-ties
 finish_told-requires-clause-ties g c = c.in-Ok.ensures.led.ties
