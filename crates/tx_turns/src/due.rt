@@ -11,7 +11,7 @@ use step_core::{Actor, Place};
 
 /// One load, store, compare_exchange or fetch_add of one word.
 #[derive(Clone, Copy)]
-pub enum Due {
+pub(crate) enum Due {
     /// There is no step to take.
     Nothing,
     LoadClock,
@@ -111,7 +111,7 @@ fn due_to_take(actor: &Actor, location: u32, version: u64, i: usize) -> Due
 
 /// The atomic step that is next for an actor.
 #[inline(always)]
-pub fn next_due(actor: &Actor) -> Due
+pub(crate) fn next_due(actor: &Actor) -> Due
     requires fits { (n : ℕ) × Fits n actor.now }
     ensures deed { IsDeed result (plan (actor_of actor.now) (actor_of actor.now).place) }
     ensures inside { (n : ℕ) → Fits n actor.now → IsWithin n result }

@@ -9,7 +9,7 @@ ghost use Rattle.tx_table.specs.Opening.{world_at};
 ghost use Rattle.tx_table.specs.Shown.{IsReached};
 
 /// Where a step of the words is next in a lone world that is, to its actor, one that events have reached, the word actor is not idle:
-/// [`crate::step_words`] may be called.
+/// `step_words` may be called.
 pub fn steps_are_due<V>()
     ensures { (key : Opening V) (a : ℕ) (u : World V) → IsReached (world_at key) a u → next_of (u.seats a).stage ≡ Word →
         plan (actor_of u a) (actor_of u a).place ≡ Rests → ⊥ }

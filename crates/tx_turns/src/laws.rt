@@ -7,7 +7,7 @@ use tx_actor::laws::copies_by_stage;
 use tx_actor::turn_laws::events_keep_copies;
 
 /// A turn on the words, and a failed allocation, leave what a seat has out of the table, and its actor has of collections what its next
-/// stage asks. The first value store asks more, and is [`crate::commit`]; so do the loads for a call (`load_word`).
+/// stage asks. The first value store asks more, and is `commit`; so do the loads for a call (`load_word`).
 pub fn turns_keep_own<V: Value>()
     ensures words { WordsKeep V }
     ensures starves { StarvesKeep V }

@@ -105,7 +105,7 @@ fn learn_to_undo(actor: &mut Actor, found: u64) -> Heard
 /// The actor's step was taken, and found this number. A store finds none that anybody learns. A load takes no room but for the read that it
 /// answers.
 #[inline(always)]
-pub fn learn(actor: &mut Actor, found: u64) -> Heard
+pub(crate) fn learn(actor: &mut Actor, found: u64) -> Heard
     requires fits { (n : ℕ) × Fits n actor.old }
     requires clock { HasClock found actor.old }
     ensures learns { Learns actor.old found actor.new result }

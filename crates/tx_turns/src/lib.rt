@@ -5,16 +5,17 @@
 //! one, and what the actor makes of what was found there: it keeps the tie, answers what the definitions answer, and the seat gains what
 //! the step commits. No lock stands round the table, and no step waits.
 //!
-//! - **Words.** The place at which the word actor stands says which load, store, compare_exchange or fetch_add is next ([`next_due`]). What
-//!   it makes of itself depends on the number that the step found, and on nothing else ([`learn`]).
+//! - **Words.** The place at which the word actor stands says which load, store, compare_exchange or fetch_add is next (`next_due`). What
+//!   it makes of itself depends on the number that the step found, and on nothing else (`learn`).
 //! - **Gates.** While its actor holds a gate, a seat has the base of that collection out, and its thread has it in hand: one after the other,
 //!   in the order in which their gates were taken (`specs/Own.antt`). The try of a gate takes its base out; the store of the gate puts it
 //!   back, as it was or with the log of a commit folded in. What a call copies of a base in hand is one step with the store of its gate; of
 //!   a call on a key that is to read a location then, all but that copy is made after the store.
-//! - **Requests.** A read of a word, a call whose gate is free, the loads of a call, a begin and a commit of words are straight code, one
-//!   atomic step on the table a function. All else, and what such code finds in its way, is done by a loop over turns. A function `.._on`
-//!   takes some turns and returns whether none of them answered; else the answer is in `said`. The result is what the definitions say of it
-//!   in the world with this seat alone (`specs/Driven.antt`). Where an allocation fails, the request is aborted.
+//! - **Requests.** A read of a word, a call whose gate is free, the loads of a call, a begin and a commit are straight code, one atomic step
+//!   on the table a function; the order of a commit's steps stands in `commits.rt`. All else, and what such code finds in its way, is done
+//!   by a loop over turns. A function `.._on` takes some turns and returns whether none of them answered; else the answer is in `said`. The
+//!   result is what the definitions say of it in the world with this seat alone (`specs/Driven.antt`). Where an allocation fails, the
+//!   request is aborted.
 #![tactic(auto)]
 
 mod asks;
@@ -42,11 +43,7 @@ mod touching;
 mod turns;
 mod words;
 
-pub use asks::{ask_abort, ask_begin, ask_begin_read, starve};
+pub use asks::{ask_abort, ask_begin, ask_begin_read};
 pub use driving::{drive, drive_begin, drive_commit};
-pub use due::{Due, next_due};
 pub use keys::drive_call;
-pub use learning::learn;
 pub use requests::ask;
-pub use stepping::step_words;
-pub use words::{close, commit, step_word, store_first};

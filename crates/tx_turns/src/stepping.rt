@@ -17,7 +17,7 @@ use tx_table::{Seat, TxTable};
 /// the word machine makes of it by the number that was found, and the machine's answer is returned: a refusal is that of TL2 (DISC 2006),
 /// and takes no memory. There is a step to take, and it is the one that the lone world of the seat's actor does next.
 #[inline(always)]
-pub fn step_words<V: Value>(
+pub(crate) fn step_words<V: Value>(
     table: &TxTable<V>,
     seat: &mut Seat<V>,
     actor: &mut Actor,

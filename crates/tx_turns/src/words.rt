@@ -17,7 +17,7 @@ use tx_actor::{Stage, Told, TxActor};
 use tx_table::{Seat, TxTable};
 
 /// The next step of an actor's words, taken on the table by its seat.
-pub fn step_word<V: Value>(
+pub(crate) fn step_word<V: Value>(
     table: &TxTable<V>,
     seat: &mut Seat<V>,
     actor: &mut TxActor<V>,
@@ -36,7 +36,7 @@ pub fn step_word<V: Value>(
 }
 
 /// The load of the clock that commits a transaction without writes, with its receipt. It takes no memory.
-pub fn close<V: Value>(
+pub(crate) fn close<V: Value>(
     alloc: Global,
     table: &TxTable<V>,
     seat: &mut Seat<V>,
@@ -65,7 +65,7 @@ pub fn close<V: Value>(
 
 /// The first value store of a commit: its request, and then the step of the words. Where an allocation fails no step is taken, and the
 /// actor is as it was.
-pub fn store_first<V: Value>(
+pub(crate) fn store_first<V: Value>(
     table: &TxTable<V>,
     seat: &mut Seat<V>,
     actor: &mut TxActor<V>,
@@ -86,7 +86,7 @@ pub fn store_first<V: Value>(
 }
 
 /// The first value store of a commit, with its receipt. Where an allocation fails no step is taken, and the actor is as it was.
-pub fn commit<V: Value>(
+pub(crate) fn commit<V: Value>(
     alloc: Global,
     table: &TxTable<V>,
     seat: &mut Seat<V>,
