@@ -1,7 +1,7 @@
 -- The parts of a commit, one after the other.
 --
--- A part is a number of turns, and whether all of them were quiet is known once it is over. Those of a part that was quiet lead on to the next
--- part (`joins`). A turn on a gate makes no record, so it leads on whatever record was made before it (`gate_leads`).
+-- A part is a number of turns, and whether all of them were quiet is known once it is over. Those of a part that was quiet lead on to the
+-- next part (`joins`). A turn on a gate makes no record, so it leads on whatever record was made before it (`gate_leads`).
 use Rattle.std.proofs.Common.{◌≡◌, ℕ, Bool, [], Option, None, Result, Ok, Err, OnErr, sym, refl, subst}
 use Rattle.seq_model.specs.declared.record.Record.{Record}
 use Rattle.replay_log.specs.Seats.{World}

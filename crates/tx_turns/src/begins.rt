@@ -9,7 +9,7 @@ ghost use Rattle.tx_turns.specs.Driven.{told_in};
 ghost use Rattle.tx_turns.specs.Straight.{HasLed, LeadsAll};
 
 use crate::laws::turns_keep_own;
-use crate::turns::says;
+use crate::turns::report;
 use actor_parts::Boxed;
 use actor_parts::word_laws::steps_as_worlds;
 use replay_log::Base;
@@ -71,7 +71,7 @@ pub(crate) fn begun_on<V: Value>(
     ensures own { HasOwn table.now seat.new actor.new bases.now }
 {
     if is_to_begin(actor) {
-        return says(begin_on(table, seat, actor, bases), said);
+        return report(begin_on(table, seat, actor, bases), said);
     }
     true
 }

@@ -11,7 +11,7 @@ ghost use Rattle.tx_turns.specs.Driven.{LeadsOn, told_in};
 ghost use Rattle.tx_turns.specs.Straight.{HasLed, LeadsAll, Passes, at_place, is_locking};
 
 use crate::laws::turns_keep_own;
-use crate::turns::says;
+use crate::turns::report;
 use actor_parts::Boxed;
 use actor_parts::word_laws::steps_as_worlds;
 use replay_log::Base;
@@ -140,10 +140,10 @@ fn checks_on<V: Value>(
     while i + 1 < end {
         match check_on(table, seat, actor, bases, i) {
             Ok(()) => i += 1,
-            Err(told) => return says(told, said),
+            Err(told) => return report(told, said),
         }
     }
-    let quiet = says(check_last(table, seat, actor, bases, i), said);
+    let quiet = report(check_last(table, seat, actor, bases, i), said);
     quiet
 }
 

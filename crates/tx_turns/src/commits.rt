@@ -1,8 +1,8 @@
-//! A commit of a transaction that has written: its steps, in the order of TL2 (DISC 2006).
+//! A commit of a transaction that has written: its steps, in their order, which is that of TL2 (DISC 2006).
 //!
-//! [`commit_on`] has that order. Each of its parts takes the steps of one kind, in straight code, where they are next, and else does nothing;
-//! so where others are in its way, and the transaction is being aborted, all that comes after does nothing, and the loop over turns goes on
-//! from there. The gates and the homes of collections are taken and put back here; the steps on the words have files of their own.
+//! [`commit_on`] has this order. Each of its parts takes the steps of one kind, in straight code, where they are next, and else does
+//! nothing. So where another transaction is in its way, and it is being aborted, all parts after that do nothing, and the loop over turns
+//! does the rest. The gates of collections are taken here, and put back with their bases; the steps on the words have files of their own.
 ghost use Rattle.std.specs.Prelude.{◌≡◌, ◌≢◌, false, true, IfOk, IfSome, OnErr, Option};
 ghost use Rattle.seq_model.specs.declared.record.Record.{Record as Made};
 ghost use Rattle.actor_parts.specs.Dispatch.{next_of};
@@ -18,7 +18,7 @@ use crate::checks::checked_on;
 use crate::locks::locked_on;
 use crate::releases::released_on;
 use crate::stores::stored_on;
-use crate::turns::{home_next, keep, says, store_next, try_next};
+use crate::turns::{home_next, keep, report, store_next, try_next};
 use actor_parts::{Boxed, Next, at_place};
 use replay_log::Base;
 use seq_model::{Memory, Record, Value};
@@ -37,8 +37,8 @@ fn gate_to_try<V>(actor: &TxActor<V>) -> Option<u32>
     }
 }
 
-/// The gates that a commit takes, where it is to take some: each is tried up to its last try. Where an allocation fails the transaction
-/// is being aborted.
+/// The gates that a commit takes, where it is to take some: each is tried until it is had, or up to its last try. Where an allocation fails
+/// the transaction is being aborted.
 #[inline(always)]
 fn gates_on<V: Value>(
     table: &TxTable<V>,
@@ -79,8 +79,8 @@ fn is_ready<V>(actor: &TxActor<V>) -> bool
     matches!(&actor.stage, Stage::Ready(_))
 }
 
-/// The first value store, with which the transaction commits, where it is next; its receipt is in `made` then. Where an allocation fails the
-/// transaction is being aborted.
+/// The first value store, with which the transaction commits, where it is next; its receipt is in `made` then. Where an allocation fails
+/// the transaction is being aborted.
 #[inline(always)]
 fn first_stored_on<V: Value>(
     alloc: Global,
@@ -105,7 +105,7 @@ fn first_stored_on<V: Value>(
     match store_next(alloc, table, seat, actor, bases) {
         Ok((told, receipt)) => {
             keep(receipt, made);
-            Ok(says(told, said))
+            Ok(report(told, said))
         }
         Err(_) => Err(Memory),
     }
@@ -122,7 +122,7 @@ fn home_to_put<V>(actor: &TxActor<V>) -> Option<u32>
     }
 }
 
-/// The bases that a commit has written are put back with their logs, and so are their gates, where there are some.
+/// The bases that a commit has written are put back with their logs, and so are their gates, where it holds some.
 #[inline(always)]
 fn homes_on<V: Value>(
     table: &TxTable<V>,
@@ -151,8 +151,8 @@ fn homes_on<V: Value>(
     }
 }
 
-/// The steps of a commit, in their order: whether all were quiet. The last one answers that it has committed, so where they are quiet the
-/// transaction is being aborted. Where an allocation fails it is too; its receipt is in `made` from the first value store on.
+/// The steps of a commit, in their order: whether none of them answered. The last one answers that the transaction has committed, so where
+/// none did it is being aborted, as it is where an allocation fails. Its receipt is in `made` from the first value store on.
 #[inline(always)]
 pub(crate) fn commit_on<V: Value>(
     alloc: Global,

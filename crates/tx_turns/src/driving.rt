@@ -14,7 +14,7 @@ ghost use Rattle.tx_turns.specs.Straight.{IsLedTo, LeadsBy, LeadsFrom, WantsBy};
 use crate::begins::begun_on;
 use crate::commits::commit_on;
 use crate::reads::steps_on;
-use crate::turns::{says, step, turn_apart, turn_on_gate};
+use crate::turns::{report, step, turn_apart, turn_on_gate};
 use actor_parts::{Boxed, Next};
 use replay_log::Base;
 use seq_model::{Memory, Record, Value};
@@ -229,7 +229,7 @@ fn close_through<V: Value>(
 {
     let (told, made) = step(alloc, table, seat, actor, bases.as_slice());
     let mut said = Told::Quiet;
-    let quiet = says(told, &mut said);
+    let quiet = report(told, &mut said);
     finish_after(alloc, table, seat, actor, bases, quiet, said, made)
 }
 
@@ -282,7 +282,7 @@ pub(crate) fn finish_told<V: Value>(
     }
 }
 
-/// Like [`drive`], of a commit: its steps on the words are straight code.
+/// Like [`drive`], of a commit: its steps are straight code, in the order of `commit_on`.
 #[inline(always)]
 pub fn drive_commit<V: Value>(
     alloc: Global,

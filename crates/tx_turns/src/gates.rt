@@ -56,9 +56,9 @@ fn tries_left<V>(stage: &Stage<V>) -> u32 {
     0
 }
 
-/// How a try waits that found its gate taken: it loads the gate's word, which leaves its line of the cache with the one that holds it, until
-/// it seems free. That one is done within microseconds where it has a core, so after each of the first 16 tries there are more loads than
-/// after the one before. After a later one the thread yields before each load, and the more often the more tries were lost.
+/// How a try waits that found its gate taken: it loads the gate's word, which leaves its line of the cache with the one that holds it,
+/// until the gate seems free. That one is done within microseconds where it has a core, so after each of the first 16 tries there are more
+/// loads than after the one before. After a later try the thread yields before each load, and there are again more of them from try to try.
 #[inline(never)]
 pub(crate) fn wait<V: Value>(table: &TxTable<V>, stage: &Stage<V>, k: u32)
     requires { k < length (blocks_in table.now) }

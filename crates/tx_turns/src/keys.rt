@@ -1,8 +1,8 @@
 //! A call, up to its answer.
 //!
-//! A call whose gate is to be tried is straight code: the gate, what the call touches, and, of a call on a key, the loads of its location. The
-//! call is in hand from one step to the next, so nothing of its stage is stored. At any other finding it is the actor's again, and the loop
-//! over turns has the rest. A word is read by straight code too.
+//! A call whose gate is to be tried is straight code: the gate, what the call touches, and, of a call on a key, the loads of its location.
+//! The call is in hand from one step to the next, so nothing of its stage is stored. At any other finding it is the actor's again, and the
+//! loop over turns does the rest. A word is read by straight code too.
 ghost use Rattle.std.specs.Prelude.{◌≡◌, ◌≢◌, ◌<◌, [], ◌∷◌, IfNone, IfOk, IfSome, None, OnErr};
 ghost use Rattle.std.specs.Vec.{vec_capacity, vec_len};
 ghost use Rattle.replay_log.specs.WorldProgress.{AreSmall};

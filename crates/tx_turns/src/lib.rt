@@ -11,11 +11,11 @@
 //!   in the order in which their gates were taken (`specs/Own.antt`). The try of a gate takes its base out; the store of the gate puts it
 //!   back, as it was or with the log of a commit folded in. What a call copies of a base in hand is one step with the store of its gate; of
 //!   a call on a key that is to read a location then, all but that copy is made after the store.
-//! - **Requests.** A read of a word, a call whose gate is free, the loads of a call, a begin and a commit are straight code, one atomic step
-//!   on the table a function; the order of a commit's steps stands in `commits.rt`. All else, and what such code finds in its way, is done
-//!   by a loop over turns. A function `.._on` takes some turns and returns whether none of them answered; else the answer is in `said`. The
-//!   result is what the definitions say of it in the world with this seat alone (`specs/Driven.antt`). Where an allocation fails, the
-//!   request is aborted.
+//! - **Requests.** A read of a word, a call whose gate is free, the loads of a call, a begin and a commit are straight code, one atomic
+//!   step on the table a function; the order of a commit's steps stands in `commits.rt`. All else, and what such code finds in its way, is
+//!   done by a loop over turns. A function `.._on` takes some turns and returns whether none of them answered; else the answer is in
+//!   `said`. The result is what the definitions say of it in the world with this seat alone (`specs/Driven.antt`). Where an allocation
+//!   fails, the request is aborted.
 #![tactic(auto)]
 
 mod asks;

@@ -10,7 +10,7 @@ ghost use Rattle.tx_turns.specs.Own.{HasOwn};
 ghost use Rattle.tx_turns.specs.Driven.{LeadsOn, told_in};
 ghost use Rattle.tx_turns.specs.Straight.{HasLed, at_place};
 
-use crate::turns::says;
+use crate::turns::report;
 use actor_parts::Boxed;
 use actor_parts::word_laws::steps_as_worlds;
 use replay_log::Base;
@@ -157,11 +157,11 @@ pub(crate) fn load_on<V: Value>(
     match look_for(table, seat, actor, bases, location) {
         Ok(version) => {
             let value = fetch_for(table, seat, actor, bases, location, version);
-            says(
+            report(
                 again_for(table, seat, actor, bases, location, version, value),
                 said,
             )
         }
-        Err(told) => says(told, said),
+        Err(told) => report(told, said),
     }
 }

@@ -9,7 +9,7 @@ ghost use Rattle.tx_turns.specs.Driven.{LeadsOn, told_in};
 ghost use Rattle.tx_turns.specs.Straight.{HasLed, LeadsAll, at_place, is_locking};
 
 use crate::laws::turns_keep_own;
-use crate::turns::says;
+use crate::turns::report;
 use actor_parts::Boxed;
 use actor_parts::word_laws::steps_as_worlds;
 use replay_log::Base;
@@ -177,10 +177,10 @@ fn locks_on<V: Value>(
     while i < end {
         match lock_on(table, seat, actor, bases, i) {
             Ok(()) => i += 1,
-            Err(told) => return says(told, said),
+            Err(told) => return report(told, said),
         }
     }
-    let quiet = says(stamp_on(table, seat, actor, bases, i), said);
+    let quiet = report(stamp_on(table, seat, actor, bases, i), said);
     quiet
 }
 

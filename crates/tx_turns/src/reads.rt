@@ -15,7 +15,7 @@ use crate::loads::{load_on, location_to_load};
 use crate::releases::{has_locks, releases_on};
 use crate::steps;
 use crate::stores::{stores_on, value_to_store};
-use crate::turns::says;
+use crate::turns::report;
 use actor_parts::word_laws::steps_as_worlds;
 use actor_parts::{Boxed, Next};
 use replay_log::Base;
@@ -156,12 +156,12 @@ fn read_on<V: Value>(
     match look_on(table, seat, actor, bases, word) {
         Ok(version) => {
             let value = fetch_on(table, seat, actor, bases, word, version);
-            says(
+            report(
                 again_on(table, seat, actor, bases, word, version, value),
                 said,
             )
         }
-        Err(told) => says(told, said),
+        Err(told) => report(told, said),
     }
 }
 

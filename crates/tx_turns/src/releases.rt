@@ -13,7 +13,7 @@ ghost use Rattle.tx_turns.specs.Driven.{LeadsOn, told_in};
 ghost use Rattle.tx_turns.specs.Straight.{HasLed, LeadsAll};
 
 use crate::laws::turns_keep_own;
-use crate::turns::says;
+use crate::turns::report;
 use actor_parts::Boxed;
 use actor_parts::word_laws::steps_as_worlds;
 use replay_log::Base;
@@ -131,7 +131,7 @@ pub(crate) fn releases_on<V: Value>(
     while actor.words.held.len() > 1 {
         release_on(table, seat, actor, bases);
     }
-    says(release_last(table, seat, actor, bases), said)
+    report(release_last(table, seat, actor, bases), said)
 }
 
 /// The locks that a commit holds are given back, where it holds some.

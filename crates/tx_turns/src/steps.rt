@@ -11,7 +11,7 @@ ghost use Rattle.tx_turns.specs.Driven.{LeadsOn, is_still, told_in};
 
 use crate::laws::turns_keep_own;
 use crate::stepping::step_words;
-use crate::turns::says;
+use crate::turns::report;
 use actor_parts::word_laws::steps_as_worlds;
 use actor_parts::{Boxed, Next};
 use replay_log::Base;
@@ -71,8 +71,8 @@ pub(crate) fn steps_on<V: Value>(
         let told = step_words(table, seat, &mut actor.words);
         if !is_waiting(&actor.stage, told) {
             return match actor.stage {
-                Stage::Loading(..) => says(actor.loaded(told), said),
-                _ => says(actor.stepped(told), said),
+                Stage::Loading(..) => report(actor.loaded(told), said),
+                _ => report(actor.stepped(told), said),
             };
         }
     }

@@ -9,7 +9,7 @@ ghost use Rattle.tx_turns.specs.Driven.{LeadsOn, told_in};
 ghost use Rattle.tx_turns.specs.Straight.{HasLed, LeadsAll, at_place, is_storing};
 
 use crate::laws::turns_keep_own;
-use crate::turns::says;
+use crate::turns::report;
 use actor_parts::Boxed;
 use actor_parts::word_laws::steps_as_worlds;
 use replay_log::Base;
@@ -115,7 +115,7 @@ pub(crate) fn stores_on<V: Value>(
         store_on(table, seat, actor, bases, i);
         i += 1;
     }
-    says(store_last(table, seat, actor, bases, i), said)
+    report(store_last(table, seat, actor, bases, i), said)
 }
 
 /// The stores that are left, where there are some.

@@ -25,7 +25,7 @@ use tx_table::{Seat, TxTable};
 
 /// Whether this is quiet. What isn't is stored in `said` from then on.
 #[inline(always)]
-pub(crate) fn says<V: Value>(told: Told<V>, said: &mut Told<V>) -> bool
+pub(crate) fn report<V: Value>(told: Told<V>, said: &mut Told<V>) -> bool
     ensures told { told ≡ told_in result said.new }
     ensures answered { result ≡ false → said.new ≢ Told.Quiet }
 {
@@ -115,7 +115,7 @@ pub(crate) fn try_next<V: Value>(
 {
     turns_keep_own::<V>();
     match try_gate(table, seat, actor, bases, k) {
-        Ok(told) => Ok(says(told, said)),
+        Ok(told) => Ok(report(told, said)),
         Err(_) => {
             let _ = starve(table, seat, actor);
             Err(Memory)
@@ -144,7 +144,7 @@ fn copy_next<V: Value>(
     ensures starved { OnErr result ((said : Tells V) × IsGivenUp (opening_of table.now) seat.old actor.old seat.new said) }
 {
     match copy_base(alloc, table, seat, actor, bases, k) {
-        Ok(told) => Ok(says(told, said)),
+        Ok(told) => Ok(report(told, said)),
         Err(_) => Err(Memory),
     }
 }
@@ -167,7 +167,7 @@ pub(crate) fn home_next<V: Value>(
     ensures ties { Ties table.now seat.new actor.new }
     ensures own { HasOwn table.now seat.new actor.new bases.new.items }
 {
-    says(go_home(table, seat, actor, bases, k), said)
+    report(go_home(table, seat, actor, bases, k), said)
 }
 
 /// A gate is put back: whether that was quiet.
@@ -188,7 +188,7 @@ fn put_next<V: Value>(
     ensures ties { Ties table.now seat.new actor.new }
     ensures own { HasOwn table.now seat.new actor.new bases.new.items }
 {
-    says(put_gate(table, seat, actor, bases, k), said)
+    report(put_gate(table, seat, actor, bases, k), said)
 }
 
 /// The first value store of a commit, with its receipt. Where an allocation fails no step is taken, and the request is aborted.
@@ -322,7 +322,7 @@ pub(crate) fn turn_apart<V: Value>(
     match turn(alloc, table, seat, actor, bases) {
         Ok((told, receipt)) => {
             keep(receipt, kept);
-            Ok(says(told, said))
+            Ok(report(told, said))
         }
         Err(_) => Err(Memory),
     }

@@ -6,7 +6,7 @@ use Rattle.tx_turns.proofs.begins.begun_on.Goals as goal
 
 pub returns-then-is_to_begin-clause-leads : goal.returns-then-is_to_begin-clause-leads
 returns-then-is_to_begin-clause-leads g c = λ d s h.
-    subst (λ (n : Told _). Driven (opening_of c.args.table.now) s c.begin_on.new.seat n d) c.says.ensures.told
+    subst (λ (n : Told _). Driven (opening_of c.args.table.now) s c.begin_on.new.seat n d) c.report.ensures.told
     (c.begin_on.ensures.leads.driven s d h)
 
 pub returns-clause-leads : goal.returns-clause-leads

@@ -41,7 +41,7 @@ loop-i-preserved g c =
 
 pub returns-in-Err-clause-leads : goal.returns-in-Err-clause-leads
 returns-in-Err-clause-leads g c =
-    subst (λ (n : Told _). LeadsOn (opening_of c.args.table.now) c.args.seat.now c.check_on.new.seat n) c.says.ensures.told
+    subst (λ (n : Told _). LeadsOn (opening_of c.args.table.now) c.args.seat.now c.check_on.new.seat n) c.report.ensures.told
     (leads_from (opening_of c.args.table.now) c.args.seat.now c.loop-i.seat c.check_on.new.seat c.in-Err.told c.loop-i.invariant.4
     c.in-Err.ensures.invalid.leads)
 
@@ -50,6 +50,6 @@ check_last-requires-clause-stage g c = ap (λ (s : Stage _). is_locking s) c.loo
 
 pub returns-clause-leads : goal.returns-clause-leads
 returns-clause-leads g c =
-    subst (λ (n : Told _). LeadsOn (opening_of c.args.table.now) c.args.seat.now c.check_last.new.seat n) c.says-quiet.ensures.told
+    subst (λ (n : Told _). LeadsOn (opening_of c.args.table.now) c.args.seat.now c.check_last.new.seat n) c.report-quiet.ensures.told
     (leads_from (opening_of c.args.table.now) c.args.seat.now c.loop-i.seat c.check_last.new.seat c.check_last.result c.loop-i.invariant.4
     c.check_last.ensures.leads)

@@ -20,7 +20,7 @@ finish_after-requires-clause-come g c =
     let s = c.args.seat.now in (
       s,
       subst (λ (z : Told _ × Option (Record _)). Driven o s c.step-told.new.seat z.0 z.1)
-          (λ i. (c.says-quiet.ensures.told i, latest_none c.step-told.result.1 i))
+          (λ i. (c.report-quiet.ensures.told i, latest_none c.step-told.result.1 i))
           (driven_on c.args.table.now s s c.step-told.new.seat c.args.actor.now c.step-told.result.0 None c.requires.ties
           (driven_first o s c.requires.under) c.step-told.ensures.turned c.step-told.result.1 c.step-told.ensures.receipt),
     )
@@ -31,6 +31,6 @@ returns-clause-driven g c =
     let s = c.args.seat.now in
     c.finish_after.ensures.leads s
     (subst (λ (z : Told _ × Option (Record _)). Driven o s c.step-told.new.seat z.0 z.1)
-    (λ i. (c.says-quiet.ensures.told i, latest_none c.step-told.result.1 i))
+    (λ i. (c.report-quiet.ensures.told i, latest_none c.step-told.result.1 i))
     (driven_on c.args.table.now s s c.step-told.new.seat c.args.actor.now c.step-told.result.0 None c.requires.ties
     (driven_first o s c.requires.under) c.step-told.ensures.turned c.step-told.result.1 c.step-told.ensures.receipt))

@@ -39,7 +39,7 @@ loop-i-preserved g c =
 
 pub returns-in-Err-clause-leads : goal.returns-in-Err-clause-leads
 returns-in-Err-clause-leads g c =
-    subst (λ (n : Told _). LeadsOn (opening_of c.args.table.now) c.args.seat.now c.lock_on.new.seat n) c.says.ensures.told
+    subst (λ (n : Told _). LeadsOn (opening_of c.args.table.now) c.args.seat.now c.lock_on.new.seat n) c.report.ensures.told
     (leads_from (opening_of c.args.table.now) c.args.seat.now c.loop-i.seat c.lock_on.new.seat c.in-Err.told c.loop-i.invariant.4
     c.in-Err.ensures.busy.leads)
 
@@ -48,6 +48,6 @@ stamp_on-requires-clause-stage g c = ap (λ (s : Stage _). is_locking s) c.loop-
 
 pub returns-clause-leads : goal.returns-clause-leads
 returns-clause-leads g c =
-    subst (λ (n : Told _). LeadsOn (opening_of c.args.table.now) c.args.seat.now c.stamp_on.new.seat n) c.says-quiet.ensures.told
+    subst (λ (n : Told _). LeadsOn (opening_of c.args.table.now) c.args.seat.now c.stamp_on.new.seat n) c.report-quiet.ensures.told
     (leads_from (opening_of c.args.table.now) c.args.seat.now c.loop-i.seat c.stamp_on.new.seat c.stamp_on.result c.loop-i.invariant.4
     c.stamp_on.ensures.leads)

@@ -29,6 +29,6 @@ loop-seat-preserved g c =
 
 pub returns-clause-leads : goal.returns-clause-leads
 returns-clause-leads g c =
-    subst (λ (n : Told _). LeadsOn (opening_of c.args.table.now) c.args.seat.now c.release_last.new.seat n) c.says.ensures.told
+    subst (λ (n : Told _). LeadsOn (opening_of c.args.table.now) c.args.seat.now c.release_last.new.seat n) c.report.ensures.told
     (leads_from (opening_of c.args.table.now) c.args.seat.now c.loop-seat.seat c.release_last.new.seat c.release_last.result
     c.loop-seat.invariant.5 c.release_last.ensures.leads)

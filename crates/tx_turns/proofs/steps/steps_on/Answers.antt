@@ -98,7 +98,7 @@ returns-in-Loading-clause-leads g c =
     let h = load_tied c.steps_as_worlds.ensures c.loads_as_worlds.ensures.heard c.seats_as_actors.ensures c.loads_stay_own.ensures
     c.copies_by_stage.ensures.others t s u r c.loaded.new.self y m c.loaded.result c.args.bases.now loading ties c.steps.invariant.1
     e.steps c.loaded.ensures.does ((c.loaded.ensures.keeps (laid_in t)).running heard.1) c.loaded.ensures.goes in
-    subst (λ (n : Told _). LeadsOn (opening_of t) c.args.seat.now u n) c.says.ensures.told
+    subst (λ (n : Told _). LeadsOn (opening_of t) c.args.seat.now u n) c.report.ensures.told
     (leads_on t c.args.seat.now s u r c.loaded.result c.steps.invariant.3 ties h.1
     (ap (λ (z : Stage _). next_of (stage_of z)) c.steps.invariant.2 ∙ c.requires.due)
     (subst (λ (z : Stage _). z ≡ stage.Closing → ⊥) (sym c.steps.invariant.2) c.requires.open) c.requires.small)
@@ -157,7 +157,7 @@ returns-in_default-clause-leads g c =
     let h = word_turned c.steps_as_worlds.ensures t s u r c.stepped.new.self y c.step_words-told.result c.stepped.result due quiet ties
     e.steps c.stepped.ensures.does
     ((c.stepped.ensures.keeps (laid_in t)).running (running_moved (laid_in t) r y e.fits quiet ties.running)) in
-    subst (λ (n : Told _). LeadsOn (opening_of t) c.args.seat.now u n) c.says-in_default.ensures.told
+    subst (λ (n : Told _). LeadsOn (opening_of t) c.args.seat.now u n) c.report-in_default.ensures.told
     (leads_on t c.args.seat.now s u r c.stepped.result c.steps.invariant.3 ties h.1
     (ap (λ (z : Stage _). next_of (stage_of z)) c.steps.invariant.2 ∙ c.requires.due)
     (subst (λ (z : Stage _). z ≡ stage.Closing → ⊥) (sym c.steps.invariant.2) c.requires.open) c.requires.small)
