@@ -56,19 +56,12 @@ fn gates_on<V: Value>(
     ensures own { HasOwn table.now seat.new actor.new bases.new.items }
     ensures wants { OnErr result ((d : Option (Made V)) → WantsBy (opening_of table.now) seat.old seat.new d) }
 {
-    'gates: loop {
-        match gate_to_try(actor) {
-            Some(k) => match try_next(table, seat, actor, bases, said, k) {
-                Ok(quiet) => {
-                    if !quiet {
-                        return Ok(false);
-                    }
-                }
-                Err(_) => return Err(Memory),
-            },
-            None => return Ok(true),
+    while let Some(k) = gate_to_try(actor) {
+        if !try_next(table, seat, actor, bases, said, k)? {
+            return Ok(false);
         }
     }
+    Ok(true)
 }
 
 /// Whether the first value store is next.
@@ -139,16 +132,12 @@ fn homes_on<V: Value>(
     ensures ties { Ties table.now seat.new actor.new }
     ensures own { HasOwn table.now seat.new actor.new bases.new.items }
 {
-    'homes: loop {
-        match home_to_put(actor) {
-            Some(k) => {
-                if !home_next(table, seat, actor, bases, said, k) {
-                    return false;
-                }
-            }
-            None => return true,
+    while let Some(k) = home_to_put(actor) {
+        if !home_next(table, seat, actor, bases, said, k) {
+            return false;
         }
     }
+    true
 }
 
 /// The steps of a commit, in their order: whether none of them answered. The last one answers that the transaction has committed, so where

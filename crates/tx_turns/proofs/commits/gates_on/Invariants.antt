@@ -6,10 +6,10 @@ use Rattle.tx_turns.specs.Ties.{Ties}
 use Rattle.tx_turns.specs.Own.{HasOwn}
 use Rattle.tx_turns.proofs.commits.gates_on.Given as goal
 
-abbrev pub invariant-gates : goal.invariant-gates
-invariant-gates g l =
+abbrev pub invariant-loop-k : goal.invariant-loop-k
+invariant-loop-k g l =
     Ties l.table l.seat l.actor × HasOwn l.table l.seat l.actor l.bases.items
     × LeadsAll (opening_of l.table) l.initial.seat l.seat told.Quiet
 
-abbrev pub decreases-gates : goal.decreases-gates
-decreases-gates g l = left_of (acts (opening_of l.table) l.seat) (actor l.seat)
+abbrev pub decreases-loop-k : goal.decreases-loop-k
+decreases-loop-k g l = left_of (acts (opening_of l.table) l.seat) (actor l.seat)

@@ -6,7 +6,7 @@ use Rattle.tx_table.specs.Seated.{opening_of}
 use Rattle.tx_turns.specs.Own.{HasOwn}
 use Rattle.tx_turns.proofs.DrivenLemmas.{driven_first, driven_on}
 use Rattle.tx_turns.proofs.StraightLemmas.{latest_none}
-use Rattle.tx_turns.specs.Driven.{Driven, told_in}
+use Rattle.tx_turns.specs.Driven.{Driven}
 use Rattle.tx_turns.proofs.driving.close_through.Goals as goal
 
 pub finish_after-requires-clause-own : goal.finish_after-requires-clause-own
