@@ -7,13 +7,16 @@ use Rattle.seq_model.specs.declared.held.Held.{Held}
 use Rattle.tx_handles.specs.declared.gates.Gates.{Gates}
 use Rattle.tx_handles.specs.declared.gates.TheConstants.{MIX, SPREAD}
 
--- the first round, and the hash of a key
+-- the first round, with its high half added to it, and the hash of a key
 unfoldable pub spread_of : ℕ → ℕ → ℕ
 spread_of seed key = (key + seed) % 18446744073709551616 * SPREAD % 18446744073709551616
 
+unfoldable pub mixed_of : ℕ → ℕ → ℕ
+mixed_of seed key = (spread_of seed key + spread_of seed key / 4294967296) % 18446744073709551616
+
 unfoldable pub hash_of : ℕ → ℕ → ℕ
 hash_of seed key =
-    (spread_of seed key + spread_of seed key / 4294967296) % 18446744073709551616 * MIX % 18446744073709551616 / 4294967296
+    mixed_of seed key * ((mixed_of seed key + MIX) % 18446744073709551616) % 18446744073709551616 / 4294967296
 
 -- which of the collections has the key, counted from 0
 unfoldable pub place_of : Gates → ℕ → ℕ

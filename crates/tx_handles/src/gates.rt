@@ -12,8 +12,8 @@ use seq_model::{Held, Refusal};
 /// An odd number near 2 to the 64th over the golden ratio: products of neighbours with it are far from each other.
 pub const SPREAD: u64 = 11_400_714_819_323_198_485;
 
-/// Another odd number, for the second round.
-pub const MIX: u64 = 13_787_848_793_156_543_929;
+/// Another odd number, for the second round. Of several it is the one by which the first few keys lie most evenly.
+pub const MIX: u64 = 9_346_574_923_557_569_063;
 
 /// Collections of the table with consecutive numbers, and what the hash of a key starts from.
 #[derive(Clone, Copy)]
@@ -24,13 +24,15 @@ pub struct Gates {
     pub seed: u64,
 }
 
-#[tactic(auto, unfolding(crate::specs::Gates::hash_of, crate::specs::Gates::spread_of))]
+// The last product has the key in both factors. With a constant in one of them, keys at the same distance would have hashes at the same few
+// distances, and neighbours would be on one gate far more often than any two keys.
+#[tactic(auto, unfolding(crate::specs::Gates::hash_of, crate::specs::Gates::mixed_of, crate::specs::Gates::spread_of))]
 fn hash_of(seed: u64, key: u64) -> u64
     ensures { result ≡ hash_of seed key }
 {
     let spread = key.wrapping_add(seed).wrapping_mul(SPREAD);
     let mixed = spread.wrapping_add(spread / 0x1_0000_0000);
-    mixed.wrapping_mul(MIX) / 0x1_0000_0000
+    mixed.wrapping_mul(mixed.wrapping_add(MIX)) / 0x1_0000_0000
 }
 
 impl Gates {
