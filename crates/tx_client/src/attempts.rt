@@ -147,8 +147,8 @@ fn abort<V: Value>(table: &TxTable<V>, seat: &mut TxSeat<V>)
     resume(seat, table).abort();
 }
 
-/// Commits the transaction, or aborts it where its body returned an error. Where a call ended the transaction and the body went on, the
-/// answer is that call's refusal.
+/// Commits the transaction, or aborts it where its body returned an error. Where a call ended the transaction and the body continued,
+/// the answer is that call's refusal.
 fn finish<V: Value, T: Drop, E: Drop>(
     table: &TxTable<V>,
     seat: &mut TxSeat<V>,

@@ -16,7 +16,7 @@ use tx_table::TxTable;
 /// What a call may be refused as:
 ///
 /// - `NoSuch`, by a handle of a store with another number, of another kind, or beyond the layout, and for a change in a `look`; `TooLong`,
-///   beyond 4,096 calls, or more locations than a transaction may read or write. The transaction is unchanged, and may go on.
+///   beyond 4,096 calls, or more locations than a transaction may read or write. The transaction is unchanged, and may continue.
 /// - `Moved`, `Stale` or `GateBusy`: another transaction stood in the way. `Memory`: an allocation failed. The transaction has ended and
 ///   has changed nothing; each later call is refused, and the body's caller gets this refusal.
 ///
