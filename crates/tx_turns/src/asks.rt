@@ -49,7 +49,11 @@ pub fn ask_abort<V: Value>(table: &TxTable<V>, seat: &mut Seat<V>, actor: &mut T
 }
 
 /// An allocation fails for the request under way. A begin is refused at once; any other is aborted for it, up to its first value store.
-pub(crate) fn starve<V: Value>(table: &TxTable<V>, seat: &mut Seat<V>, actor: &mut TxActor<V>) -> Told<V>
+pub(crate) fn starve<V: Value>(
+    table: &TxTable<V>,
+    seat: &mut Seat<V>,
+    actor: &mut TxActor<V>,
+) -> Told<V>
     requires ties { Ties table.now seat.old actor.old }
     ensures starved { Starved (opening_of table.now) seat.old seat.new result }
     ensures ties { Ties table.now seat.new actor.new }
