@@ -1,4 +1,4 @@
-//! Sets of the actors of a script, by their places among its programs.
+//! Sets of the actors of a script, by the index of their programs.
 
 /// A script to be explored has at most so many actors.
 pub const ACTOR_LIMIT: usize = 8;
@@ -16,13 +16,13 @@ impl Actors {
         }
     }
 
-    pub(crate) fn has(&self, place: usize) -> bool {
-        self.among.get(place).copied().unwrap_or(false)
+    pub(crate) fn has(&self, index: usize) -> bool {
+        self.among.get(index).copied().unwrap_or(false)
     }
 
-    pub(crate) fn add(&mut self, place: usize) {
-        if place < ACTOR_LIMIT {
-            self.among[place] = true;
+    pub(crate) fn add(&mut self, index: usize) {
+        if index < ACTOR_LIMIT {
+            self.among[index] = true;
         }
     }
 
@@ -31,9 +31,9 @@ impl Actors {
         if self.has(sooner) && !others.has(sooner) {
             return Some(sooner);
         }
-        for place in 0..ACTOR_LIMIT {
-            if self.has(place) && !others.has(place) {
-                return Some(place);
+        for index in 0..ACTOR_LIMIT {
+            if self.has(index) && !others.has(index) {
+                return Some(index);
             }
         }
         None

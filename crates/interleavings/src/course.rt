@@ -14,7 +14,7 @@ struct Standing {
     next: usize,
 }
 
-/// How far all have come. An actor is named by the place of its program; one that has none asks nothing.
+/// How far all have come. An actor is named by the index of its program; one that has none asks nothing.
 #[derive(Drop)]
 pub(crate) struct Course<'a> {
     programs: &'a [Program],
@@ -43,30 +43,30 @@ impl<'a> Course<'a> {
     }
 
     /// The number of the actor; 0 where there is none.
-    pub(crate) fn actor(&self, place: usize) -> u32 {
-        match self.programs.get(place) {
+    pub(crate) fn actor(&self, index: usize) -> u32 {
+        match self.programs.get(index) {
             Some(program) => program.actor,
             None => 0,
         }
     }
 
     /// The next request of the actor, which is asked now; none at the end of its program.
-    pub(crate) fn next_request(&mut self, place: usize) -> Result<Option<Request<u64>>, Memory> {
-        let Standing { unwritten, next } = self.standing(place);
-        let Some(request) = self.request(place, next)? else {
+    pub(crate) fn next_request(&mut self, index: usize) -> Result<Option<Request<u64>>, Memory> {
+        let Standing { unwritten, next } = self.standing(index);
+        let Some(request) = self.request(index, next)? else {
             return Ok(None);
         };
         let next = next.saturating_add(1);
-        self.stand(place, Standing { unwritten, next });
+        self.stand(index, Standing { unwritten, next });
         Ok(Some(request))
     }
 
     /// The actor takes a step.
-    pub(crate) fn step(&mut self, place: usize) -> Result<(), Memory> {
-        let actor = self.actor(place);
+    pub(crate) fn step(&mut self, index: usize) -> Result<(), Memory> {
+        let actor = self.actor(index);
         if !self.lines.goes_on(actor) {
             self.lines.interrupt()?;
-            let asked = self.write_asked(place)?;
+            let asked = self.write_asked(index)?;
             self.lines.begin(actor, asked);
         }
         self.lines.step();
@@ -78,14 +78,14 @@ impl<'a> Course<'a> {
         self.lines.answer()
     }
 
-    /// The last step refused the request of this actor, and so ended the transaction: the actor goes on with its next one.
-    pub(crate) fn refuse(&mut self, place: usize) -> Result<(), Memory> {
+    /// The last step refused the request of this actor, and so ended the transaction: the actor continues with its next one.
+    pub(crate) fn refuse(&mut self, index: usize) -> Result<(), Memory> {
         self.lines.answer()?;
-        let next = match self.programs.get(place) {
-            Some(program) => program.next_begin(self.standing(place).next),
+        let next = match self.programs.get(index) {
+            Some(program) => program.next_begin(self.standing(index).next),
             None => 0,
         };
-        self.stand_at(place, next);
+        self.stand_at(index, next);
         Ok(())
     }
 
@@ -93,15 +93,15 @@ impl<'a> Course<'a> {
     pub(crate) fn into_lines(self) -> Result<Vec<EventLine>, Memory> {
         let mut course = self;
         course.lines.interrupt()?;
-        for place in 0..course.programs.len() {
-            let end = course.standing(place).next;
-            course.write_up_to(place, end)?;
+        for index in 0..course.programs.len() {
+            let end = course.standing(index).next;
+            course.write_up_to(index, end)?;
         }
         Ok(course.lines.into_lines())
     }
 
-    fn standing(&self, place: usize) -> Standing {
-        match self.standings.get(place) {
+    fn standing(&self, index: usize) -> Standing {
+        match self.standings.get(index) {
             Some(standing) => *standing,
             None => Standing {
                 unwritten: 0,
@@ -110,20 +110,20 @@ impl<'a> Course<'a> {
         }
     }
 
-    fn stand(&mut self, place: usize, standing: Standing) {
-        if place < self.standings.len() {
-            self.standings[place] = standing;
+    fn stand(&mut self, index: usize, standing: Standing) {
+        if index < self.standings.len() {
+            self.standings[index] = standing;
         }
     }
 
     /// All requests before this one are written.
-    fn stand_at(&mut self, place: usize, next: usize) {
+    fn stand_at(&mut self, index: usize, next: usize) {
         let unwritten = next;
-        self.stand(place, Standing { unwritten, next });
+        self.stand(index, Standing { unwritten, next });
     }
 
-    fn request(&self, place: usize, at: usize) -> Result<Option<Request<u64>>, Memory> {
-        let Some(program) = self.programs.get(place) else {
+    fn request(&self, index: usize, at: usize) -> Result<Option<Request<u64>>, Memory> {
+        let Some(program) = self.programs.get(index) else {
             return Ok(None);
         };
         match program.requests.get(at) {
@@ -133,21 +133,21 @@ impl<'a> Course<'a> {
     }
 
     /// Writes the requests that were asked since the actor's last step, but for the last of them: the steps that follow are its.
-    fn write_asked(&mut self, place: usize) -> Result<Option<Request<u64>>, Memory> {
-        let Standing { unwritten, next } = self.standing(place);
+    fn write_asked(&mut self, index: usize) -> Result<Option<Request<u64>>, Memory> {
+        let Standing { unwritten, next } = self.standing(index);
         if unwritten >= next {
             return Ok(None);
         }
         let last = next - 1;
-        self.write_up_to(place, last)?;
-        self.stand_at(place, next);
-        self.request(place, last)
+        self.write_up_to(index, last)?;
+        self.stand_at(index, next);
+        self.request(index, last)
     }
 
-    fn write_up_to(&mut self, place: usize, end: usize) -> Result<(), Memory> {
-        let actor = self.actor(place);
-        for at in self.standing(place).unwritten..end {
-            if let Some(request) = self.request(place, at)? {
+    fn write_up_to(&mut self, index: usize, end: usize) -> Result<(), Memory> {
+        let actor = self.actor(index);
+        for at in self.standing(index).unwritten..end {
+            if let Some(request) = self.request(index, at)? {
                 self.lines.answered_at_once(actor, request)?;
             }
         }

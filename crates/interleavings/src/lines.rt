@@ -31,7 +31,7 @@ impl Lines {
         }
     }
 
-    /// Whether the next step of this actor goes on with the last steps.
+    /// Whether the next step of this actor continues the last steps.
     pub(crate) fn goes_on(&self, actor: u32) -> bool {
         match &self.last {
             Some(segment) => segment.actor == actor && segment.steps < STEP_LIMIT,
@@ -81,7 +81,7 @@ impl Lines {
         Ok(())
     }
 
-    /// No step follows that goes on with the last ones.
+    /// No step follows that continues the last ones.
     pub(crate) fn interrupt(&mut self) -> Result<(), Memory> {
         if let Some(segment) = mem::replace(&mut self.last, None) {
             let Segment {

@@ -4,10 +4,10 @@ use crate::exploring::Schedules;
 use seq_model::Memory;
 use std::alloc::Global;
 
-/// What is tried at one place of a schedule.
+/// What is tried as one step of a schedule.
 #[derive(Clone, Copy)]
 pub(crate) struct Choice {
-    /// The place of the actor that takes the step.
+    /// The actor that takes the step, by the index of its program.
     pub chosen: usize,
     /// The actors that have a step.
     pub ready: Actors,

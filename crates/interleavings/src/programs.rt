@@ -107,11 +107,11 @@ impl Program {
         Ok(true)
     }
 
-    /// The place of the next begin, from this place on; the end where there is none.
+    /// The index of the next begin, from this index on; the end where there is none.
     pub(crate) fn next_begin(&self, from: usize) -> usize {
-        for place in from..self.requests.len() {
-            if let Request::Begin | Request::BeginRead = &self.requests[place] {
-                return place;
+        for index in from..self.requests.len() {
+            if let Request::Begin | Request::BeginRead = &self.requests[index] {
+                return index;
             }
         }
         self.requests.len()
