@@ -68,8 +68,8 @@ pub fn explore_script<P: ExploreProgress>(
     let mut found = Exploration::new(alloc);
     let mut path = Path::new(alloc, schedules);
     for run in 0..most {
-        let lines = run_along(alloc, script, programs.as_slice(), &mut path)?;
-        found.count(alloc, script, programs.as_slice(), lines)?;
+        let made = run_along(alloc, script, programs.as_slice(), &mut path)?;
+        found.count(alloc, script, programs.as_slice(), made)?;
         progress.tried(run + 1, most);
         if !path.turn()? {
             found.is_complete = true;

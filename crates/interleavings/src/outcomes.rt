@@ -5,7 +5,11 @@ ghost use Rattle.interleavings.specs.Explorations.{HasHeaderOf, IsCounted, IsOut
 ghost use Rattle.interleavings.specs.Faults.{IsScriptFault};
 
 use crate::keys::key_of;
+use crate::order::{Order, RunStep};
 use crate::programs::Program;
+use crate::running::lines_along;
+use crate::shortest::shortest_schedule;
+use crate::walk::Run;
 use seq_model::{Items, Memory};
 use session_text::{RunFault, ScriptRun, audit_run, print_trace, run_script};
 use std::alloc::Global;
@@ -13,7 +17,7 @@ use text_formats::{Collection, EventLine, Script};
 
 /// An outcome.
 pub struct Outcome {
-    /// The shortest script that was run and has led to it.
+    /// The shortest script that leads to it, of the runs that have and those that are alike.
     pub script: Script,
     /// The run of this script.
     pub run: ScriptRun,
@@ -66,7 +70,7 @@ impl Exploration {
         }
     }
 
-    /// One more run came to this outcome.
+    /// One more run resulted in this outcome.
     fn add(&mut self, found: Outcome) -> Result<(), Memory>
         requires { found.count ≡ 1 }
         ensures runs { OnOk result (self.new.interleavings ≤ self.old.interleavings + 1) }
@@ -75,20 +79,20 @@ impl Exploration {
             → All (IsOutcomeOf script) self.new.outcomes.items) }
     {
         self.interleavings = self.interleavings.saturating_add(1);
-        match self.place_of(found.key.as_slice()) {
-            Some(place) => self.outcomes[place].join(found),
+        match self.index_of(found.key.as_slice()) {
+            Some(index) => self.outcomes[index].join(found),
             None => self.outcomes.push(found)?,
         }
         Ok(())
     }
 
-    /// One more run, which came to its end by these lines, or was broken off.
+    /// One more run, or none where it was broken off.
     pub(crate) fn count(
         &mut self,
         alloc: Global,
         header: &Script,
         programs: &[Program],
-        lines: Option<Vec<EventLine>>,
+        made: Option<Run>,
     ) -> Result<(), RunFault>
         ensures runs { OnOk result (self.new.interleavings ≤ self.old.interleavings + 1) }
         ensures counted { OnOk result (IsCounted self.old → self.old.interleavings + 1 < 2 ^ 64 → IsCounted self.new) }
@@ -96,17 +100,29 @@ impl Exploration {
             → All (IsOutcomeOf header.now) self.new.outcomes.items) }
         ensures refused { IfErr result (IsScriptFault header.now) }
     {
-        let Some(lines) = lines else {
+        let Some(made) = made else {
             return Ok(());
         };
+        let Run { lines, steps } = made;
         let outcome = outcome_of(alloc, header, programs, lines)?;
-        self.add(outcome)?;
+        let limit = self.fewest_step_lines(&outcome);
+        let shortest = shortened(alloc, header, programs, outcome, steps.as_slice(), limit)?;
+        self.add(shortest)?;
         Ok(())
     }
 
-    /// The place of the outcome that this distinguishes.
-    pub fn place_of(&self, key: &[u8]) -> Option<usize>
-        ensures { IfSome result (λ place. place < length self.now.outcomes.items) }
+    /// The fewest lines of steps of a script that has led to this outcome, this run's among them.
+    fn fewest_step_lines(&self, found: &Outcome) -> usize {
+        let own = found.step_lines();
+        match self.index_of(found.key.as_slice()) {
+            Some(index) => own.min(self.outcomes[index].step_lines()),
+            None => own,
+        }
+    }
+
+    /// The index of the outcome that this distinguishes.
+    pub fn index_of(&self, key: &[u8]) -> Option<usize>
+        ensures { IfSome result (λ index. index < length self.now.outcomes.items) }
     {
         self.outcomes
             .iter()
@@ -131,6 +147,53 @@ impl Outcome {
             self.script = script;
             self.run = run;
         }
+    }
+
+    /// Whether it is the same outcome, of a shorter script.
+    fn is_shorter(&self, other: &Outcome) -> bool {
+        self.key.as_slice() == other.key.as_slice()
+            && self.script.lines.len() < other.script.lines.len()
+    }
+
+    /// How many lines of its script are steps alone.
+    fn step_lines(&self) -> usize {
+        let lines = self.script.lines.as_slice();
+        lines.iter().filter(|line| is_of_steps(*line)).count()
+    }
+}
+
+fn is_of_steps(line: &EventLine) -> bool {
+    matches!(line, EventLine::Steps(_, _))
+}
+
+/// The outcome of a run of these steps, with the shortest script of all runs that are alike where that has fewer lines of steps than this.
+fn shortened(
+    alloc: Global,
+    header: &Script,
+    programs: &[Program],
+    outcome: Outcome,
+    steps: &[RunStep],
+    limit: usize,
+) -> Result<Outcome, RunFault>
+    requires outcome { IsOutcomeOf header.now outcome }
+    requires one { outcome.count ≡ 1 }
+    ensures outcome { IfOk result (IsOutcomeOf header.now) }
+    ensures one { IfOk result (λ shortest. shortest.count ≡ 1) }
+    ensures refused { IfErr result (IsScriptFault header.now) }
+{
+    if limit == 0 {
+        return Ok(outcome);
+    }
+    let order = Order::new(alloc, steps)?;
+    let Some(schedule) = shortest_schedule(alloc, &order, limit)? else {
+        return Ok(outcome);
+    };
+    let lines = lines_along(alloc, header, programs, schedule.as_slice())?;
+    let other = outcome_of(alloc, header, programs, lines)?;
+    if other.is_shorter(&outcome) {
+        Ok(other)
+    } else {
+        Ok(outcome)
     }
 }
 

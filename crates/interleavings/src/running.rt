@@ -1,23 +1,23 @@
-//! One run along a schedule, and beyond its end.
+//! Runs along a schedule, or along its beginning.
 ghost use Rattle.std.specs.Prelude.{IfErr};
 ghost use Rattle.session_text.specs.Scripts.{IsRefusedScript};
 
 use crate::actors::Actors;
 use crate::paths::{Choice, Path};
 use crate::programs::Program;
-use crate::walk::Walk;
+use crate::walk::{Run, Walk};
 use seq_model::Refusal;
 use std::alloc::Global;
 use text_formats::{EventLine, Script};
 
-/// Runs the programs along the path, and then goes on until no actor has a step, with the same actor where it may; what is chosen is
-/// added to the path. The lines that lead to the end, or none where the run was broken off, since all actors with a step sleep.
+/// Runs the programs along the path, and then continues until no actor has a step, with the same actor where it may; what is chosen is
+/// added to the path. None where the run was broken off, since all actors with a step sleep.
 pub(crate) fn run_along(
     alloc: Global,
     script: &Script,
     programs: &[Program],
     path: &mut Path,
-) -> Result<Option<Vec<EventLine>>, Refusal>
+) -> Result<Option<Run>, Refusal>
     ensures refused { IfErr result (IsRefusedScript script.now) }
 {
     let has_sleep = path.has_sleep();
@@ -47,7 +47,24 @@ pub(crate) fn run_along(
     if !walk.ready().is_empty() {
         return Ok(None);
     }
-    Ok(Some(walk.into_lines()?))
+    Ok(Some(walk.into_run()?))
+}
+
+/// The lines of the run along this schedule.
+pub(crate) fn lines_along(
+    alloc: Global,
+    script: &Script,
+    programs: &[Program],
+    schedule: &[usize],
+) -> Result<Vec<EventLine>, Refusal>
+    ensures refused { IfErr result (IsRefusedScript script.now) }
+{
+    let mut walk = Walk::open(alloc, script, programs)?;
+    for actor in schedule {
+        walk.take(*actor)?;
+    }
+    let Run { lines, steps: _ } = walk.into_run()?;
+    Ok(lines)
 }
 
 /// Who sleeps once the chosen step is taken.

@@ -47,7 +47,7 @@ fn is_replay(alloc: Global, told: &str, script: &str) -> Result<bool, RunFault> 
 }
 
 /// How many outcomes and interleavings the script's exploration has, and how many one under all schedules; and how many outcomes of the
-/// one the other has.
+/// one the other has, and by no shorter script.
 pub fn print_beside_all(text: &mut String, script: &str) -> Result<(), RunFault> {
     let alloc = *text.allocator();
     let script = parse_steps(alloc, script.as_bytes())?;
@@ -58,7 +58,7 @@ pub fn print_beside_all(text: &mut String, script: &str) -> Result<(), RunFault>
     Ok(())
 }
 
-// How many outcomes were found, and how many of them the other has.
+// How many outcomes were found, how many of them the other has, and how many of these by no shorter script.
 fn print_found(
     text: &mut String,
     name: &str,
@@ -66,17 +66,22 @@ fn print_found(
     other: &Exploration,
 ) -> Result<(), Memory> {
     let mut shared = 0u64;
+    let mut shortest = 0u64;
     for outcome in found.outcomes.as_slice() {
-        if other.place_of(outcome.key.as_slice()).is_some() {
+        if let Some(index) = other.index_of(outcome.key.as_slice()) {
             shared = shared.saturating_add(1);
+            if outcome.script.lines.len() <= other.outcomes[index].script.lines.len() {
+                shortest = shortest.saturating_add(1);
+            }
         }
     }
     let outcomes = found.outcomes.len();
     let interleavings = found.interleavings;
     let complete = if found.is_complete { "yes" } else { "no" };
-    writeln!(
+    write!(
         text,
-        "{name}: outcomes {outcomes} shared {shared} interleavings {interleavings} complete {complete}"
+        "{name}: outcomes {outcomes} shared {shared} shortest {shortest} "
     )?;
+    writeln!(text, "interleavings {interleavings} complete {complete}")?;
     Ok(())
 }
