@@ -8,17 +8,34 @@ use std::alloc::Global;
 
 const STRIPES: u32 = 2;
 
+/// The other changes.
+pub const CHANGES: &[Change<u64>] = &[
+    Change::Remove(1),
+    Change::Add(5),
+    Change::Take(5),
+    Change::SetLeast(None),
+    Change::Enqueue(0, 8),
+    Change::Dequeue(0),
+];
+
 pub fn call(alloc: Global) -> Result<(), Refusal> {
-    let new = Base::<u64>::new(alloc, STRIPES, Kind::Map).is_ok();
+    let edition = edition_of_new(alloc)?;
     let mut base = Base::open(alloc, STRIPES, held_of_one(alloc, Kind::Map)?)?;
     let replayed = call_base(alloc, &mut base).is_ok();
     let copied = call_shadow(alloc, &base).is_ok();
     let noted = call_memo(alloc, &base).is_ok();
     drop(base);
     let mut log = Log::new(alloc);
-    let pushed = push_all(&mut log, &LocSet::single(alloc, 1)).is_ok();
+    let pushed = call_log(&mut log, &LocSet::single(alloc, 1)).is_ok();
     drop(log);
-    ensure(new && replayed && copied && noted && pushed)
+    ensure(edition == 0 && replayed && copied && noted && pushed)
+}
+
+fn edition_of_new(alloc: Global) -> Result<u64, Refusal> {
+    let base = Base::<u64>::new(alloc, STRIPES, Kind::Map)?;
+    let edition = base.edition(1);
+    drop(base);
+    Ok(edition)
 }
 
 fn call_base(alloc: Global, base: &mut Base<u64>) -> Result<(), Refusal> {
@@ -35,15 +52,9 @@ fn call_base(alloc: Global, base: &mut Base<u64>) -> Result<(), Refusal> {
     ensure(reads && writes && changes && held)
 }
 
-fn push_all(log: &mut Log<u64>, at: &LocSet) -> Result<(), Memory> {
-    log.reserve(7)?;
-    log.push(Change::Put(1, 10), at)?;
-    log.push(Change::Remove(1), at)?;
-    log.push(Change::Add(5), at)?;
-    log.push(Change::Take(5), at)?;
-    log.push(Change::SetLeast(None), at)?;
-    log.push(Change::Enqueue(0, 8), at)?;
-    log.push(Change::Dequeue(0), at)
+fn call_log(log: &mut Log<u64>, at: &LocSet) -> Result<(), Memory> {
+    log.reserve(1)?;
+    log.push(Change::Put(1, 10), at)
 }
 
 fn call_shadow(alloc: Global, base: &Base<u64>) -> Result<(), Refusal> {

@@ -1,14 +1,22 @@
 //! Values of types that have few or no calls, by the names of their variants and fields. That this is compiled is what it is for.
-use conflict::Note;
-use replay_log::{Touch, Touched};
-use seq_model::{Answer, AuditFault, Call, Event, Items, Notice, Record, Refusal, Reply, Request};
+use base_bag::BagBase;
+use base_map::MapBase;
+use base_pq::PqBase;
+use base_queue::QueueBase;
+use client_sessions::SharedCustomer;
+use conflict::{Note, Outcome};
+use replay_log::{Base, Touch, Touched};
+use seq_model::{AuditFault, Call, Items, Op, Record, Refusal, Reply};
 use session_text::Line;
 use step_core::{WordAnswer, WordRecord};
-use step_world::{Ended, Trace};
+use step_world::{Answer, Ended, Event, Notice, Request, Trace};
 use tx_engine::{Attempt, Receipt};
-use vac_model::{Action, ActionReply, Ask, Booking, Change, Item, Kind};
-use vacation_core::{Entry, Ordered, VacTrace};
-use workers::{LastAbort, Served};
+use vac_model::{
+    Action, ActionReply, Ask, Booking, Change, Changed, Customer, Each, Item, Kind, Part, Queue,
+    Ticket, Wait,
+};
+use vacation_core::{Entry, Ordered, VacEvent, VacTrace};
+use workers::{LastAbort, Report, Served};
 
 pub const REFUSALS: &[Refusal] = &[
     Refusal::Moved {
@@ -48,7 +56,13 @@ pub const FAULTS: &[AuditFault] = &[
 
 pub const NOTES: &[Note] = &[Note::Plain, Note::Least(Some(5)), Note::Index(1)];
 
-pub const TOUCHED: Touched<u64> = Touched::Copies(5, 1);
+pub const OUTCOME: Outcome<u64> = Outcome {
+    op: Op::Len,
+    reply: Reply::Number(1),
+    note: Note::Plain,
+};
+
+pub const TOUCHED: [Touched<u64>; 2] = [Touched::Entry(1, Some(10)), Touched::Copies(5, 1)];
 
 pub const REPLIES: &[Reply<u64>] = &[
     Reply::Done,
@@ -99,7 +113,7 @@ pub const GIVEN_UP: Attempt<u64> = Attempt::GivenUp;
 /// The actions that hold no list.
 pub const ACTIONS: [Action; 3] = [
     Action::Delete(7),
-    Action::QueryItem(Kind::Car, 1),
+    Action::QueryItem(Kind::Flight, 1),
     Action::QueryBill(7),
 ];
 
@@ -130,13 +144,49 @@ const ITEM: Item = Item {
     price: 50,
 };
 
-pub const ENTRY: Entry = Entry::Item(ITEM);
+/// A wait, and the ticket that stands for it.
+pub const WAIT: Wait = Wait {
+    kind: Kind::Room,
+    id: 1,
+    units: 2,
+    ticket: 0,
+};
 
-pub const ACTION_REPLIES: [ActionReply; 4] = [
+const TICKET: Ticket = Ticket {
+    customer: 7,
+    kind: Kind::Room,
+    id: 1,
+    units: 2,
+};
+
+/// The entries that hold no list.
+pub const ENTRIES: [Entry; 2] = [Entry::Item(ITEM), Entry::Ticket(TICKET)];
+
+pub const CHANGED: &[Changed] = &[Changed::Done, Changed::Refused];
+
+/// The replies that hold no list.
+pub const ACTION_REPLIES: [ActionReply; 6] = [
+    ActionReply::Reserved(Each {
+        car: Part::Nothing,
+        flight: Part::Already(1),
+        room: Part::Full(1),
+    }),
+    ActionReply::Reserved(Each {
+        car: Part::Booked(1, 2, 50),
+        flight: Part::NoFree(1),
+        room: Part::Waits(1, 0),
+    }),
     ActionReply::Deleted(50, 2),
     ActionReply::Found(ITEM),
     ActionReply::Bill(50),
     ActionReply::Absent,
+];
+
+/// What happens to a client's session.
+pub const CLIENT_EVENTS: [VacEvent; 3] = [
+    VacEvent::Start(1, Action::QueryBill(7)),
+    VacEvent::Step(1),
+    VacEvent::Starve(1),
 ];
 
 /// The lines of sessions with a receipt and without.
@@ -147,50 +197,106 @@ pub const LINES: [Line; 4] = [
     Line::Missed(LastAbort::NotStarted),
 ];
 
-/// An attempt that committed these calls, and actions that ask for these items and make these changes.
-pub fn of_lists(
-    calls: Items<(Call<u64>, Reply<u64>)>,
-    asks: Items<Ask>,
-    changes: Items<Change>,
-) -> (Attempt<u64>, [Action; 2]) {
+/// An attempt that committed these calls.
+pub fn committed(calls: Items<(Call<u64>, Reply<u64>)>) -> Attempt<u64> {
     let receipt: Receipt<u64> = Record {
         number: 1,
         writes: true,
         calls,
     };
-    let actions = [Action::Reserve(7, 1, asks), Action::Update(changes)];
-    (Attempt::Committed(receipt), actions)
+    Attempt::Committed(receipt)
 }
 
-/// What a record of words and a transaction that was aborted have.
-pub fn ended(
+/// Actions that ask for these items and make these changes, and what the second one answers.
+pub fn actions(
+    asks: Items<Ask>,
+    changes: Items<Change>,
+    changed: Items<Changed>,
+) -> ([Action; 2], ActionReply) {
+    let actions = [Action::Reserve(7, 1, asks), Action::Update(changes)];
+    (actions, ActionReply::Updated(changed))
+}
+
+/// A customer, the entry of one, and how many keys stripes have.
+pub fn held(
+    bookings: Items<Booking>,
+    waits: Items<Wait>,
+    shared: SharedCustomer,
+    counts: Items<u64>,
+) -> (Customer, Entry, Touched<u64>) {
+    let customer = Customer { bookings, waits };
+    (customer, Entry::Customer(shared), Touched::Counts(counts))
+}
+
+pub fn bases(map: MapBase<u64>, bag: BagBase, pq: PqBase, queue: QueueBase) -> [Base<u64>; 4] {
+    [
+        Base::Map(map),
+        Base::Bag(bag),
+        Base::Pq(pq),
+        Base::Queue(queue),
+    ]
+}
+
+/// The fields of what transactions and calls leave.
+pub fn fields(
     record: &WordRecord,
     ended: &Ended<u64>,
-) -> ([u32; 2], [u64; 2], bool, bool, [usize; 2]) {
-    let actors = [record.actor, ended.actor];
-    let numbers = [record.number, ended.rv];
-    let calls = [record.calls.as_slice().len(), ended.calls.len()];
-    (actors, numbers, record.writes, ended.cause.is_some(), calls)
+    trace: &Trace<u64>,
+    touch: &Touch<u64>,
+    queue: &Queue,
+) {
+    let WordRecord {
+        actor: _,
+        number: _,
+        writes: _,
+        calls: _,
+    } = record;
+    let Ended {
+        actor: _,
+        rv: _,
+        calls: _,
+        cause: _,
+    } = ended;
+    let Trace {
+        records: _,
+        aborted: _,
+        state: _,
+        half: _,
+    } = trace;
+    let Touch {
+        editions: _,
+        held: _,
+    } = touch;
+    let Queue {
+        head: _,
+        tickets: _,
+    } = queue;
 }
 
-/// What is copied of a collection, and how long the lists are that runs leave.
-pub fn left<'a>(
-    touch: &'a Touch<u64>,
-    trace: &Trace<u64>,
-    sessions: &VacTrace,
+/// The fields of what sessions leave.
+pub fn session_fields(
+    trace: &VacTrace,
     ordered: &Ordered,
     served: &Served,
-) -> (&'a Touched<u64>, [usize; 8]) {
-    let Touch { editions: _, held } = touch;
-    let lengths = [
-        trace.records.len(),
-        trace.aborted.len(),
-        trace.state.words.len(),
-        trace.half.len(),
-        sessions.done.len(),
-        sessions.aborted.len(),
-        ordered.receipts.len(),
-        served.report.missed.len(),
-    ];
-    (held, lengths)
+    report: &Report<Entry>,
+) {
+    let VacTrace {
+        done: _,
+        aborted: _,
+        tables: _,
+        half: _,
+    } = trace;
+    let Ordered {
+        receipts: _,
+        state: _,
+    } = ordered;
+    let Served {
+        report: _,
+        tables: _,
+        state: _,
+    } = served;
+    let Report {
+        receipts: _,
+        missed: _,
+    } = report;
 }

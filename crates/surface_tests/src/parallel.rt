@@ -16,7 +16,7 @@ use workers::{Pause, Report, retry, run_workers};
 /// How often a job is attempted at most.
 const TRIES: u64 = 1_000;
 
-/// Writes this number to word 0. Where there is none, it gives up at once.
+/// Writes this number to word 0. Where there is none, it aborts at once.
 #[derive(Drop)]
 struct Write0 {
     number: Option<u64>,
@@ -48,7 +48,7 @@ impl Pause for Unheld {
     fn after_receipt(&self, _worker: u64, _number: u64) {}
 }
 
-/// Two workers run a job each, and then a job that gives up is attempted.
+/// Two workers run a job each, and then a job that aborts is attempted.
 pub fn call_jobs<R: Threads + Wait + Sync, V: Value + Send + Sync>(
     rt: &R,
     alloc: Global,

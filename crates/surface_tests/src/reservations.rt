@@ -1,15 +1,20 @@
 //! Reservations: the tables, sessions of many clients, of one client, and of workers.
+ghost use Rattle.std.specs.Prelude.{◌≡◌};
+ghost use Rattle.seq_model.specs.Programs.{after, asked, replies_of};
+ghost use Rattle.seq_model.specs.declared.job.Ask.TheVariants as ask;
 ghost use Rattle.vac_model.specs.Balanced.{IsBalanced};
+ghost use Rattle.client_sessions.specs.Sessions as programs;
 
 use crate::parallel::Unheld;
 use crate::rows::ensure;
-use seq_model::Refusal;
+use seq_model::{Memory, Refusal};
 use session_text::parse_sessions;
 use std::alloc::Global;
 use std::sync::Wait;
 use std::thread::Threads;
-use vac_model::{Action, Each, Kind, Queue, Tables};
-use vacation_core::{Session, VacEvent, VacWorld, run_in_order, state_of, tables_of};
+use tx_engine::{Job, Receipt};
+use vac_model::{Action, ActionReply, Each, Kind, Queue, Tables};
+use vacation_core::{Entry, Session, VacWorld, run_in_order, state_of, tables_of};
 use workers::serve;
 
 const STRIPES: u32 = 64;
@@ -20,18 +25,13 @@ const TRIES: u64 = 1_000;
 /// Car 1 with one unit at 50, which customer 7 books.
 const SESSIONS: &[u8] = b"have car 1 1 50\nreserve 7 car 1\n";
 
-/// A session that is only begun.
-const EVENTS: [VacEvent; 2] = [VacEvent::Start(1, Action::QueryBill(7)), VacEvent::Step(1)];
-
 pub fn call<R: Threads + Wait + Sync>(rt: &R, alloc: Global) -> Result<(), Refusal> {
     let (mut tables, actions) = parse_sessions(alloc, SESSIONS)?;
     let called = call_tables(alloc, &mut tables, actions.as_slice());
     drop(tables);
-    drop(actions);
-    called?;
-    call_new(alloc)?;
-    call_runs(alloc)?;
-    call_served(rt, alloc)
+    let run = call_runs(alloc, actions.as_slice());
+    let served = call_served(rt, alloc, actions);
+    called.and(run).and(served).and(call_new(alloc))
 }
 
 fn call_tables(alloc: Global, tables: &mut Tables, actions: &[Action]) -> Result<(), Refusal>
@@ -41,11 +41,25 @@ fn call_tables(alloc: Global, tables: &mut Tables, actions: &[Action]) -> Result
         return Err(Refusal::NoSuch);
     };
     let acted = tables.act(action).is_ok();
-    let session = Session::new(alloc, action).is_ok();
+    let session = call_session(alloc, action).is_ok();
     let state = state_of(alloc, tables)?;
     let same = tables_of(alloc, &state).is_ok();
     drop(state);
     ensure(acted && session && same && is_read(tables))
+}
+
+fn call_session(alloc: Global, action: &Action) -> Result<(), Refusal> {
+    let session = Session::new(alloc, action)?;
+    let asked = session.ask(&[]).is_ok();
+    drop(session);
+    ensure(asked)
+}
+
+/// What a session answered in a receipt of its own.
+pub fn reply(session: &Session, receipt: &Receipt<Entry>) -> Result<ActionReply, Memory>
+    requires { asked (after (programs.session session.now) (replies_of receipt.now.calls)) ≡ ask.Done }
+{
+    session.reply(receipt)
 }
 
 fn is_read(tables: &Tables) -> bool {
@@ -58,7 +72,6 @@ fn is_read(tables: &Tables) -> bool {
 }
 
 fn call_new(alloc: Global) -> Result<(), Refusal> {
-    drop(Tables::new(alloc));
     let waiting = Each {
         car: Queue::new(alloc),
         flight: Queue::new(alloc),
@@ -77,19 +90,19 @@ fn call_new(alloc: Global) -> Result<(), Refusal> {
     ensure(made.is_ok())
 }
 
-fn call_runs(alloc: Global) -> Result<(), Refusal> {
-    let (tables, actions) = parse_sessions(alloc, SESSIONS)?;
-    let ordered = run_in_order(alloc, tables, STRIPES, actions.as_slice()).is_ok();
-    drop(actions);
-    let (tables, actions) = parse_sessions(alloc, SESSIONS)?;
-    drop(actions);
-    let run = VacWorld::run(alloc, tables, STRIPES, &EVENTS).is_ok();
+fn call_runs(alloc: Global, actions: &[Action]) -> Result<(), Refusal> {
+    let ordered = run_in_order(alloc, Tables::new(alloc), STRIPES, actions).is_ok();
+    let run = VacWorld::run(alloc, Tables::new(alloc), STRIPES, &[]).is_ok();
     ensure(ordered && run)
 }
 
-fn call_served<R: Threads + Wait + Sync>(rt: &R, alloc: Global) -> Result<(), Refusal> {
-    let (tables, actions) = parse_sessions(alloc, SESSIONS)?;
+fn call_served<R: Threads + Wait + Sync>(
+    rt: &R,
+    alloc: Global,
+    actions: Vec<Action>,
+) -> Result<(), Refusal> {
     let lists = vec![in alloc; actions]?;
-    drop(serve(rt, alloc, tables, STRIPES, lists, TRIES, &Unheld)?);
-    Ok(())
+    let tables = Tables::new(alloc);
+    let served = serve(rt, alloc, tables, STRIPES, lists, TRIES, &Unheld).is_ok();
+    ensure(served)
 }

@@ -5,7 +5,7 @@ ghost use Rattle.tx_engine.specs.Ready.{IsReady};
 use crate::parallel::call_jobs;
 use crate::rows::{ensure, shape, state};
 use crate::typed::{call_bag, call_map, call_pq, call_queue, call_word};
-use seq_model::{Refusal, Value};
+use seq_model::{Kind, Refusal, Value};
 use std::alloc::Global;
 use std::sync::Wait;
 use std::thread::Threads;
@@ -50,12 +50,12 @@ fn call_table<V: Value>(table: &TxTable<V>, seat: &mut TxSeat<V>, value: V) -> R
     match table.block(0) {
         Some(
             Block {
-                kind: _,
+                kind: Kind::Map,
                 stripes,
                 first,
             },
         ) => ensure(written && read && learnt && is && stripes == 2 && first == 1),
-        None => Err(Refusal::NoSuch),
+        _ => Err(Refusal::NoSuch),
     }
 }
 

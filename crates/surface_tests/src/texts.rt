@@ -1,12 +1,12 @@
-//! Step scripts, session files and what is drawn: how they are read, and what is printed.
-use crate::names::LINES;
+//! Step scripts and what is drawn: how they are read, and what is printed.
 use crate::rows::ensure;
 use seq_model::Refusal;
 use session_text::{
-    Options, generate, opening, parse_sessions, parse_steps, print_sessions, print_trace,
+    Options, Script, ScriptRun, generate, opening, parse_steps, print_sessions, print_trace,
     run_script,
 };
 use std::alloc::Global;
+use vac_model::Tables;
 
 /// What sessions and tables are drawn from.
 const SEED: u64 = 3;
@@ -15,8 +15,8 @@ const SCRIPT: &[u8] = b"map 1\n1 do begin\n1 do call 0 put 5 50\n1 do call 0 get
 
 pub fn call(alloc: Global) -> Result<(), Refusal> {
     call_sessions(alloc)?;
-    let script = parse_steps(alloc, SCRIPT)?;
-    let run = run_script(alloc, &script)?;
+    let script: Script = parse_steps(alloc, SCRIPT)?;
+    let run: ScriptRun = run_script(alloc, &script)?;
     let printed = print_trace(alloc, &run).is_ok();
     let opened = run.opening.held().len();
     let committed = run.trace.records.len();
@@ -24,9 +24,8 @@ pub fn call(alloc: Global) -> Result<(), Refusal> {
 }
 
 fn call_sessions(alloc: Global) -> Result<(), Refusal> {
-    let (tables, actions) = parse_sessions(alloc, b"have car 1 1 50\ndelete 7\n")?;
-    drop(actions);
-    let printed = print_sessions(alloc, &LINES, &tables).is_ok();
+    let tables = Tables::new(alloc);
+    let printed = print_sessions(alloc, &[], &tables).is_ok();
     drop(tables);
     let options = Options {
         clients: 1,
