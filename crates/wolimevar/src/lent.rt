@@ -162,7 +162,7 @@ impl<V: Value> LentClient<V> {
         }
     }
 
-    /// Serves a session, and goes home with its receipts.
+    /// Serves a session, and is put back with its receipts.
     pub(crate) fn serve<N: Session<V> + Drop>(self, session: N) -> N::Out
         requires new { self.receipts ≡ [] }
         ensures served { (receipts : _) × N.serves session result receipts }

@@ -1,7 +1,7 @@
 //! A session that a lent client serves in a thread of its own.
 //!
 //! The thread owns the client and the session. What the session returned comes back by the thread's handle, which carries the promise that
-//! the session serves so; the client goes home.
+//! the session serves so; the client is put back.
 ghost use Rattle.std.specs.Prelude.{◌≡◌, []};
 
 use crate::lent::LentClient;
