@@ -10,9 +10,9 @@
 //!    of the store.
 //! 4. [`Store::run`] serves a list of [`Session`]s, each in a thread of its own with a [`Client`]. A client runs bodies:
 //!    [`Client::atomically`] attempts a body until it commits, and [`Client::look`] does so with one that only reads. Each commit returns its
-//!    [`Receipt`]: the transaction's number in commit order, and its calls with their replies. Outside of `run`, the store runs bodies itself.
-//!    For threads of one's own there is [`Store::lend`]: a [`Lender`] starts them one by one ([`Lender::spawn`]), and hands out
-//!    [`LentClient`]s, which go back when they are dropped.
+//!    [`Receipt`]: the transaction's number in commit order, and its calls with their replies ([`Call`], [`Op`], [`Reply`]). Outside of
+//!    `run`, the store runs bodies itself. For threads of one's own there is [`Store::lend`]: a [`Lender`] starts them one by one
+//!    ([`Lender::spawn`]), and hands out [`LentClient`]s, which are back once they are dropped.
 //! 5. [`Store::close`] returns the [`Contents`], read by the same handles.
 //!
 //! Answers are typed: `map.get(tx, key)?` is an `Option` of a value, `queue.dequeue(tx)?` an `Option<u64>`. A change that may find its
@@ -26,8 +26,9 @@
 //! A map holds values of any type that is a [`Value`]: numbers, `bool`, pairs, `Option`, [`Text`], [`Shared`], and structs of these by an
 //! `impl` of two functions.
 //!
-//! No function here asks its caller for anything that the types don't keep: no contract of a service has to mention transactions. A service
-//! that wants to prove something of its own defines `makes` of a body, and `serves` of a session.
+//! The types keep what a call needs, so no contract of a service has to mention transactions. Of all that a service calls only
+//! [`Counts::from_entries`] has a condition, that no count is 0; [`Counts::set_copies`] fills counts without one. A service that wants to
+//! prove something of its own defines `makes` of a body, and `serves` of a session.
 #![tactic(auto)]
 
 mod homes;
@@ -43,7 +44,9 @@ mod store;
 pub use layout::Layout;
 pub use lender::{Lender, StillLent};
 pub use lent::LentClient;
-pub use seq_model::{Counts, Entries, Failure, Full, Memory, QueueItems, Refusal, Value};
+pub use seq_model::{
+    Call, Counts, Entries, Failure, Full, Memory, Op, QueueItems, Refusal, Reply, Value,
+};
 pub use serving::Serving;
 pub use sessions::Session;
 pub use store::Store;
