@@ -4,14 +4,28 @@
 use std::alloc::Global;
 use std::thread::Threads;
 use wolimevar::{
-    Body, Client, Counts, Entries, Layout, Map, PriorityQueue, Queue, QueueItems, Refusal, Scope,
-    Session, Text, Transaction,
+    Body, Client, Counts, Entries, Layout, Map, Memory, PriorityQueue, Queue, QueueItems, Refusal,
+    Scope, Session, Text, Transaction, Value,
 };
 
-/// An account: its owner, and its balance.
-type Account = (Text, u64);
+#[derive(Drop)]
+struct Account {
+    owner: Text,
+    balance: u64,
+}
 
-/// The accounts by number, the transfers that were made, and the accounts that fell low.
+impl Value for Account {
+    fn try_copy(&self) -> Result<Account, Memory> {
+        let (owner, balance) = (self.owner.try_copy()?, self.balance);
+        Ok(Account { owner, balance })
+    }
+
+    fn same(&self, other: &Account) -> bool {
+        self.owner.same(&other.owner) && self.balance == other.balance
+    }
+}
+
+/// The accounts by number, the amounts transferred, and the accounts that were low.
 #[derive(Clone, Copy)]
 struct Bank {
     accounts: Map<Account>,
@@ -35,7 +49,6 @@ impl From<Refusal> for Declined {
 #[derive(Drop)]
 struct Transfer {
     bank: Bank,
-    id: u64,
     from: u64,
     to: u64,
     amount: u64,
@@ -48,65 +61,58 @@ impl Body<Account> for Transfer {
 
     fn run<S: Scope<Account>>(&self, tx: &mut Transaction<'_, Account, S>) -> Result<(), Declined> {
         let bank = self.bank;
-        let (owner, balance) = bank.accounts.get(tx, self.from)?.ok_or(Declined::Absent)?;
-        let left = balance.checked_sub(self.amount).ok_or(Declined::NoMoney)?;
-        if left < 60 && balance >= 60 {
-            bank.alerts.insert(tx, self.from)?.map_err(Refusal::from)?;
+        let Account { owner, balance } = bank.accounts.get(tx, self.from)?.ok_or(Declined::Absent)?;
+        let balance = balance.checked_sub(self.amount).ok_or(Declined::NoMoney)?;
+        if balance < 60 {
+            bank.alerts.insert(tx, self.from)?.map_err(Refusal::from)?; // refused where it is full
         }
-        bank.accounts.put(tx, self.from, (owner, left))?;
-        let (owner, balance) = bank.accounts.get(tx, self.to)?.ok_or(Declined::Absent)?;
-        let paid = balance.saturating_add(self.amount);
-        bank.accounts.put(tx, self.to, (owner, paid))?;
-        bank.audit.enqueue(tx, self.id)?.map_err(Refusal::from)?;
-        Ok(())
+        bank.accounts
+            .put(tx, self.from, Account { owner, balance })?;
+        let Account { owner, balance } = bank.accounts.get(tx, self.to)?.ok_or(Declined::Absent)?;
+        let balance = balance.saturating_add(self.amount);
+        bank.accounts.put(tx, self.to, Account { owner, balance })?;
+        Ok(bank.audit.enqueue(tx, self.amount)?.map_err(Refusal::from)?)
     }
 }
 
-#[derive(Drop)]
-struct Total(Bank);
-
-impl Body<Account> for Total {
-    type Out = u64;
+impl Body<Account> for Bank {
+    type Out = u64; // the sum of all accounts
 
     type Error = Refusal;
 
     fn run<S: Scope<Account>>(&self, tx: &mut Transaction<'_, Account, S>) -> Result<u64, Refusal> {
         let mut total = 0u64;
-        for number in 0..6u64 {
-            let account = self.0.accounts.get(tx, number)?;
-            total = total.saturating_add(account.map_or(0, |account| account.1));
+        for i in 0..6u64 {
+            total = total.saturating_add(self.accounts.get(tx, i)?.map_or(0, |one| one.balance));
         }
         Ok(total)
     }
 }
 
-#[derive(Drop)]
+#[derive(Clone, Copy)]
 enum Desk {
-    Teller(Bank, u64),
+    Teller(Bank),
     Reader(Bank),
 }
 
 impl Session<Account> for Desk {
-    /// How many transfers were made, or how many sums were right.
-    type Out = u64;
+    type Out = u64; // how many transfers were made, or how many sums were right
 
     fn serve<S: Scope<Account>>(self, client: &mut Client<'_, Account, S>) -> u64 {
         let mut done = 0u64;
         match self {
-            // Accounts 0 to 2 give, 3 to 5 take, and account 6 isn't there.
-            Desk::Teller(bank, teller) => for i in 0..24u64 {
+            Desk::Teller(bank) => for i in 0..24u64 {
                 let transfer = Transfer {
                     bank,
-                    id: teller.wrapping_mul(100).wrapping_add(i),
                     from: i % 3,
-                    to: i % 4 + 3,
+                    to: i % 4 + 3, // account 6 isn't there
                     amount: i % 5,
                 };
                 let made = client.atomically(u64::MAX, &transfer).is_ok();
                 done = done.saturating_add(u64::from(made));
             },
             Desk::Reader(bank) => for _ in 0..50u64 {
-                let right = matches!(client.look(u64::MAX, &Total(bank)), Ok((600, _)));
+                let right = matches!(client.look(u64::MAX, &bank), Ok((600, _)));
                 done = done.saturating_add(u64::from(right));
             },
         }
@@ -114,24 +120,22 @@ impl Session<Account> for Desk {
     }
 }
 
-/// What the desks did, how many transfers were made, and the first account that fell low.
+/// What the desks did, how many transfers were made, and the first account that was low.
 fn serve<R: Threads + Sync>(rt: &R, alloc: Global) -> Result<(Vec<u64>, usize, u64), Refusal> {
     let mut accounts = Entries::new(alloc);
     for number in 0..6u64 {
-        let owner = Text::from(format!(in alloc; "owner {number}")?);
-        accounts.insert(number, (owner, 100))?;
+        let (owner, balance) = (Text::from(format!(in alloc; "owner {number}")?), 100);
+        accounts.insert(number, Account { owner, balance })?;
     }
     let mut layout = Layout::new(alloc);
     let bank = Bank {
-        // Several tellers call the accounts at once: over four gates they seldom wait for each other.
-        accounts: layout.map_over(4, 4, accounts)?,
+        accounts: layout.map_over(4, 4, accounts)?, // over four gates: tellers seldom wait for each other
         audit: layout.queue(1, QueueItems::new(alloc))?,
         alerts: layout.priority_queue(1, Counts::new(alloc))?,
     };
     let mut store = layout.open()?;
-    let tell = |teller| Desk::Teller(bank, teller);
-    let desks = vec![in alloc; tell(1), tell(2), tell(3), tell(4), Desk::Reader(bank)]?;
-    let done = store.run(rt, desks)?;
+    let (teller, reader) = (Desk::Teller(bank), Desk::Reader(bank));
+    let done = store.run(rt, vec![in alloc; teller, teller, teller, teller, reader]?)?;
     let contents = store.close()?;
     let made = contents.queue(bank.audit).map_or(0, |items| items.len());
     let alerts = contents.priority_queue(bank.alerts);
