@@ -10,6 +10,13 @@ fn add_bags(alloc: Global, layout: &mut Layout<u64>, count: u64) -> Result<(), R
     Ok(())
 }
 
+fn add_words(layout: &mut Layout<u64>, count: u64) -> Result<(), Refusal> {
+    for number in 0..count {
+        layout.word(number)?;
+    }
+    Ok(())
+}
+
 fn copies(alloc: Global, count: u64) -> Result<Counts, Refusal> {
     let mut counts = Counts::new(alloc);
     counts.set_copies(7, count)?;
@@ -22,6 +29,7 @@ fn lay_out(alloc: Global, layout: &mut Layout<u64>, asked: &str) -> Result<(), R
     let stripes = u32::try_from(number).unwrap_or(0);
     match kind {
         "bags" => add_bags(alloc, layout, number),
+        "words" => add_words(layout, number),
         "stripes" => layout.map(stripes, Entries::new(alloc)).map(|_| ()),
         "gates" => layout.map_over(stripes, 1, Entries::new(alloc)).map(|_| ()),
         "lanes" => layout.lanes(stripes, 1, QueueItems::new(alloc)).map(|_| ()),
@@ -30,8 +38,8 @@ fn lay_out(alloc: Global, layout: &mut Layout<u64>, asked: &str) -> Result<(), R
     }
 }
 
-/// Opens such a layout: so many `bags`, a map of so many `stripes`, a `queue` of so many, a map over so many `gates`, so many `lanes`, or
-/// so many `copies` of an element.
+/// Opens such a layout: so many `bags` or `words`, a map of so many `stripes`, a `queue` of so many, a map over so many `gates`, so many
+/// `lanes`, or so many `copies` of an element.
 pub fn opens(alloc: Global, asked: &str) -> Result<(), Refusal> {
     let mut layout = Layout::new(alloc);
     let laid = lay_out(alloc, &mut layout, asked);

@@ -82,11 +82,20 @@ fn run_both(
     let asked = lender.end();
     drop(first);
     let others = work(&mut second, word);
-    let Err(StillLent { mut lender, .. }) = asked else {
+    let Err(
+        StillLent {
+            mut lender,
+            clients,
+        },
+    ) = asked
+    else {
         return Err(Refusal::NotIdle);
     };
     let out = lender.take_back();
-    writeln!(text, "two lent clients = no end, then {out} out")?;
+    writeln!(
+        text,
+        "two lent clients = no end, {clients} out, then {out} out"
+    )?;
     drop(second);
     Ok((made.and(others), lender))
 }
