@@ -60,17 +60,16 @@ impl Body<Account> for Transfer {
     type Error = Declined;
 
     fn run<S: Scope<Account>>(&self, tx: &mut Transaction<'_, Account, S>) -> Result<(), Declined> {
-        let bank = self.bank;
-        let Account { owner, balance } = bank.accounts.get(tx, self.from)?.ok_or(Declined::Absent)?;
+        let (bank, from, to) = (self.bank, self.from, self.to);
+        let Account { owner, balance } = bank.accounts.get(tx, from)?.ok_or(Declined::Absent)?;
         let balance = balance.checked_sub(self.amount).ok_or(Declined::NoMoney)?;
         if balance < 60 {
-            bank.alerts.insert(tx, self.from)?.map_err(Refusal::from)?; // refused where it is full
+            bank.alerts.insert(tx, from)?.map_err(Refusal::from)?; // refused where it is full
         }
-        bank.accounts
-            .put(tx, self.from, Account { owner, balance })?;
-        let Account { owner, balance } = bank.accounts.get(tx, self.to)?.ok_or(Declined::Absent)?;
+        bank.accounts.put(tx, from, Account { owner, balance })?;
+        let Account { owner, balance } = bank.accounts.get(tx, to)?.ok_or(Declined::Absent)?;
         let balance = balance.saturating_add(self.amount);
-        bank.accounts.put(tx, self.to, Account { owner, balance })?;
+        bank.accounts.put(tx, to, Account { owner, balance })?;
         Ok(bank.audit.enqueue(tx, self.amount)?.map_err(Refusal::from)?)
     }
 }

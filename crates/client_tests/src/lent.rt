@@ -82,15 +82,10 @@ fn run_both(
     let asked = lender.end();
     drop(first);
     let others = work(&mut second, word);
-    let Err(
-        StillLent {
-            mut lender,
-            clients,
-        },
-    ) = asked
-    else {
+    let Err(StillLent { lender, clients }) = asked else {
         return Err(Refusal::NotIdle);
     };
+    let mut lender = lender;
     let out = lender.take_back();
     writeln!(
         text,
