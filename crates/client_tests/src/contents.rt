@@ -3,7 +3,7 @@ use crate::handles::{All, Handles};
 use crate::numbers::Number;
 use std::alloc::AllocError;
 use std::fmt::Write;
-use wolimevar::{Contents, Memory};
+use wolimevar::{Contents, Unread};
 
 /// Prints what these handles find: the first word, key 2 of the map, the copies of 3, the least element and the first item.
 fn print_found<V: Number>(
@@ -70,18 +70,25 @@ fn print_all<V: Number>(
     print_found(text, "contents of another store", contents, &all.other)
 }
 
-/// Prints what a store held as it was closed.
+/// Prints what a store held as it was closed. Where memory was out, it is read once more.
 pub fn print_closed<V: Number>(
     text: &mut String,
-    closed: Result<Contents<V>, Memory>,
+    closed: Result<Contents<V>, Unread<V>>,
     all: &All<V>,
 ) -> Result<(), AllocError> {
-    match closed {
+    let read = match closed {
+        Ok(contents) => Ok(contents),
+        Err(unread) => unread.read(),
+    };
+    match read {
         Ok(contents) => {
             let printed = print_all(text, &contents, all);
             drop(contents);
             printed
         }
-        Err(Memory) => writeln!(text, "contents = refused Memory"),
+        Err(unread) => {
+            drop(unread);
+            writeln!(text, "contents = refused Memory twice")
+        }
     }
 }

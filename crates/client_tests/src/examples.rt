@@ -356,7 +356,10 @@ fn work_over_gates(text: &mut String) -> Result<(), Refusal> {
     let mut store = layout.open()?;
     let ((taken, left), _) = store.atomically(1_000, &Work(jobs))?;
     writeln!(text, "a queue in lanes = {taken:?} {left}")?;
-    let contents = store.close()?;
+    let contents = match store.close() {
+        Ok(contents) => contents,
+        Err(unread) => unread.read()?,
+    };
     print_over_gates(text, &contents, map, bag, jobs)
 }
 

@@ -4,3 +4,4 @@ pub mod StoreSeats
 pub mod Splits
 pub mod Sessions
 pub mod Lenders
+pub mod UnreadStores

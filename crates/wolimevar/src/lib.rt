@@ -13,7 +13,7 @@
 //!    [`Receipt`]: the transaction's number in commit order, and its calls with their replies ([`Call`], [`Op`], [`Reply`]). Outside of
 //!    `run`, the store runs bodies itself. For threads of one's own there is [`Store::lend`]: a [`Lender`] starts them one by one
 //!    ([`Lender::spawn`]), and hands out [`LentClient`]s, which are back once they are dropped.
-//! 5. [`Store::close`] returns the [`Contents`], read by the same handles.
+//! 5. [`Store::close`] returns the [`Contents`], read by the same handles; or, where memory is out, an [`Unread`], to be read later.
 //!
 //! Answers are typed: `map.get(tx, key)?` is an `Option` of a value, `queue.dequeue(tx)?` an `Option<u64>`. A change that may find its
 //! collection full returns `Result<(), Full>` inside ([`Full`]).
@@ -40,6 +40,7 @@ mod seats;
 mod serving;
 mod sessions;
 mod store;
+mod unread;
 
 pub use layout::Layout;
 pub use lender::{Lender, StillLent};
@@ -56,3 +57,4 @@ pub use tx_handles::{
     Bag, BagCounts, BagIter, LaneItems, Lanes, Map, MapEntries, MapIter, PriorityQueue, Queue,
     Shared, Text, Word,
 };
+pub use unread::Unread;

@@ -10,13 +10,14 @@ ghost use Rattle.tx_client.specs.Tallies.{AreCounted};
 
 use crate::lender::Lender;
 use crate::sessions::{Session, serve};
+use crate::unread::Unread;
 use actor_parts::Boxed;
-use seq_model::{Failure, Memory, Refusal, Value};
+use seq_model::{Failure, Refusal, Value};
 use std::alloc::Global;
 use std::marker::Model;
 use std::sync::Arc;
 use std::thread::Threads;
-use tx_client::{Body, Caller, Contents, Tally, contents_of, retry};
+use tx_client::{Body, Caller, Contents, Tally, retry};
 use tx_engine::{Receipt, TxSeat};
 use tx_table::TxTable;
 
@@ -290,19 +291,28 @@ impl<V: Value> Store<V> {
         }
     }
 
-    /// Ends the store, and returns what it holds: what its receipts leave, one transaction after another in commit order. `Memory` where
-    /// an allocation fails.
+    /// Ends the store, and returns what it holds: what its receipts leave, one transaction after another in commit order. Where an
+    /// allocation fails, it returns an [`Unread`], which still has all that; `?` makes this `Memory`, and drops it.
     ///
     /// ```
     /// let contents = store.close()?;
     /// let left = contents.word(word); // Some(11)
     /// ```
-    pub fn close(self) -> Result<Contents<V>, Memory>
+    pub fn close(self) -> Result<Contents<V>, Unread<V>>
         ensures number { IfOk result (λ contents. contents.store ≡ self.number) }
         ensures left { IfOk result (λ contents. IsLeftBy self contents.state) }
+        ensures unread { IfErr result (λ unread. (unread.number ≡ self.number) × IsLeftBy self unread.state) }
+    {
+        self.end().read()
+    }
+
+    /// Ends the store, which takes no memory.
+    fn end(self) -> Unread<V>
+        ensures number { result.number ≡ self.number }
+        ensures left { IsLeftBy self result.state }
     {
         let Store {
-            alloc: _,
+            alloc,
             number,
             table,
             seat,
@@ -310,9 +320,16 @@ impl<V: Value> Store<V> {
         } = self;
         match seat {
             Some(seat) => {
-                let closed = seat.into_inner().close(table)?;
-                let state = closed.state()?;
-                Ok(contents_of(number, state))
+                let words = table.words();
+                match seat.into_inner().close(table) {
+                    Ok(closed) => Unread {
+                        alloc,
+                        number,
+                        words,
+                        closed,
+                    },
+                    Err(_) => unreachable!(),
+                }
             }
             None => unreachable!(),
         }

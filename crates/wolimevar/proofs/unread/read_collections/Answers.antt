@@ -1,0 +1,8 @@
+use Rattle.tx_table.specs.Ends.{homes_of}
+use Rattle.tx_table.proofs.Left.{held_grow}
+use Rattle.wolimevar.proofs.unread.read_collections.Goals as goal
+
+pub loop-k-preserved : goal.loop-k-preserved
+loop-k-preserved g c =
+    held_grow (homes_of c.args.closed.now) c.loop-k.k c.collection.result.now c.loop-k.held.items c.push.new.self.items
+    c.in_ok-held-2.field-0 c.collection.ensures c.loop-k.invariant c.in_ok-held-2.ensures c.in_ok-push.ensures.items

@@ -1,0 +1,11 @@
+use Rattle.std.proofs.Common.{[], ◌∷◌, ◌++◌, sym, ap, ◌∙◌}
+use Rattle.tx_table.specs.Ends.{row_of}
+use Rattle.tx_table.proofs.LayoutLemmas.{one_value}
+use Rattle.wolimevar.proofs.unread.read_words.Goals as goal
+
+pub loop-word-preserved : goal.loop-word-preserved
+loop-word-preserved g c =
+    c.in_ok-push.ensures.items
+    ∙ (ap (λ v. c.loop-word.values.items ++ v ∷ []) c.word.ensures
+    ∙ sym (one_value c.args.closed.now.locations c.loop-word.word (row_of c.args.closed.now) c.loop-word.values.items
+    c.loop-word.invariant))
