@@ -7,11 +7,12 @@ ghost use Rattle.tx_turns.specs.Asked.{Answers, HasAsked};
 ghost use Rattle.tx_turns.specs.Begins.{begins_of};
 ghost use Rattle.tx_turns.specs.Driven.{is_declared, standing};
 ghost use Rattle.tx_turns.specs.Requested.{requests_of};
-ghost use Rattle.tx_engine.specs.Ready.{CanDrive};
+ghost use Rattle.tx_engine.specs.Ready.{CanDrive, HasBegunSince, HasCalled, IsReady};
 ghost use Rattle.tx_engine.specs.Requests.{CallsTo, HasAborted, HasAskedFor, IsCallTold, IsCalling, IsDriven, IsOpen, KeepsReceipts};
 ghost use Rattle.tx_engine.specs.Requests.{IsLastAborted, told_of};
 
 use crate::requests::abort;
+use crate::seats::TxSeat;
 use actor_parts::Boxed;
 use replay_log::Base;
 use seq_model::{Answer, Call, Refusal, Reply, Request, Value};
@@ -104,5 +105,26 @@ pub(crate) fn call<V: Value>(
         Ok(Told::Quiet) => driven_call(alloc, table, seat, actor, bases),
         Ok(told) => reply_told(told),
         Err(cause) => Err(cause),
+    }
+}
+
+impl<V: Value> TxSeat<V> {
+    /// A call, like [`crate::Tx::call`].
+    pub(crate) fn call(&mut self, table: &TxTable<V>, call: Call<V>) -> Result<Reply<V>, Refusal>
+        requires ready { IsReady table.now self.old }
+        requires since { HasBegunSince table.now self.old }
+        ensures called { HasCalled table.now self.old self.new call result }
+    {
+        if !self.is_open() {
+            return Err(Refusal::NoTransaction);
+        }
+        crate::calls::call(
+            self.alloc,
+            table,
+            &mut self.seat,
+            &mut self.actor,
+            &mut self.bases,
+            call,
+        )
     }
 }

@@ -78,7 +78,7 @@ impl<V: Value> TxSeat<V> {
     }
 
     /// An empty list for the replies to a job, which has the room that the one before had, once that was handed back (`keep_replies`).
-    pub fn take_replies(&mut self) -> Vec<Reply<V>>
+    pub(crate) fn take_replies(&mut self) -> Vec<Reply<V>>
         ensures empty { result.items ≡ [] }
         ensures same { (self.new.seat ≡ self.old.seat) × (self.new.actor ≡ self.old.actor) }
     {
@@ -86,7 +86,7 @@ impl<V: Value> TxSeat<V> {
     }
 
     /// Keeps the list of an attempt for the next one, and clears it.
-    pub fn keep_replies(&mut self, replies: Vec<Reply<V>>)
+    pub(crate) fn keep_replies(&mut self, replies: Vec<Reply<V>>)
         ensures same { (self.new.seat ≡ self.old.seat) × (self.new.actor ≡ self.old.actor) }
     {
         self.replies.keep(replies);
@@ -176,25 +176,6 @@ impl<V: Value> TxSeat<V> {
             &mut self.seat,
             &mut self.actor,
             &mut self.bases,
-        )
-    }
-
-    /// A call, like [`crate::Tx::call`].
-    pub(crate) fn call(&mut self, table: &TxTable<V>, call: Call<V>) -> Result<Reply<V>, Refusal>
-        requires ready { IsReady table.now self.old }
-        requires since { HasBegunSince table.now self.old }
-        ensures called { HasCalled table.now self.old self.new call result }
-    {
-        if !self.is_open() {
-            return Err(Refusal::NoTransaction);
-        }
-        crate::calls::call(
-            self.alloc,
-            table,
-            &mut self.seat,
-            &mut self.actor,
-            &mut self.bases,
-            call,
         )
     }
 
