@@ -9,6 +9,6 @@ use Rattle.wolimevar.proofs.store.Store.end.Goals as goal
 pub returns-clause-left : goal.returns-clause-left
 returns-clause-left g c =
     close_left c.self.inside.number c.self.inside.table c.self.inside.seat c.in-Some.seat c.self.inside.tally c.args.self
-    c.in-Ok-in-Some.closed c.self.view_is c.in-Some.is
-    (subst (λ (s : TxSeat g.row.V.Denot). closing.IsLeftBy (contents_in c.self.inside.table) (view s.seat).receipts c.in-Ok-in-Some.closed)
-    c.into_inner.ensures c.in-Ok-in-Some.ensures.left)
+    c.in-Ok.closed c.self.view_is c.in-Some.is
+    (subst (λ (s : TxSeat g.row.V.Denot). closing.IsLeftBy (contents_in c.self.inside.table) (view s.seat).receipts c.in-Ok.closed)
+    c.into_inner.ensures c.in-Ok.ensures.left)

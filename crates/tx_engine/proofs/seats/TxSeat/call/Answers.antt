@@ -1,7 +1,7 @@
 use Rattle.std.proofs.Common.{rules, ◌≡◌}
 use Rattle.tx_actor.specs.declared.actor.Stage.TheVariants as stage
 use Rattle.tx_engine.proofs.ReadyLemmas.{has_called, has_open, none_called}
-use Rattle.tx_engine.proofs.calls.TxSeat.call.Goals as goal
+use Rattle.tx_engine.proofs.seats.TxSeat.call.Goals as goal
 
 pub returns-then-not-is_open : goal.returns-then-not-is_open
 returns-then-not-is_open g c =
