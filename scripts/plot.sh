@@ -89,7 +89,7 @@ measure_sizes() {
     head_of "measure bases"
     echo "on,stripes,holds,microseconds,least,most"
     repeat "$1" bases | sed -nE \
-        -e 's/^a queue of ([0-9]+): ([0-9.]+) microseconds.*/queue,1,\1,\2/p' \
+        -e 's/^a queue of ([0-9]{2,}): ([0-9.]+) microseconds.*/queue,1,\1,\2/p' \
         -e 's/^a priority queue of ([0-9]+), stripes ([0-9]+): ([0-9.]+) microseconds.*/priority queue,\2,\1,\3/p' \
         -e 's/^a priority queue of ([0-9]+), stripes ([0-9]+), a later one put in: ([0-9.]+) microseconds.*/later ones,\2,\1,\3/p' | means
 }
@@ -293,7 +293,7 @@ set ylabel "microseconds a transaction"
 set logscale x
 set xtics ("1,000" 1000, "10,000" 10000, "100,000" 100000, "1,000,000" 1000000)
 set xrange [700:1500000]
-set yrange [0:5]
+set yrange [0:12]
 plot $(rows sizes.csv "queue,1") using 3:4 with linespoints linetype 1 title "queue", \\
     $(rows sizes.csv "priority queue,1") using 3:4 with linespoints linetype 2 title "priority queue, the least put back", \\
     $(rows sizes.csv "later ones,1") using 3:4 with linespoints linetype 3 title "priority queue, a later one put in"
