@@ -1,6 +1,6 @@
 -- What is found, and what is least, where two lists with numbers of copies are laid over a multiset, one after the other.
-use Rattle.std.proofs.Common.{◌≡◌, ◌≢◌, ℕ, Bool, zero, suc, ◌-◌, ◌<◌, true, false, cond, ◌==◌, List, [], ◌∷◌, length, get_or, Option, Some, None}
-use Rattle.std.proofs.Common.{unwrap_or, refl, sym, ap, subst, ◌∙◌, arith}
+use Rattle.std.proofs.Common.{◌≡◌, ◌≢◌, ℕ, Bool, zero, suc, ◌-◌, ◌<◌, true, false, cond, ◌==◌, List, [], ◌∷◌, length, get_or}
+use Rattle.std.proofs.Common.{Option, Some, None, unwrap_or, refl, sym, ap, subst, ◌∙◌, arith}
 use Rattle.std.specs.Cmp.{nat_cmp_total}
 use Rattle.std.specs.Ordering.{nat_cmp, eq_by_cmp}
 use Rattle.std.specs.FinMap.{find, entries, entries_sorted, from_sorted, get, insert, remove, empty, get-empty, get-entries, get-insert, get-remove}
@@ -19,7 +19,7 @@ pub made_of : (m : Multiset) → from_sorted (entries m) ≡ m
 made_of m = same_entries_map _ _ (entries_of (entries m) (entries_sorted m))
 
 -- ---- two lists with numbers, also 0
-pub get_layered : (m n : Multiset) (q : ℕ) → get (layered m n) q ≡ or_else (get n q) (get m q)
+get_layered : (m n : Multiset) (q : ℕ) → get (layered m n) q ≡ or_else (get n q) (get m q)
 get_layered m n q =
     get_inserts (entries n) (fresh_rising (entries n) (entries_sorted n)) m q ∙ ap (λ f. or_else f (get m q)) (sym (get-entries n q))
 
@@ -65,15 +65,18 @@ get_over m o q = get_laid (entries o) (entries_sorted o) m q ∙ ap (λ f. over 
 abbrev maybe_without : Bool → Multiset → ℕ → Multiset
 maybe_without gone m x = cond gone (remove m x) m
 
-get_maybe : (gone : Bool) (m : Multiset) (x q : ℕ) → get (maybe_without gone m x) q ≡ cond (eq_by_cmp nat_cmp q x) (get (maybe_without gone m x) x) (get m q)
-get_maybe true m x q = get-remove nat_cmp_total m x q ∙ elim (eq_by_cmp nat_cmp q x) as (λ b. eq_by_cmp nat_cmp q x ≡ b → cond b None (get m q) ≡ cond b (get (remove m x) x) (get m q)) [
-      | true ↦ λ is. sym (get-remove nat_cmp_total m x x ∙ ap (λ b. cond b None (get m x)) (key_itself x))
-      | false ↦ λ is. refl
+get_maybe : (gone : Bool) (m : Multiset) (x q : ℕ)
+    → get (maybe_without gone m x) q ≡ cond (eq_by_cmp nat_cmp q x) (get (maybe_without gone m x) x) (get m q)
+get_maybe gone m x q =
+    elim (eq_by_cmp nat_cmp q x) as (λ b. eq_by_cmp nat_cmp q x ≡ b
+    → get (maybe_without gone m x) q ≡ cond b (get (maybe_without gone m x) x) (get m q)) [
+      | true ↦ λ is. ap (get (maybe_without gone m x)) (same_key q x is)
+      | false ↦ λ is. elsewhere gone is
     ] refl
-get_maybe false m x q = elim (eq_by_cmp nat_cmp q x) as (λ b. eq_by_cmp nat_cmp q x ≡ b → get m q ≡ cond b (get m x) (get m q)) [
-      | true ↦ λ is. ap (get m) (same_key q x is)
-      | false ↦ λ is. refl
-    ] refl
+  where
+    elsewhere : (gone : Bool) → eq_by_cmp nat_cmp q x ≡ false → get (maybe_without gone m x) q ≡ get m q
+    elsewhere true other = get-remove nat_cmp_total m x q ∙ ap (λ b. cond b None (get m q)) other
+    elsewhere false other = refl
 
 -- x is given a number over it, whether or not it goes out of it
 put_over : (gone : Bool) (m o : Multiset) (x c : ℕ)
@@ -230,6 +233,7 @@ least_of_laid m u o x nz =
     (subst (λ (f : ℕ → Option ℕ). IsLeastOf f (lesser (lesser (first_kept (λ q. copies k q) (entries o))
     (first_kept (λ q. copies k q) (entries u))) (first_kept (λ q. copies k q) (entries m))))
     (λ i q. all_among (or_else (get o q) (get u q)) (get m q) (get k q) (λ first second.
-    none_fewer (laid m (entries (layered u o))) x q (get_over m (layered u o) q ∙ (λ j. over ((get_layered u o q ∙ first) j) (second j)))) i)
+    none_fewer (laid m (entries (layered u o))) x q
+    (get_over m (layered u o) q ∙ (λ j. over ((get_layered u o q ∙ first) j) (second j)))) i)
     all)
     (least_is k)

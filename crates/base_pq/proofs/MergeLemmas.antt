@@ -15,8 +15,7 @@ use Rattle.std.specs.FinMap.Entries.{by_order, below_all}
 use Rattle.std.proofs.Common.{not}
 use Rattle.std.proofs.lemmas.List.Elements.{All-head, All-tail, All-cons, All-nil, All-append}
 use Rattle.seq_model.specs.Entries.{IsPlaceOf, IsRising, rank, has_key}
-use Rattle.seq_model.proofs.EntryLemmas.{below_at, both_true, by_cases, greater_of, less_of, entries_of, remove_there, without}
-use Rattle.seq_model.proofs.EntryLemmas.{without_below}
+use Rattle.seq_model.proofs.EntryLemmas.{below_at, both_true, by_cases, greater_of, less_of, remove_there, without, without_below}
 use Rattle.base_pq.specs.Laid.{laid_by, through, with_number}
 
 both_hold : (a b : Bool) → T a → T b → T (a && b)

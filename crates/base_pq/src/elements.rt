@@ -2,9 +2,9 @@
 //! changed, the one laid over the other, and over both each copy lays what has changed since: new numbers of copies of some elements. Of
 //! either list the first entries may be gone.
 //!
-//! The base lays what has changed into the upper list once it has some 64 entries, and both into the lower one once the upper one would
-//! have 32 times the root of the number of elements. So a copy has few entries of its own, and an insert costs about a third of that root
-//! in moves: 280 of a million elements.
+//! The base lays what has changed into a new upper list once that is some 64 entries, and both into a new lower one once the upper one
+//! would have 32 times the root of the number of elements. So a copy has few entries of its own, and an insert costs about a quarter of
+//! that root in moves, 280 of a million elements.
 ghost use Rattle.std.specs.Prelude.{◌≡◌, ◌+◌, ◌^◌, ◌<◌, ◌≤◌, OnOk, OnErr, IsOk, IfOk};
 ghost use Rattle.std.specs.FinMap as map;
 ghost use Rattle.seq_model.specs.Entries.{IsRising, inserts};
@@ -22,14 +22,14 @@ use std::marker::Model;
 /// How many changed elements a copy carries before they are laid into a list that is shared.
 const OWN: usize = 64;
 
-/// Of how many times the root of the number of elements the upper list has fewer entries.
+/// The upper list has fewer entries than so many times the root of the number of those in the lower one.
 const UPPER: usize = 32;
 
 /// A multiset of numbers.
 #[derive(Drop)]
 pub struct Elements {
     lower: Rest,
-    /// The copies of elements that have changed since the lower list was made.
+    /// The copies of the elements that have changed since the lower list was made.
     upper: Rest,
     /// Those that have changed since the upper one was made.
     own: Sorted,
@@ -230,7 +230,8 @@ impl Elements {
     }
 }
 
-// The two lists to be shared where what has changed is laid into the upper one, or, if that has so many entries then, into the lower one.
+// The lower and the upper list to be shared from now on: what has changed is laid into the upper one, or, if that would have so many
+// entries, into the lower one.
 fn settled(
     alloc: Global,
     lower: &Rest,

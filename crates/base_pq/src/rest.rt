@@ -9,7 +9,7 @@ use seq_model::Memory;
 use std::alloc::Global;
 use std::marker::Model;
 
-/// Numbers by element, of which the least can go.
+/// Numbers by element, rising, of which the first can go.
 #[derive(Drop)]
 pub struct Rest {
     shared: Shared,

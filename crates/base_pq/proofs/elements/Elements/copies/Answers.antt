@@ -1,4 +1,4 @@
-use Rattle.std.proofs.Common.{None, Some, sym, ap, ◌∙◌, unwrap_or}
+use Rattle.std.proofs.Common.{sym, ap, ◌∙◌, unwrap_or}
 use Rattle.std.specs.FinMap.{get}
 use Rattle.seq_model.specs.Counts.{copies}
 use Rattle.seq_model.proofs.EntryLemmas.{or_else}
@@ -32,5 +32,6 @@ returns c =
     let o = c.self.inside.own.elements in
     let x = c.args.element in
     c.unwrap_or.ensures ∙ ap (λ f. unwrap_or f 0) c.get-3.ensures
-    ∙ (λ i. unwrap_or (over (or_else ((sym c.in_default.is ∙ c.get.ensures) i) ((sym c.in_default-get.is ∙ c.get-2.ensures) i)) (get m x)) 0)
+    ∙ (λ i. unwrap_or (over (or_else ((sym c.in_default.is ∙ c.get.ensures) i)
+    ((sym c.in_default-get.is ∙ c.get-2.ensures) i)) (get m x)) 0)
     ∙ sym (copies_over m u o x) ∙ ap (λ s. copies s.elements x) c.self.view_is

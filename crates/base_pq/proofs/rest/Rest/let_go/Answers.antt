@@ -1,7 +1,6 @@
-use Rattle.std.proofs.Common.{◌≡◌, ◌+◌, ◌<◌, drop, length, Ok, Err, sym, ap, subst, ◌∙◌, arith}
+use Rattle.std.proofs.Common.{◌<◌, drop, length, Ok, Err, sym, ap, subst, ◌∙◌, arith}
 use Rattle.std.proofs.lemmas.List.{length-drop}
 use Rattle.std.specs.FinMap as map
-use Rattle.std.specs.Ordering.{nat_cmp}
 use Rattle.seq_model.specs.Entries.{IsPlaceOf, IsRising}
 use Rattle.seq_model.proofs.EntryLemmas.{entries_of, remove_absent}
 use Rattle.base_pq.proofs.LaidLemmas.{made_of}
