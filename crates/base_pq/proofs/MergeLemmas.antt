@@ -1,20 +1,26 @@
 -- Entries that are laid over others, one after another from the least on.
 use Rattle.std.proofs.Common.{◌≡◌, ℕ, zero, suc, ◌+◌, ◌<◌, ◌≤◌, true, false, cond, List, [], ◌∷◌, ◌++◌, All, length, get_or, take, drop}
-use Rattle.std.proofs.Common.{Ok, Err, refl, sym, ap, subst, ◌∙◌, arith, append_assoc}
+use Rattle.std.proofs.Common.{Bool, ◌&&◌, Result, Ok, Err, refl, sym, ap, subst, ◌∙◌, arith, append_assoc}
 use Rattle.std.proofs.Common.{◌-◌}
 use Rattle.std.proofs.Math.Seq.{take-suc}
-use Rattle.std.proofs.lemmas.List.{length-drop, take_all}
+use Rattle.std.proofs.lemmas.List.{length-drop, length-take-le, take_all}
 use Rattle.std.proofs.lemmas.List.Sums.{fold-append}
-use Rattle.seq_model.specs.Counts.{Multiset, with_copies}
+use Rattle.seq_model.specs.Counts.{Multiset}
 use Rattle.std.specs.Ordering.{nat_cmp, is_eq}
+use Rattle.std.specs.declared.cmp.Ordering.{Ordering}
+use lib.Dec.{T}
 use Rattle.std.specs.FinMap.{entries, from_sorted, put, remove as map_remove}
 use Rattle.std.specs.List.{remove}
-use Rattle.std.specs.FinMap.Entries.{by_order}
+use Rattle.std.specs.FinMap.Entries.{by_order, below_all}
 use Rattle.std.proofs.Common.{not}
 use Rattle.std.proofs.lemmas.List.Elements.{All-head, All-tail, All-cons, All-nil, All-append}
 use Rattle.seq_model.specs.Entries.{IsPlaceOf, IsRising, rank, has_key}
-use Rattle.seq_model.proofs.EntryLemmas.{below_at, both_true, by_cases, greater_of, entries_of, remove_absent, remove_there, without, without_below}
-use Rattle.base_pq.specs.Laid.{laid, through}
+use Rattle.seq_model.proofs.EntryLemmas.{below_at, both_true, by_cases, greater_of, less_of, remove_there, without, without_below}
+use Rattle.base_pq.specs.Laid.{laid_by, through, with_number}
+
+both_hold : (a b : Bool) → T a → T b → T (a && b)
+both_hold true b p q = q
+both_hold false b p q = absurd p
 
 -- the entry goes after those with lesser keys
 put_behind : (k c : ℕ) (made rest : List (ℕ × ℕ)) → All (λ e. e.0 < k) made → put nat_cmp k c (made ++ rest) ≡ made ++ put nat_cmp k c rest
@@ -95,6 +101,40 @@ below_put k c made now rest low is =
     (below_left k made (made ++ take (rank k rest) rest) rest low refl)
     (All-cons (λ e. e.0 ≤ k) (k, c) [] (omega arith) (All-nil (λ e. e.0 ≤ k))))
 
+-- a key below one of the entries has its place before that
+near_rank : (n k : ℕ) (es : List (ℕ × ℕ)) → n < length es → ((d : ℕ × ℕ) → k < (get_or es n d).0)
+    → (rank k (take n es) ≡ rank k es) × (has_key k (take n es) ≡ has_key k es)
+near_rank n k [] within low = absurd (omega arith)
+near_rank zero k (e ∷ es) within low =
+    let P : Ordering → Type 0 = λ r. (0 ≡ by_order r 0 0 (suc (rank k es))) × (false ≡ by_order r false true (has_key k es)) in
+    subst P (sym (less_of k e.0 (low e))) (refl, refl)
+near_rank (suc n) k (e ∷ es) within low =
+    let rest = near_rank n k es (omega arith) low in
+    by_cases k e.0 (λ r. (by_order r 0 0 (suc (rank k (take n es))) ≡ by_order r 0 0 (suc (rank k es)))
+    × (by_order r false true (has_key k (take n es)) ≡ by_order r false true (has_key k es)))
+    (λ lt. (refl, refl))
+    (λ same. (refl, refl))
+    (λ gt. (ap suc rest.0, rest.1))
+
+pub near_place : (n k : ℕ) (es : List (ℕ × ℕ)) (r : Result ℕ ℕ) → n < length es → ((d : ℕ × ℕ) → k < (get_or es n d).0)
+    → IsPlaceOf k (take n es) r → IsPlaceOf k es r
+near_place n k es (Ok i) within low p =
+    let same = near_rank n k es within low in
+    (omega (arith, p.0, within, length-take-le n es (omega (arith, within))), sym same.0 ∙ p.1, sym same.1 ∙ p.2)
+near_place n k es (Err i) within low p =
+    let same = near_rank n k es within low in
+    (omega (arith, p.0, within, length-take-le n es (omega (arith, within))), sym same.0 ∙ p.1, sym same.1 ∙ p.2)
+
+below_take : (n x : ℕ) (es : List (ℕ × ℕ)) → T (below_all nat_cmp x es) → T (below_all nat_cmp x (take n es))
+below_take zero x es h = tt
+below_take (suc n) x [] h = tt
+below_take (suc n) x (e ∷ es) h = let both = both_true _ _ h in both_hold _ _ both.0 (below_take n x es both.1)
+
+pub rising_take : (n : ℕ) (es : List (ℕ × ℕ)) → IsRising es → IsRising (take n es)
+rising_take zero es s = tt
+rising_take (suc n) [] s = tt
+rising_take (suc n) (e ∷ es) s = let both = both_true _ _ s in both_hold _ _ (below_take n e.0 es both.0) (rising_take n es both.1)
+
 -- a later key is greater
 pub later_above : (es : List (ℕ × ℕ)) (i j : ℕ) (d e : ℕ × ℕ) → IsRising es → i < j → j < length es → (get_or es i d).0 < (get_or es j e).0
 later_above [] i j d e s lt within = absurd (omega arith)
@@ -117,29 +157,20 @@ first_gone zero (e ∷ es) = refl
 first_gone (suc n) [] = let more : suc n + 1 ≡ suc (n + 1) = omega arith in ap (λ k. drop k []) (sym more)
 first_gone (suc n) (e ∷ es) = let more : suc n + 1 ≡ suc (n + 1) = omega arith in first_gone n es ∙ ap (λ k. drop k (e ∷ es)) (sym more)
 
--- a search among the entries from n on that found the first, or nothing
-pub first_out : (n x : ℕ) (es left : List (ℕ × ℕ)) → IsRising es → left ≡ drop n es → IsPlaceOf x left (Ok 0)
+-- a search among the entries from n on that found the first
+pub first_out : (n x : ℕ) (es : List (ℕ × ℕ)) → IsRising es → IsPlaceOf x (entries (from_sorted {R = nat_cmp} (drop n es))) (Ok 0)
     → from_sorted {R = nat_cmp} (drop (n + 1) es) ≡ map_remove (from_sorted (drop n es)) x
-first_out n x es left s is p =
-    let t = rising_drop n es s in
-    let q : IsPlaceOf x (entries (from_sorted {R = nat_cmp} (drop n es))) (Ok 0) = subst (λ l. IsPlaceOf x l (Ok 0))
-    (is ∙ sym (entries_of (drop n es) t)) p in
-    ap from_sorted (sym (first_gone n es)) ∙ remove_there (drop n es) t _ refl x 0 q
-
-pub not_there : (n x i : ℕ) (es left : List (ℕ × ℕ)) → IsRising es → left ≡ drop n es → IsPlaceOf x left (Err i)
-    → from_sorted {R = nat_cmp} (drop n es) ≡ map_remove (from_sorted (drop n es)) x
-not_there n x i es left s is p =
-    let t = rising_drop n es s in
-    remove_absent (drop n es) t _ refl x i (subst (λ l. IsPlaceOf x l (Err i)) (is ∙ sym (entries_of (drop n es) t)) p)
+first_out n x es s p =
+    ap from_sorted (sym (first_gone n es)) ∙ remove_there (drop n es) (rising_drop n es s) _ refl x 0 p
 
 -- `es[n..]`
 pub tail_is : (n : ℕ) (es : List (ℕ × ℕ)) → take (length es - n) (drop n es) ≡ drop n es
 tail_is n es = take_all (length es - n) (drop n es) (omega (arith, length-drop n es))
 
 -- one entry more is laid over
-pub laid_next : (m : Multiset) (es : List (ℕ × ℕ)) (i : ℕ) (d : ℕ × ℕ) → i < length es
-    → laid m (take (i + 1) es) ≡ with_copies (laid m (take i es)) (get_or es i d).0 (get_or es i d).1
-laid_next m es i d lt =
+pub laid_next : (zeros : Bool) (m : Multiset) (es : List (ℕ × ℕ)) (i : ℕ) (d : ℕ × ℕ) → i < length es
+    → laid_by zeros m (take (i + 1) es) ≡ with_number zeros (laid_by zeros m (take i es)) (get_or es i d).0 (get_or es i d).1
+laid_next zeros m es i d lt =
     let next : i + 1 ≡ suc i = omega arith in
-    ap (λ k. laid m (take k es)) next ∙ ap (laid m) (take-suc es i d lt)
-    ∙ fold-append (λ n e. with_copies n e.0 e.1) m (take i es) (get_or es i d ∷ [])
+    ap (λ k. laid_by zeros m (take k es)) next ∙ ap (laid_by zeros m) (take-suc es i d lt)
+    ∙ fold-append (λ n e. with_number zeros n e.0 e.1) m (take i es) (get_or es i d ∷ [])

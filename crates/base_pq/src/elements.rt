@@ -1,54 +1,58 @@
-//! The elements of a priority queue, and copies of them that cost little. Most elements stand in a list that all copies share and that is
-//! never changed. Over it each copy lays what has changed since: the new numbers of copies of some elements, and how many of the first
-//! ones are gone. The base lays what has changed into a new list once that is worth it.
-ghost use Rattle.std.specs.Prelude.{◌≡◌, ◌+◌, ◌^◌, ◌<◌, ◌≤◌, OnOk, OnErr, IsOk, IfOk, drop, length};
+//! The elements of a priority queue, and copies of them that cost little. They stand in two lists that all copies share and that are never
+//! changed, the one laid over the other, and over both each copy lays what has changed since: new numbers of copies of some elements. Of
+//! either list the first entries may be gone.
+//!
+//! The base lays what has changed into a new upper list once that is some 64 entries, and both into a new lower one once the upper one
+//! would have 32 times the root of the number of elements. So a copy has few entries of its own, and an insert costs about a quarter of
+//! that root in moves, 280 of a million elements.
+ghost use Rattle.std.specs.Prelude.{◌≡◌, ◌+◌, ◌^◌, ◌<◌, ◌≤◌, OnOk, OnErr, IsOk, IfOk};
 ghost use Rattle.std.specs.FinMap as map;
 ghost use Rattle.seq_model.specs.Entries.{IsRising, inserts};
 ghost use Rattle.seq_model.specs.Counts.{HasNoZero, copies, with_copies, least};
 ghost use Rattle.conflict.specs.Multisets.{one_fewer};
-ghost use Rattle.base_pq.specs.Laid.{first_kept, lesser};
+ghost use Rattle.base_pq.specs.Laid.{first_kept, laid, layered, lesser};
 
 use crate::merge::merged;
-use crate::shared::Shared;
-use crate::sorted::{Sorted, place_of};
+use crate::rest::Rest;
+use crate::sorted::Sorted;
 use seq_model::{Counts, Entries, Memory};
 use std::alloc::Global;
 use std::marker::Model;
 
-/// How many changed elements a copy carries at least before they are laid into a list that is shared.
+/// How many changed elements a copy carries before they are laid into a list that is shared.
 const OWN: usize = 64;
+
+/// The upper list has fewer entries than so many times the root of the number of those in the lower one.
+const UPPER: usize = 32;
 
 /// A multiset of numbers.
 #[derive(Drop)]
 pub struct Elements {
-    shared: Shared,
-    /// How many of the shared elements, from the first on, are gone.
-    gone: usize,
-    /// The copies of the elements that have changed.
+    lower: Rest,
+    /// The copies of the elements that have changed since the lower list was made.
+    upper: Rest,
+    /// Those that have changed since the upper one was made.
     own: Sorted,
     /// Whether it is a copy. A copy lives for one transaction, so it never lays what has changed into a list.
     copied: bool,
 }
 
 impl Model for Elements {
-    ghost use Rattle.std.specs.Prelude.{◌≤◌, drop, length};
     ghost use Rattle.std.specs.FinMap as map;
-    ghost use Rattle.seq_model.specs.Entries.{IsRising};
     ghost use Rattle.seq_model.specs.Counts.{HasNoZero};
     ghost use Rattle.base_pq.specs.ElementsView.{ElementsView, elements_code};
-    ghost use Rattle.base_pq.specs.Laid.{laid};
+    ghost use Rattle.base_pq.specs.Laid.{laid, layered};
 
     ghost Value = { ElementsView };
 
     ghost coded = { elements_code };
 
     ghost view = { λ a. record {
-      elements = laid (map.from_sorted (drop a.gone a.shared)) (map.entries a.own.elements);
+      elements = laid a.lower (map.entries (layered a.upper a.own.elements));
       room = a.own.room;
     } };
 
-    ghost invariant = { λ a. IsRising a.shared × (a.gone ≤ length a.shared)
-        × HasNoZero (laid (map.from_sorted (drop a.gone a.shared)) (map.entries a.own.elements)) };
+    ghost invariant = { λ a. HasNoZero (laid a.lower (map.entries (layered a.upper a.own.elements))) };
 }
 
 impl Elements {
@@ -57,8 +61,8 @@ impl Elements {
         ensures { result.elements ≡ map.empty }
     {
         Elements {
-            shared: Shared::empty(),
-            gone: 0,
+            lower: Rest::empty(),
+            upper: Rest::empty(),
             own: Sorted::new(alloc),
             copied: false,
         }
@@ -92,17 +96,19 @@ impl Elements {
         ensures all { IfOk result (λ all. all.items ≡ map.entries self.now.elements) }
         ensures no_zero { HasNoZero self.now.elements }
     {
-        merged(alloc, left(&self.shared, self.gone), self.own.as_slice())
+        let changed = layered(alloc, &self.upper, &self.own)?;
+        merged(alloc, self.lower.as_slice(), changed.as_slice(), false)
     }
 
     /// The least element that is left where one copy of an element is taken out.
     pub fn least_without(&self, element: u64) -> Option<u64>
         ensures { result ≡ least (one_fewer self.now.elements element) }
     {
-        lesser(
+        let changed = lesser(
             self.first_kept(self.own.as_slice(), element),
-            self.first_kept(left(&self.shared, self.gone), element),
-        )
+            self.first_kept(self.upper.as_slice(), element),
+        );
+        lesser(changed, self.first_kept(self.lower.as_slice(), element))
     }
 
     // The first in the list that is left where one copy of an element is taken out.
@@ -132,10 +138,13 @@ impl Elements {
     pub fn copies(&self, element: u64) -> u64
         ensures { result ≡ copies self.now.elements element }
     {
-        match self.own.get(element) {
-            Some(count) => count,
-            None => copies_in(left(&self.shared, self.gone), element),
+        if let Some(count) = self.own.get(element) {
+            return count;
         }
+        if let Some(count) = self.upper.get(element) {
+            return count;
+        }
+        self.lower.get(element).unwrap_or(0)
     }
 
     /// Makes room for one element more than so many, for which there is room. Where there is room for it, it is never refused.
@@ -158,17 +167,17 @@ impl Elements {
         if self.copied {
             return;
         }
-        let kept = self.shared.as_slice().len() - self.gone;
-        if self.own.len() < OWN + kept / 1024 && self.gone <= kept + OWN {
+        let kept = self.lower.len();
+        let spent = self.lower.gone() > kept.max(OWN);
+        if self.own.len() < OWN && !spent {
             return;
         }
         let alloc = self.own.allocator();
-        if let Ok(all) = self.to_entries(alloc) {
-            if let Ok(shared) = Shared::of(alloc, all) {
-                self.shared = shared;
-                self.gone = 0;
-                self.own.clear();
-            }
+        let most = if spent { 0 } else { UPPER * kept.isqrt() };
+        if let Ok((lower, upper)) = settled(alloc, &self.lower, &self.upper, &self.own, most) {
+            self.lower = lower;
+            self.upper = upper;
+            self.own.clear();
         }
     }
 
@@ -188,28 +197,20 @@ impl Elements {
         ensures elements { self.new.elements ≡ with_copies self.old.elements element count }
         ensures room { self.old.room ≤ self.new.room + 1 }
     {
-        if count != 0 {
+        if count == 0 && self.lower.let_go(element) && self.upper.let_go(element) {
+            self.own.remove(element);
+        } else {
             self.own.put(element, count);
-            return;
-        }
-        let total = self.shared.len();
-        match place_of(left(&self.shared, self.gone), element) {
-            Ok(0) => {
-                self.gone += 1;
-                self.own.remove(element);
-            }
-            Ok(_) => self.own.put(element, 0),
-            Err(_) => self.own.remove(element),
         }
     }
 
-    /// A copy, which shares the list. `Memory` where an allocation for what has changed since fails, or the list can't be shared.
+    /// A copy, which shares the lists. `Memory` where an allocation for what has changed since fails, or a list can't be shared.
     pub fn try_copy(&self, alloc: Global) -> Result<Elements, Memory>
         ensures { IfOk result (λ copy. copy.elements ≡ self.now.elements) }
     {
         Ok(Elements {
-            shared: self.shared.share()?,
-            gone: self.gone,
+            lower: self.lower.share()?,
+            upper: self.upper.share()?,
             own: self.own.try_copy(alloc)?,
             copied: true,
         })
@@ -219,31 +220,41 @@ impl Elements {
     pub fn copy_from(&mut self, other: &Elements) -> Result<(), Memory>
         ensures { OnOk result (self.new.elements ≡ other.now.elements) }
     {
-        let shared = other.shared.share()?;
+        let lower = other.lower.share()?;
+        let upper = other.upper.share()?;
         self.own.copy_from(&other.own)?;
-        self.shared = shared;
-        self.gone = other.gone;
+        self.lower = lower;
+        self.upper = upper;
         self.copied = true;
         Ok(())
     }
 }
 
-// The shared elements that are not gone.
-fn left(shared: &Shared, gone: usize) -> &[(u64, u64)]
-    requires { gone ≤ length shared.now }
-    ensures { result.now ≡ drop gone shared.now }
+// The lower and the upper list to be shared from now on: what has changed is laid into the upper one, or, if that would have so many
+// entries, into the lower one.
+fn settled(
+    alloc: Global,
+    lower: &Rest,
+    upper: &Rest,
+    own: &Sorted,
+    most: usize,
+) -> Result<(Rest, Rest), Memory>
+    ensures { IfOk result (λ made. laid made.0 (map.entries made.1)
+        ≡ laid lower.now (map.entries (layered upper.now own.now.elements))) }
 {
-    &shared.as_slice()[gone..]
+    let changed = layered(alloc, upper, own)?;
+    if changed.len() < most {
+        return Ok((lower.share()?, Rest::of(alloc, changed)?));
+    }
+    let all = merged(alloc, lower.as_slice(), changed.as_slice(), false)?;
+    Ok((Rest::of(alloc, all)?, Rest::empty()))
 }
 
-fn copies_in(list: &[(u64, u64)], element: u64) -> u64
-    requires { IsRising list.now }
-    ensures { result ≡ copies (map.from_sorted list.now) element }
+// The numbers of the upper list with those of one's own laid over them, rising, also where they are 0.
+fn layered(alloc: Global, upper: &Rest, own: &Sorted) -> Result<Vec<(u64, u64)>, Memory>
+    ensures { IfOk result (λ made. made.items ≡ map.entries (layered upper.now own.now.elements)) }
 {
-    match place_of(list, element) {
-        Ok(at) => list[at].1,
-        Err(_) => 0,
-    }
+    merged(alloc, upper.as_slice(), own.as_slice(), true)
 }
 
 fn insert_all(entries: &mut Entries<u64>, list: &[(u64, u64)]) -> Result<(), Memory>

@@ -7,6 +7,9 @@ use seq_model::Memory;
 use std::alloc::Global;
 use std::marker::Model;
 
+/// How many of the first elements are searched first.
+const NEAR: usize = 128;
+
 /// A number of copies for each of some elements, rising by element. It may be 0.
 #[derive(Drop)]
 pub struct Sorted {
@@ -142,8 +145,19 @@ impl Sorted {
     }
 }
 
-/// Where the element is in the list, which rises, or (`Err`) where it would go.
+/// Where the element is in the list, which rises, or (`Err`) where it would go. Most are asked for near the front, so that part is searched
+/// first: a list may be far larger than a cache.
 pub fn place_of(list: &[(u64, u64)], element: u64) -> Result<usize, usize>
+    requires { IsRising list.now }
+    ensures { IsPlaceOf element list.now result }
+{
+    if list.len() > NEAR && element < list[NEAR].0 {
+        return place_by_halves(&list[..NEAR], element);
+    }
+    place_by_halves(list, element)
+}
+
+fn place_by_halves(list: &[(u64, u64)], element: u64) -> Result<usize, usize>
     requires { IsRising list.now }
     ensures { IsPlaceOf element list.now result }
 {

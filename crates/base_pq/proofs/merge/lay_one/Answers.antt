@@ -4,9 +4,12 @@ use Rattle.std.specs.Cmp.{nat_cmp_total}
 use Rattle.std.specs.Ordering.{nat_cmp}
 use Rattle.std.specs.FinMap.Entries.{is_sorted-put}
 use Rattle.std.proofs.lemmas.Bool.Decides.{nat_tests}
+use Rattle.seq_model.specs.Counts.{with_copies}
 use Rattle.seq_model.specs.Entries.{IsRising}
+use Rattle.base_pq.specs.Laid.{with_number}
 use Rattle.seq_model.proofs.EntryLemmas.{insert_of, remove_of, rising_without}
 use Rattle.base_pq.proofs.MergeLemmas.{below_left, below_put, put_laid, rising_after, without_laid}
+use Rattle.base_pq.proofs.merge.lay_one.Goals.{then-zeros-via-then-zeros, then-zeros-via-else-zeros+then-count-ne0}
 use Rattle.base_pq.proofs.merge.lay_one.Goals as goal
 
 pub parted-at-requires : goal.parted-at-requires
@@ -28,12 +31,18 @@ returns-in_ok-push-clause-made c =
     let rest = c.args.rest.now in
     let before = c.in_ok-extend_from_slice.ensures.items ∙ ap (λ k. made ++ take k rest) c.parted-at.ensures.before in
     let now = c.in_ok-push.ensures.items ∙ ap (λ t. t ++ (c.args.element, c.args.count) ∷ []) before in
-    let some : (c.args.count == 0) ≡ false = grind (arith, nat_tests, c.if-count-ne0.true) in
+    let m = map.from_sorted {R = nat_cmp} (made ++ rest) in
+    let put = map.insert m c.args.element c.args.count in
+    let out = map.remove m c.args.element in
+    let number : put ≡ with_number c.args.zeros m c.args.element c.args.count = elim c.then-zeros.branch [
+      | then-zeros-via-then-zeros w ↦ ap (λ b. cond b put (with_copies m c.args.element c.args.count)) (sym w.if-zeros.true)
+      | then-zeros-via-else-zeros+then-count-ne0 w ↦ (
+          let some : (c.args.count == 0) ≡ false = grind (arith, nat_tests, w.if-count-ne0.true) in
+          λ i. cond (sym w.if-zeros.false i) put (cond (sym some i) out put))
+    ] in
     ap map.from_sorted (ap (λ k. c.push.new.self.items ++ drop k rest) c.parted-at.ensures.used
     ∙ put_laid c.args.element c.args.count made c.push.new.self.items rest c.requires.below now)
-    ∙ insert_of c.args.element c.args.count (made ++ rest) c.requires.rising
-    ∙ ap (λ b. cond b (map.remove (map.from_sorted (made ++ rest)) c.args.element)
-    (map.insert (map.from_sorted (made ++ rest)) c.args.element c.args.count)) (sym some)
+    ∙ insert_of c.args.element c.args.count (made ++ rest) c.requires.rising ∙ number
 
 pub returns-in_ok-push-clause-below : goal.returns-in_ok-push-clause-below
 returns-in_ok-push-clause-below c =
@@ -60,11 +69,13 @@ returns-else-count-ne0-clause-made c =
     let s = rising_after made rest c.requires.rising in
     let before = c.in_ok-extend_from_slice.ensures.items ∙ ap (λ k. made ++ take k rest) c.parted-at.ensures.before in
     let none : (c.args.count == 0) ≡ true = grind (arith, nat_tests, c.if-count-ne0.false) in
+    let m = map.from_sorted {R = nat_cmp} (made ++ rest) in
+    let put = map.insert m c.args.element c.args.count in
+    let out = map.remove m c.args.element in
     ap map.from_sorted (ap (λ k. c.extend_from_slice.new.self.items ++ drop k rest) c.parted-at.ensures.used
     ∙ without_laid c.args.element made c.extend_from_slice.new.self.items rest s c.requires.below before)
     ∙ remove_of c.args.element (made ++ rest) c.requires.rising
-    ∙ ap (λ b. cond b (map.remove (map.from_sorted (made ++ rest)) c.args.element)
-    (map.insert (map.from_sorted (made ++ rest)) c.args.element c.args.count)) (sym none)
+    ∙ (λ i. cond (sym c.if-zeros.false i) put (cond (sym none i) out put))
 
 pub returns-else-count-ne0-clause-below : goal.returns-else-count-ne0-clause-below
 returns-else-count-ne0-clause-below c =

@@ -1,25 +1,37 @@
-use Rattle.std.proofs.Common.{sym, ap, subst, ◌∙◌, drop}
-use Rattle.std.specs.FinMap.{from_sorted}
-use Rattle.seq_model.specs.Entries.{IsRising}
+use Rattle.std.proofs.Common.{sym, ap, ◌∙◌, unwrap_or}
+use Rattle.std.specs.FinMap.{get}
 use Rattle.seq_model.specs.Counts.{copies}
-use Rattle.base_pq.proofs.LaidLemmas.{copies_over, copies_some}
-use Rattle.base_pq.proofs.MergeLemmas.{rising_drop}
+use Rattle.seq_model.proofs.EntryLemmas.{or_else}
+use Rattle.base_pq.proofs.LaidLemmas.{copies_over, copies_some, over}
 use Rattle.base_pq.proofs.elements.Elements.copies.Goals as goal
-
-pub copies_in-requires : goal.copies_in-requires
-copies_in-requires c =
-    subst IsRising (sym c.left.ensures) (rising_drop c.self.inside.gone c.self.inside.shared c.self.invariant.0)
 
 pub returns-in-Some : goal.returns-in-Some
 returns-in-Some c =
+    let m = c.self.inside.lower in
+    let u = c.self.inside.upper in
+    let o = c.self.inside.own.elements in
+    let x = c.args.element in
     sym (copies_some c.in-Some.count)
-    ∙ sym (copies_over (from_sorted (drop c.self.inside.gone c.self.inside.shared)) c.self.inside.own.elements c.args.element
-    _ c.in-Some.ensures)
-    ∙ ap (λ s. copies s.elements c.args.element) c.self.view_is
+    ∙ ap (λ f. unwrap_or (over (or_else f (get u x)) (get m x)) 0) (sym c.in-Some.is ∙ c.get.ensures)
+    ∙ sym (copies_over m u o x) ∙ ap (λ s. copies s.elements x) c.self.view_is
 
-pub returns-in-None : goal.returns-in-None
-returns-in-None c =
-    c.copies_in.ensures ∙ ap (λ es. copies (from_sorted es) c.args.element) c.left.ensures
-    ∙ sym (copies_over (from_sorted (drop c.self.inside.gone c.self.inside.shared)) c.self.inside.own.elements c.args.element
-    _ c.in-None.ensures)
-    ∙ ap (λ s. copies s.elements c.args.element) c.self.view_is
+pub returns-in-Some-get : goal.returns-in-Some-get
+returns-in-Some-get c =
+    let m = c.self.inside.lower in
+    let u = c.self.inside.upper in
+    let o = c.self.inside.own.elements in
+    let x = c.args.element in
+    sym (copies_some c.in-Some-get.count)
+    ∙ (λ i. unwrap_or (over (or_else ((sym c.in_default.is ∙ c.get.ensures) i) ((sym c.in-Some-get.is ∙ c.get-2.ensures) i)) (get m x)) 0)
+    ∙ sym (copies_over m u o x) ∙ ap (λ s. copies s.elements x) c.self.view_is
+
+pub returns : goal.returns
+returns c =
+    let m = c.self.inside.lower in
+    let u = c.self.inside.upper in
+    let o = c.self.inside.own.elements in
+    let x = c.args.element in
+    c.unwrap_or.ensures ∙ ap (λ f. unwrap_or f 0) c.get-3.ensures
+    ∙ (λ i. unwrap_or (over (or_else ((sym c.in_default.is ∙ c.get.ensures) i)
+    ((sym c.in_default-get.is ∙ c.get-2.ensures) i)) (get m x)) 0)
+    ∙ sym (copies_over m u o x) ∙ ap (λ s. copies s.elements x) c.self.view_is
