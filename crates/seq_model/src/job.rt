@@ -20,8 +20,9 @@ pub enum Ask<V> {
 /// What runs as one transaction. Each job states what it asks (`asks`): contracts of its receipts speak of that relation, and say as much
 /// as it does.
 ///
-/// `ask` is all that a job has to have. One of many calls, whose `ask` looks at each reply so far, may have `ask_on` besides, and note in its
-/// place what it need not look at again. It says what its notes mean (`stands`): of these replies, all of them, they are these.
+/// `ask` is all that a job has to have. A job of many calls, whose `ask` looks at each reply so far, may have `ask_on` besides: it notes in
+/// its place how many replies it has looked at, and what of them it needs again, and so is asked in the same time at each call. For its
+/// proof it says what the marks mean (`stands`): after just these replies they may be these.
 pub trait Job<V> {
     ghost use Rattle.std.specs.Prelude.{List, ⊤};
     ghost use Rattle.seq_model.specs.declared.call.Reply.{Reply as AReply};
@@ -36,9 +37,8 @@ pub trait Job<V> {
     fn ask(&self, replies: &[Reply<V>]) -> Result<Ask<V>, Memory>
         ensures { IfOk result (λ ask. asks self.now replies.now ask) };
 
-    /// The same, by what the job noted when it was asked before: the place is new before the first call of a transaction, and afterwards as
-    /// the job left it. It may note how many of the replies it has taken in, and what they say; a job that notes nothing looks at all of
-    /// them.
+    /// The same, by what the job noted when it was asked before. The place is new before the first call of a transaction, and afterwards as
+    /// the job left it; the replies are those that it noted something of, and further ones. By default nothing is noted.
     fn ask_on(&self, replies: &[Reply<V>], place: &mut JobPlace) -> Result<Ask<V>, Memory>
         requires place { IsPlaceIn (λ told noted. stands self.now told noted) replies.now place.old }
         ensures ask { IfOk result (λ ask. asks self.now replies.now ask) }
