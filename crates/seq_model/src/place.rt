@@ -1,8 +1,8 @@
 //! What a job notes of the replies to its calls.
 ghost use Rattle.std.specs.Prelude.{◌≡◌};
 
-/// What a job noted of the replies so far, while one transaction asks: so its next ask need not look at them again. It is numbers alone, and
-/// takes no memory. Each attempt begins with a new place, since another transaction may be replied otherwise.
+/// What a job noted of the replies so far, while one transaction asks: so its next ask need not look at them again. It is numbers alone,
+/// and takes no memory. Each attempt begins with a new place, since another transaction may be replied otherwise.
 #[derive(Clone, Copy)]
 pub struct JobPlace {
     /// To how many of the replies, from the first on, the marks apply. At 0, as in a new place, nothing is noted, whatever the marks.
