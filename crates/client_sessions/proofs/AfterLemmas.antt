@@ -1,5 +1,5 @@
--- What is left of a program after some replies and then others is what is left, after the others, of what is left after the first. So of the
--- replies that a session has taken in one equation is enough, of what is left after them, whatever is replied later.
+-- What is left of a program after some replies and then others is what is left, after the others, of what is left after the first. So of
+-- the replies that a session has taken in one equation is enough, of what is left after them, whatever is replied later.
 use Rattle.std.proofs.Common.{◌≡◌, ℕ, ◌+◌, ◌<◌, List, [], ◌∷◌, ◌++◌, length, take, drop, get_or, take-append-drop, refl, sym, ◌∙◌, ap}
 use Rattle.std.proofs.lemmas.List.{take_more}
 use Rattle.seq_model.specs.declared.call.Reply.{Reply}

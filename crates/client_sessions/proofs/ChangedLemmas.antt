@@ -1,7 +1,7 @@
--- An update that has made its first changes continues with the others. A change has one call or two: the first gets its item, and the second,
--- where there is one, sets it, and its reply says nothing.
-use Rattle.std.proofs.Common.{◌≡◌, ◌≢◌, ℕ, ◌+◌, ◌<◌, ◌≤◌, ◌⊎◌, inl, inr, refl, sym, ◌∙◌, ap, subst, arith, true, false, cond, Option, Some, None}
-use Rattle.std.specs.Prelude.{not}
+-- An update that has made its first changes continues with the others. A change has one call or two: the first gets its item, and the
+-- second, where there is one, sets it, and its reply says nothing.
+use Rattle.std.proofs.Common.{◌≡◌, ◌≢◌, ℕ, ◌+◌, ◌<◌, ◌≤◌, ◌⊎◌, inl, inr, refl, sym, ◌∙◌, ap, subst, arith, true, false, cond}
+use Rattle.std.proofs.Common.{not, Option, Some, None}
 use Rattle.std.proofs.Common.{List, [], ◌∷◌, ◌++◌, length, take, drop, get_or, length-take, length-drop}
 use Rattle.std.proofs.lemmas.List.{drop_all, take-take}
 use lib.Seq.{take-add}
@@ -124,7 +124,8 @@ module _ (changes : List Change) (replies : List (Reply Entry)) (heard n : ℕ) 
       → ((next : Changed → SessionProgram) → IsStop stop (after (change_one (get_or changes n d) next) left))
       → IsStop stop (after (update changes) replies)
   change_stops d stop left is lt stops =
-      let next : Changed → SessionProgram = λ one. change_each (drop (n + 1) changes) (λ more. Answers (Updated (a.made ++ (one ∷ more)))) in
+      let next : Changed → SessionProgram =
+      λ one. change_each (drop (n + 1) changes) (λ more. Answers (Updated (a.made ++ (one ∷ more)))) in
       stops_along (after (update changes) replies) (after (change_one (get_or changes n d) next) left) stop
       (change_next d lt ∙ ap (after (change_one (get_or changes n d) next)) (sym is)) (stops next)
 

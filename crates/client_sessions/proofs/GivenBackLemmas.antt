@@ -1,7 +1,7 @@
 -- A deletion whose replies come two by two continues after each pair, where the first names the item of its booking with enough units used.
 -- So how many pairs were passed is all that it notes: the first reply has its customer, and what is left is given back from there on.
-use Rattle.std.proofs.Common.{◌≡◌, ℕ, zero, suc, ◌+◌, ◌-◌, ◌*◌, ◌<◌, ◌≤◌, ◌⊎◌, min, Bool, true, false, cond, Some, inl, inr, refl, sym, ◌∙◌, ap}
-use Rattle.std.proofs.Common.{List, [], ◌∷◌, ◌++◌, length, get_or, drop, take, add-one, length-take, subst}
+use Rattle.std.proofs.Common.{◌≡◌, ℕ, zero, suc, ◌+◌, ◌-◌, ◌*◌, ◌<◌, ◌≤◌, ◌⊎◌, min, Bool, true, false, cond, Some, inl, inr, refl, sym, ◌∙◌}
+use Rattle.std.proofs.Common.{List, [], ◌∷◌, ◌++◌, length, get_or, drop, take, add-one, length-take, ap, subst}
 use Rattle.std.proofs.Common.{arith}
 use Rattle.std.specs.Prelude.{nat_le, ◌/◌}
 use Rattle.std.proofs.lemmas.List.{drop_min, take-take}
@@ -129,7 +129,8 @@ module _ (who : Customer) (replies : List (Reply Entry)) (n : ℕ) (a : ArePasse
   pub passed_wrong : (next : SessionProgram) → is_given_back (get_or who.bookings n d) got ≡ false
       → asked (after (gives next) replies) ≡ GiveUp
   passed_wrong next wrong =
-      ap (λ (p : SessionProgram). asked p) (passed_left who replies n a next ∙ back_wrong who.bookings replies n d Nothing next lt pair wrong)
+      ap (λ (p : SessionProgram). asked p)
+      (passed_left who replies n a next ∙ back_wrong who.bookings replies n d Nothing next lt pair wrong)
 
 -- ---- in a place
 module _ (who : Customer) (replies : List (Reply Entry)) (n m : ℕ) (le : 2 * n ≤ m) where
@@ -150,8 +151,8 @@ module _ (who : Customer) (replies : List (Reply Entry)) (n m : ℕ) (le : 2 * n
     leads = λ next. ap (after (give_all_back who.bookings next)) (sym again) ∙ a.leads next;
   }
 
-same_customer : (one two : Customer) (xs ys : List (Reply Entry)) → ◌≡◌ {A = List (Reply Entry)} (Value (Client one) ∷ xs) (Value (Client two) ∷ ys)
-    → (one ≡ two) × (xs ≡ ys)
+same_customer : (one two : Customer) (xs ys : List (Reply Entry))
+    → ◌≡◌ {A = List (Reply Entry)} (Value (Client one) ∷ xs) (Value (Client two) ∷ ys) → (one ≡ two) × (xs ≡ ys)
 same_customer one two xs ys e = (cc, cc)
 
 -- what a deletion that was told its customer has noted

@@ -1,7 +1,7 @@
 -- A reservation that has weighed the replies to its first asks continues with the others, from the best that these replies name.
 --
--- Each reply is weighed once, so one step is all there is to show (`weighed_more`): the program continues after the reply with what `better`
--- makes of the candidates, which is what the numbers name then. Numbers name the same among the first replies as among all.
+-- Each reply is weighed once, so one step is all there is to show (`weighed_more`): the program continues after the reply with what
+-- `better` makes of the candidates, which is what the numbers name then. Numbers name the same among the first replies as among all.
 use Rattle.std.proofs.Common.{◌≡◌, ◌≢◌, ℕ, zero, suc, ◌+◌, ◌<◌, ◌≤◌, ◌⊎◌, true, false, cond, inl, inr, refl, sym, ◌∙◌, ap, subst, arith}
 use Rattle.std.proofs.Common.{List, [], ◌∷◌, length, take, drop, get_or, Option, None, length-take}
 use Rattle.std.specs.Prelude.{◌==◌, ◌&&◌, nat_le, option_map}

@@ -16,7 +16,7 @@ use Rattle.client_sessions.specs.declared.entry.Entry.TheVariants.{Customer as C
 use Rattle.client_sessions.specs.Sessions.{SessionProgram, give_all_back, change_one, change_each, is_customer_within, is_same_item}
 use Rattle.client_sessions.specs.Weighed.{AreWeighed, weighed_in}
 
--- The units of the first bookings are free again, by two calls each: after the replies to them the program continues with the other bookings.
+-- The units of the first bookings are free again, by two calls each: after the replies to them the program continues with the others.
 pub record ArePassed (who : Customer) (replies : List (Reply Entry)) (count : ℕ) : Type 0 where
   pub few : count ≤ length who.bookings
   pub told : 2 * count ≤ length replies

@@ -1,6 +1,6 @@
 //! Customers whose earlier bookings stand in a list that copies share.
-ghost use Rattle.std.specs.Prelude.{◌≡◌, ◌+◌, ◌++◌, ◌∷◌, ◌<◌, ◌≤◌, ◌↔◌, [], IsTrue, IfNone, IfOk, IfSome, OnOk, drop, get_or, length, nat_le};
-ghost use Rattle.std.specs.Prelude.{true};
+ghost use Rattle.std.specs.Prelude.{◌≡◌, ◌+◌, ◌++◌, ◌∷◌, ◌<◌, ◌≤◌, ◌↔◌, [], IsTrue, IfNone, IfOk, IfSome, OnOk, drop, get_or};
+ghost use Rattle.std.specs.Prelude.{length, nat_le, true};
 ghost use Rattle.std.specs.List.{list_all, list_any};
 ghost use Rattle.std.specs.Arc.{arc_value};
 ghost use Rattle.vac_model.specs.Actions as actions;

@@ -147,7 +147,11 @@ impl Weighed {
     }
 
     /// The candidates.
-    pub(crate) fn all_named(&self, asks: &[Ask], replies: &[Reply<Entry>]) -> Each<Option<(u64, Item)>>
+    pub(crate) fn all_named(
+        &self,
+        asks: &[Ask],
+        replies: &[Reply<Entry>],
+    ) -> Each<Option<(u64, Item)>>
         requires { AreWeighed asks.now replies.now self.now }
         ensures { result ≡ all_named asks.now replies.now self.now }
     {

@@ -21,8 +21,8 @@ returns-then-weighed-asks-clause-ask c =
     let all = c.weigh_all-told.ensures.all c.if-not-told.false in
     let lt = c.if-weighed-asks.true in
     ap ask.Call c.get_of.ensures
-    ∙ asks_next c.args.asks.now c.args.replies.now c.weigh_all-told.new.self c.weigh_all-told.ensures.weighed _ c.args.customer c.args.units lt
-    (omega (arith, all, lt))
+    ∙ asks_next c.args.asks.now c.args.replies.now c.weigh_all-told.new.self c.weigh_all-told.ensures.weighed _ c.args.customer
+    c.args.units lt (omega (arith, all, lt))
 
 pub returns-then-weighed-asks-clause-place : goal.returns-then-weighed-asks-clause-place
 returns-then-weighed-asks-clause-place c = c.note.ensures c.args.asks.now c.args.replies.now c.weigh_all-told.ensures.weighed

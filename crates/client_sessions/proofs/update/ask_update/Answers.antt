@@ -10,7 +10,8 @@ pass_changes-requires-changed c = c.passed_in-passed.ensures c.args.changes.now 
 
 pub returns-then-passed-changes-clause-ask : goal.returns-then-passed-changes-clause-ask
 returns-then-passed-changes-clause-ask c =
-    all_changed c.args.changes.now c.args.replies.now c.pass_changes.new.heard c.pass_changes.new.passed c.pass_changes.ensures (omega (arith, c.if-passed-changes.true))
+    all_changed c.args.changes.now c.args.replies.now c.pass_changes.new.heard c.pass_changes.new.passed c.pass_changes.ensures
+    (omega (arith, c.if-passed-changes.true))
 
 pub returns-then-passed-changes-clause-place : goal.returns-then-passed-changes-clause-place
 returns-then-passed-changes-clause-place c =
@@ -31,4 +32,5 @@ pub returns-in-Err-clause-ask : goal.returns-in-Err-clause-ask
 returns-in-Err-clause-ask c =
     c.ask_of.ensures (after (programs.update c.args.changes.now) c.args.replies.now)
     (change_stops c.args.changes.now c.args.replies.now c.pass_changes.new.heard c.pass_changes.new.passed c.pass_changes.ensures _
-    c.in-Err.stop c.new-walk.result (c.new-walk.ensures ∙ c.split_at.ensures.back) (omega (arith, c.pass_changes.ensures.few, c.if-passed-changes.false)) c.in-Err.ensures)
+    c.in-Err.stop c.new-walk.result (c.new-walk.ensures ∙ c.split_at.ensures.back)
+    (omega (arith, c.pass_changes.ensures.few, c.if-passed-changes.false)) c.in-Err.ensures)
