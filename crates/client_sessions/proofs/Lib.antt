@@ -7,3 +7,6 @@ pub mod DraftLemmas
 pub mod GetLemmas
 pub mod GivenBackLemmas
 pub mod JoinedLemmas
+pub mod AfterLemmas
+pub mod WeighedLemmas
+pub mod ChangedLemmas

@@ -1,7 +1,7 @@
 -- Along a program: what holds of what is left of it holds of it. Each call's contract speaks of every program that continues after it, so
 -- the steps of a walk are put together by instances alone.
-use Rattle.std.proofs.Common.{◌≡◌, ◌≢◌, ℕ, suc, ◌+◌, ◌<◌, ◌≤◌, ◌==◌, true, false, cond, List, [], ◌∷◌, ◌++◌, length, drop, drop-cons}
-use Rattle.std.proofs.Common.{add-one, append_assoc, get_or, Option, Some, Result, sym, ◌∙◌, ap, subst, arith}
+use Rattle.std.proofs.Common.{◌≡◌, ◌≢◌, ℕ, zero, suc, ◌+◌, ◌<◌, ◌≤◌, ◌==◌, true, false, cond, List, [], ◌∷◌, ◌++◌, length, drop, drop-cons}
+use Rattle.std.proofs.Common.{add-one, append_assoc, get_or, Option, Some, Result, refl, sym, ◌∙◌, ap, subst, arith}
 use Rattle.std.specs.Prelude.{nat_lt, nat_le, is_none, ◌&&◌, if◌then◌else◌}
 use Rattle.std.specs.List.{list_any}
 use Rattle.std.proofs.lemmas.Bool.Decides.{nat_tests}
@@ -70,6 +70,14 @@ module _ (waits : List Wait) (i : ℕ) (d : Wait) (next : SessionProgram) where
   pub forget_next : (left : List (Reply Entry)) → i < length waits → after (forget_all (drop i waits) next) left
       ≡ after (remove_ticket (get_or waits i d).ticket (forget_all (drop (i + 1) waits) next)) left
   forget_next left lt = ap (λ xs. after (forget_all xs next) left) (drop_next waits i d lt)
+
+-- replies to removes of tickets say nothing
+pub forgotten : (n : ℕ) (waits : List Wait) (next : SessionProgram) (replies : List (Reply Entry)) → n ≤ length waits → n ≤ length replies
+    → after (forget_all waits next) replies ≡ after (forget_all (drop n waits) next) (drop n replies)
+forgotten zero waits next replies few told = refl
+forgotten (suc n) [] next replies few told = absurd (omega (arith, few))
+forgotten (suc n) (w ∷ waits) next [] few told = absurd (omega (arith, told))
+forgotten (suc n) (w ∷ waits) next (reply ∷ replies) few told = forgotten n waits next replies (omega (arith, few)) (omega (arith, told))
 
 module _ (changes : List Change) (i : ℕ) (d : Change) (next : List Changed → SessionProgram) where
   pub each_next : (left : List (Reply Entry)) → i < length changes → after (change_each (drop i changes) next) left

@@ -8,6 +8,8 @@ pub mod Walks
 pub mod Left
 pub mod Gets
 pub mod GivenBack
+pub mod Weighed
+pub mod Noted
 pub mod Drafts
 pub mod Serving
 pub mod Refusals

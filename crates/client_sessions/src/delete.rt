@@ -1,5 +1,5 @@
 //! The program of a deletion, walked.
-ghost use Rattle.std.specs.Prelude.{◌≡◌, ◌≤◌, ◌*◌, ℕ, Option, Some, IfOk, true, false, length, drop};
+ghost use Rattle.std.specs.Prelude.{◌≡◌, ◌≤◌, ◌*◌, ◌∷◌, ℕ, Option, Some, IfOk, IfSome, true, false, length, drop};
 ghost use Rattle.std.specs.Option.{option_copied};
 ghost use Rattle.seq_model.specs.Programs.{after, asked, Answers};
 ghost use Rattle.seq_model.specs.declared.job.Ask.TheVariants.{GiveUp};
@@ -8,13 +8,17 @@ ghost use Rattle.client_sessions.specs.Sessions as programs;
 ghost use Rattle.client_sessions.specs.Sessions.{SessionProgram};
 ghost use Rattle.client_sessions.specs.Walks.{Comes};
 ghost use Rattle.client_sessions.specs.Serving.{serves_on, waiter, IsServed};
-ghost use Rattle.client_sessions.specs.GivenBack.{is_given_back};
+ghost use Rattle.client_sessions.specs.GivenBack.{is_given_back, once_given_back};
+ghost use Rattle.client_sessions.specs.Noted.{ArePassed, HasGivenBack};
+ghost use Rattle.client_sessions.specs.declared.entry.Entry.TheVariants.{Customer as Client};
+ghost use Rattle.seq_model.specs.Places.{IsPlaceIn};
+ghost use Rattle.seq_model.specs.declared.call.Reply.TheVariants.{Value as AValue};
 
 use crate::entry::Entry;
 use crate::shared::SharedCustomer;
 use crate::split::SplitCustomer;
-use crate::walk::{Stop, Walk, put_customer};
-use seq_model::{Memory, Reply};
+use crate::walk::{Left, Stop, Walk, ask_of, put_customer};
+use seq_model::{Ask, JobPlace, Memory, Reply};
 use std::alloc::Global;
 use vac_model::{ActionReply, Booking, Item, Kind, SERVE_LIMIT, Ticket, Wait, is_item_sound};
 
@@ -115,11 +119,12 @@ impl<'a> Walk<'a> {
         Ok(())
     }
 
-    fn give_all_back(&mut self, who: &SplitCustomer) -> Result<(), Stop>
+    /// Makes the units of the bookings from the one with this number on free again.
+    fn give_back_from(&mut self, who: &SplitCustomer, from: usize) -> Result<(), Stop>
         ensures { (next : SessionProgram)
-            → Comes (after (programs.give_all_back who.now.bookings next) self.old) result (λ _. after next self.new) }
+            → Comes (after (programs.give_all_back (drop from who.now.bookings) next) self.old) result (λ _. after next self.new) }
     {
-        let (earlier, later) = who.bookings();
+        let (earlier, later) = who.bookings_from(from);
         self.give_list_back(earlier)?;
         self.give_list_back(later)
     }
@@ -127,8 +132,9 @@ impl<'a> Walk<'a> {
     fn forget_all(&mut self, waits: &[Wait]) -> Result<(), Stop>
         ensures { (next : SessionProgram) → Comes (after (programs.forget_all waits.now next) self.old) result (λ _. after next self.new) }
     {
-        for wait in waits {
-            self.remove_ticket(wait.ticket)?;
+        let passed = self.skip(waits.len());
+        for i in passed..waits.len() {
+            self.remove_ticket(waits[i].ticket)?;
         }
         Ok(())
     }
@@ -286,19 +292,105 @@ impl<'a> Walk<'a> {
         ensures { Comes (after (programs.delete customer) self.old) result (λ reply. Answers reply) }
     {
         match self.get_customer(customer)? {
-            Some(who) => self.delete_found(customer, who),
+            Some(who) => self.delete_from(customer, who, 0),
             None => Ok(ActionReply::Absent),
         }
     }
 
-    fn delete_found(&mut self, customer: u64, who: &SplitCustomer) -> Result<ActionReply, Stop>
+    /// A deletion from the booking with this number on.
+    fn delete_from(
+        &mut self,
+        customer: u64,
+        who: &SplitCustomer,
+        from: usize,
+    ) -> Result<ActionReply, Stop>
         requires { programs.is_customer_within who.now ≡ true }
-        ensures { Comes (after (programs.delete_found customer (Some who.now)) self.old) result (λ reply. Answers reply) }
+        ensures { Comes (after (programs.give_all_back (drop from who.now.bookings) (once_given_back customer who.now)) self.old) result
+            (λ reply. Answers reply) }
     {
-        self.give_all_back(who)?;
+        self.give_back_from(who, from)?;
         self.forget_all(who.waits())?;
         self.remove_customer(customer)?;
         let served = self.serve_all(who)?;
         Ok(ActionReply::Deleted(who.bill(), served))
+    }
+}
+
+/// Passes the bookings whose two calls have their replies: whether each of them is given back.
+fn pass_pairs(who: &SplitCustomer, replies: &[Reply<Entry>], passed: &mut usize) -> bool
+    requires { ArePassed who.now replies.now passed.old }
+    ensures passed { ArePassed who.now replies.now passed.new }
+    ensures gives_up { result ≡ false → (next : SessionProgram)
+        → asked (after (programs.give_all_back who.now.bookings next) replies.now) ≡ GiveUp }
+{
+    let count = replies.len() / 2;
+    'pairs: while *passed < count {
+        let Some(booking) = who.booking(*passed) else {
+            return true;
+        };
+        if !is_given_back(&booking, &replies[2 * *passed]) {
+            return false;
+        }
+        *passed += 1;
+    }
+    true
+}
+
+/// What a deletion asks, once it was told its customer, and what it notes.
+fn ask_found(
+    alloc: Global,
+    customer: u64,
+    who: &SplitCustomer,
+    rest: &[Reply<Entry>],
+    place: &mut JobPlace,
+) -> Result<Ask<Entry>, Memory>
+    requires within { programs.is_customer_within who.now ≡ true }
+    requires place { IsPlaceIn (λ told noted. HasGivenBack told noted.heard) (AValue (Client who.now) ∷ rest.now) place.old }
+    ensures ask { IfOk result (λ ask. ask ≡ asked (after (programs.delete_found customer (Some who.now)) rest.now)) }
+    ensures place { IsPlaceIn (λ told noted. HasGivenBack told noted.heard) (AValue (Client who.now) ∷ rest.now) place.new }
+{
+    let mut passed = place.heard / 2;
+    let given_back = pass_pairs(who, rest, &mut passed);
+    place.heard = 2 * passed + 1;
+    if !given_back {
+        return Ok(Ask::GiveUp);
+    }
+    let (_, left) = rest.split_at(2 * passed);
+    let mut walk = Walk::new(alloc, Left::Replies(left));
+    ask_of(walk.delete_from(customer, who, passed))
+}
+
+/// The customer that the first reply names, where the session continues with it, and the replies after that one.
+fn customer_first(replies: &[Reply<Entry>]) -> Option<(&SplitCustomer, &[Reply<Entry>])>
+    ensures told { IfSome result (λ told. replies.now ≡ AValue (Client told.0.now) ∷ told.1.now) }
+    ensures within { IfSome result (λ told. programs.is_customer_within told.0.now ≡ true) }
+{
+    let [Reply::Value(Entry::Customer(shared)), rest @ ..] = replies else {
+        return None;
+    };
+    if shared.is_within() {
+        Some((shared.get(), rest))
+    } else {
+        None
+    }
+}
+
+/// What a deletion asks. It notes how many bookings were given back.
+pub(crate) fn ask_deletion(
+    alloc: Global,
+    customer: u64,
+    replies: &[Reply<Entry>],
+    place: &mut JobPlace,
+) -> Result<Ask<Entry>, Memory>
+    requires { IsPlaceIn (λ told noted. HasGivenBack told noted.heard) replies.now place.old }
+    ensures ask { IfOk result (λ ask. ask ≡ asked (after (programs.delete customer) replies.now)) }
+    ensures place { IsPlaceIn (λ told noted. HasGivenBack told noted.heard) replies.now place.new }
+{
+    match customer_first(replies) {
+        Some((who, rest)) => ask_found(alloc, customer, who, rest, place),
+        None => {
+            let mut walk = Walk::new(alloc, Left::Replies(replies));
+            ask_of(walk.delete(customer))
+        }
     }
 }

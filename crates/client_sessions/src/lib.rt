@@ -17,6 +17,7 @@ mod split;
 mod state;
 mod update;
 mod walk;
+mod weighed;
 
 pub use entry::Entry;
 pub use progress::{NoProgress, Progress};

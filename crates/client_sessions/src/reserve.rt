@@ -423,6 +423,28 @@ impl<'a> Walk<'a> {
         }))
     }
 
+    /// What is left of a reservation once it has its candidates.
+    pub(crate) fn reserve_among(
+        &mut self,
+        customer: u64,
+        units: u64,
+        best: &Each<Option<(u64, Item)>>,
+    ) -> Result<ActionReply, Stop>
+        requires { AreSound best.now }
+        ensures { Comes (after (programs.reserve_among customer units best.now.car best.now.flight best.now.room) self.old) result
+            (λ reply. Answers reply) }
+    {
+        if no_candidate(best) {
+            return Ok(ActionReply::Reserved(Each {
+                car: Part::Nothing,
+                flight: Part::Nothing,
+                room: Part::Nothing,
+            }));
+        }
+        let found = self.get_customer(customer)?;
+        self.decide_all(customer, units, best, found)
+    }
+
     pub(crate) fn reserve(
         &mut self,
         customer: u64,
@@ -437,14 +459,6 @@ impl<'a> Walk<'a> {
             room: None,
         };
         self.gather(asks, &mut best)?;
-        if no_candidate(&best) {
-            return Ok(ActionReply::Reserved(Each {
-                car: Part::Nothing,
-                flight: Part::Nothing,
-                room: Part::Nothing,
-            }));
-        }
-        let found = self.get_customer(customer)?;
-        self.decide_all(customer, units, &best, found)
+        self.reserve_among(customer, units, &best)
     }
 }

@@ -1,5 +1,6 @@
 //! The session of one action.
 ghost use Rattle.std.specs.Prelude.{◌≡◌, IfOk, IfErr, IfSome};
+ghost use Rattle.seq_model.specs.Places.{IsPlaceIn};
 ghost use Rattle.seq_model.specs.Programs.{after, asked, replies_of, Answers};
 ghost use Rattle.vac_model.specs.Actions.{IsAllowed};
 ghost use Rattle.client_sessions.specs.Sessions as programs;
@@ -7,17 +8,21 @@ ghost use Rattle.client_sessions.specs.Walks.{Comes};
 ghost use Rattle.client_sessions.specs.Left.{replies_in};
 ghost use Rattle.client_sessions.specs.Gets.{get_due};
 ghost use Rattle.client_sessions.specs.Refusals.{IsSessionRefusal};
+ghost use Rattle.client_sessions.specs.Weighed.{AreWeighed, weighed_in};
 ghost use Rattle.seq_model.specs.declared.job.Ask.TheVariants as ask;
 
+use crate::delete::ask_deletion;
 use crate::entry::Entry;
 use crate::reserve::due_of;
-use crate::walk::{Left, Stop, Walk, get_of};
-use seq_model::{Ask, Items, Job, Memory, Record, Refusal, Reply};
+use crate::update::ask_update;
+use crate::walk::{Left, Stop, Walk, ask_of, get_of};
+use crate::weighed::Weighed;
+use seq_model::{Ask, Items, Job, JobPlace, Memory, Record, Refusal, Reply};
 use std::alloc::Global;
 use std::marker::Model;
 use vac_model::{Action, ActionReply, Ask as ItemAsk, Kind};
 
-/// The transaction of one action, which is within its limits. It keeps nothing between its calls.
+/// The transaction of one action, which is within its limits. It keeps nothing between its calls but what it notes in its place.
 #[derive(Drop)]
 pub struct Session {
     alloc: Global,
@@ -74,6 +79,34 @@ impl<'a> Walk<'a> {
     }
 }
 
+/// What a reservation asks. It notes which of the replies so far names the candidate of each kind.
+fn ask_reservation(
+    alloc: Global,
+    customer: u64,
+    units: u64,
+    asks: &[ItemAsk],
+    replies: &[Reply<Entry>],
+    place: &mut JobPlace,
+) -> Result<Ask<Entry>, Memory>
+    requires { IsPlaceIn (λ told noted. AreWeighed asks.now told (weighed_in noted)) replies.now place.old }
+    ensures ask { IfOk result (λ ask. ask ≡ asked (after (programs.reserve customer units asks.now) replies.now)) }
+    ensures place { IsPlaceIn (λ told noted. AreWeighed asks.now told (weighed_in noted)) replies.now place.new }
+{
+    let mut weighed = Weighed::in_place(place);
+    let told = weighed.weigh_all(asks, replies);
+    weighed.note(place);
+    if !told {
+        return Ok(Ask::GiveUp);
+    }
+    if weighed.count < asks.len() {
+        return Ok(Ask::Call(get_of(asks[weighed.count])));
+    }
+    let (_, left) = replies.split_at(weighed.count);
+    let mut walk = Walk::new(alloc, Left::Replies(left));
+    let best = weighed.all_named(asks, replies);
+    ask_of(walk.reserve_among(customer, units, &best))
+}
+
 impl Session {
     /// The session of this action.
     ///
@@ -101,10 +134,7 @@ impl Session {
                 asks.as_slice(),
             ),
             Action::Delete(customer) => walk.delete(*customer),
-            Action::Update(changes) => {
-                let changes = walk.update(changes.as_slice())?;
-                Ok(ActionReply::Updated(changes))
-            }
+            Action::Update(changes) => walk.answer_update(changes.as_slice()),
             Action::QueryItem(kind, id) => walk.query_item(*kind, *id),
             Action::QueryBill(customer) => walk.query_bill(*customer),
         }
@@ -115,12 +145,7 @@ impl Session {
     fn walked(&self, replies: &[Reply<Entry>]) -> Result<Ask<Entry>, Memory>
         ensures { IfOk result (λ ask. ask ≡ asked (after (programs.session self.now) replies.now)) }
     {
-        match self.play(Left::Replies(replies)) {
-            Ok(_) => Ok(Ask::Done),
-            Err(Stop::Asks(call)) => Ok(Ask::Call(call)),
-            Err(Stop::GivesUp) => Ok(Ask::GiveUp),
-            Err(Stop::Memory) => Err(Memory),
-        }
+        ask_of(self.play(Left::Replies(replies)))
     }
 
     /// The item that a reservation gets next, while not all that it asks for are got: no candidate is weighed for that.
@@ -149,8 +174,11 @@ impl Session {
 impl Job<Entry> for Session {
     ghost use Rattle.seq_model.specs.Programs.{after, asked};
     ghost use Rattle.client_sessions.specs.Sessions as programs;
+    ghost use Rattle.client_sessions.specs.Noted.{HasNoted};
 
     ghost asks = { λ action replies ask. ask ≡ asked (after (programs.session action) replies) };
+
+    ghost stands = { λ action replies place. HasNoted action replies place };
 
     /// What the session asks after these replies: it gives up where no balanced tables answer so.
     #[inline(always)]
@@ -159,5 +187,23 @@ impl Job<Entry> for Session {
             return Ok(Ask::Call(get_of(due)));
         }
         self.walked(replies)
+    }
+
+    /// The same. No reply to an ask, to the calls of a booking that is given back, or to those of a change is looked at twice.
+    #[inline(always)]
+    fn ask_on(&self, replies: &[Reply<Entry>], place: &mut JobPlace) -> Result<Ask<Entry>, Memory> {
+        match &self.action {
+            Action::Reserve(customer, units, asks) => ask_reservation(
+                self.alloc,
+                *customer,
+                *units,
+                asks.as_slice(),
+                replies,
+                place,
+            ),
+            Action::Delete(customer) => ask_deletion(self.alloc, *customer, replies, place),
+            Action::Update(changes) => ask_update(self.alloc, changes.as_slice(), replies, place),
+            _ => self.walked(replies),
+        }
     }
 }

@@ -1,9 +1,11 @@
 //! Customers whose earlier bookings stand in a list that copies share.
-ghost use Rattle.std.specs.Prelude.{◌≡◌, ◌+◌, ◌++◌, ◌∷◌, ◌≤◌, ◌↔◌, [], IsTrue, IfOk, OnOk, length, nat_le, true};
+ghost use Rattle.std.specs.Prelude.{◌≡◌, ◌+◌, ◌++◌, ◌∷◌, ◌<◌, ◌≤◌, ◌↔◌, [], IsTrue, IfNone, IfOk, IfSome, OnOk, drop, get_or};
+ghost use Rattle.std.specs.Prelude.{length, nat_le, true};
 ghost use Rattle.std.specs.List.{list_all, list_any};
 ghost use Rattle.std.specs.Arc.{arc_value};
 ghost use Rattle.vac_model.specs.Actions as actions;
 ghost use Rattle.vac_model.specs.Holdings.{newcomer, same_kind};
+ghost use Rattle.vac_model.specs.declared.item.Booking.{Booking as ABooking};
 ghost use Rattle.vac_model.specs.declared.item.Customer.{Customer as ACustomer};
 ghost use Rattle.client_sessions.specs.Within.{is_booking_within, is_customer_within};
 
@@ -178,6 +180,35 @@ impl SplitCustomer {
         ensures { result.0.now ++ result.1.now ≡ self.now.bookings }
     {
         (self.earlier.as_slice(), self.later.as_slice())
+    }
+
+    /// The same, from the one with this number on.
+    pub(crate) fn bookings_from(&self, from: usize) -> (&[Booking], &[Booking])
+        ensures { result.0.now ++ result.1.now ≡ drop from self.now.bookings }
+    {
+        let (earlier, later) = self.bookings();
+        let passed = from.min(earlier.len());
+        let (_, first) = earlier.split_at(passed);
+        let (_, then) = later.split_at((from - passed).min(later.len()));
+        (first, then)
+    }
+
+    /// The booking with this number.
+    pub(crate) fn booking(&self, i: usize) -> Option<Booking>
+        ensures none { IfNone result (length self.now.bookings ≤ i) }
+        ensures few { IfSome result (λ booking. i < length self.now.bookings) }
+        ensures booking { IfSome result (λ booking. (d : ABooking) → get_or self.now.bookings i d ≡ booking) }
+    {
+        let (earlier, later) = self.bookings();
+        if i < earlier.len() {
+            return Some(earlier[i]);
+        }
+        let behind = i - earlier.len();
+        if behind < later.len() {
+            Some(later[behind])
+        } else {
+            None
+        }
     }
 
     pub fn waits(&self) -> &[Wait]

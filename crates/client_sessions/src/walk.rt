@@ -5,7 +5,7 @@ ghost use Rattle.std.specs.List.{list_all};
 ghost use Rattle.std.specs.Option.{option_copied};
 ghost use Rattle.seq_model.specs.declared.call.Op.TheVariants.{Get as Got};
 ghost use Rattle.seq_model.specs.declared.call.Reply.{Reply as AReply};
-ghost use Rattle.seq_model.specs.Programs.{after};
+ghost use Rattle.seq_model.specs.Programs.{Answers, after, asked};
 ghost use Rattle.seq_model.specs.Programs.{Asks as Due};
 ghost use Rattle.vac_model.specs.Balanced.{IsItemSound};
 ghost use Rattle.vac_model.specs.declared.item.Item.{Item as AnItem};
@@ -22,10 +22,10 @@ ghost use Rattle.client_sessions.specs.Walks.{Comes, IsStop};
 use crate::entry::Entry;
 use crate::shared::SharedCustomer;
 use crate::split::SplitCustomer;
-use seq_model::{Call, Memory, Op, Reply};
+use seq_model::{Ask, Call, Memory, Op, Reply};
 use std::alloc::{AllocError, Global};
 use std::marker::Model;
-use vac_model::{Ask, Item, Kind, TICKET_LIMIT, Ticket, is_item_sound};
+use vac_model::{ActionReply, Ask as ItemAsk, Item, Kind, TICKET_LIMIT, Ticket, is_item_sound};
 
 /// Why a walk does not reach the end of its program.
 #[derive(Drop)]
@@ -79,6 +79,19 @@ impl<'a> Model for Walk<'a> {
     ghost view = { λ a. replies_in a.left };
 }
 
+/// What a session asks where its walk came to this.
+#[inline(always)]
+pub(crate) fn ask_of(came: Result<ActionReply, Stop>) -> Result<Ask<Entry>, Memory>
+    ensures { (p : SessionProgram) → Comes p came (λ reply. Answers reply) → IfOk result (λ ask. ask ≡ asked p) }
+{
+    match came {
+        Ok(_) => Ok(Ask::Done),
+        Err(Stop::Asks(call)) => Ok(Ask::Call(call)),
+        Err(Stop::GivesUp) => Ok(Ask::GiveUp),
+        Err(Stop::Memory) => Err(Memory),
+    }
+}
+
 // The numbers of the maps of customers and of tickets, and of the word that is the next ticket.
 const CUSTOMERS: u32 = 3;
 
@@ -110,7 +123,7 @@ fn queue_of(kind: Kind) -> u32
 
 // ---- what a reply says: the program gives up where no balanced tables answer it
 
-fn item_in(reply: &Reply<Entry>) -> Result<Option<Item>, Stop>
+pub(crate) fn item_in(reply: &Reply<Entry>) -> Result<Option<Item>, Stop>
     ensures comes { (next : Option AnItem → SessionProgram) (left : List (AReply AnEntry))
         → Comes (after (programs.item_in reply.now next) left) result (λ item. after (next item) left) }
     ensures sound { IfOk result (λ item. (i : AnItem) → item ≡ Some i → IsItemSound i) }
@@ -220,7 +233,7 @@ fn behind_pairs(replies: &[Reply<Entry>], most: usize) -> (usize, &[Reply<Entry>
 }
 
 /// The call that gets an item.
-pub(crate) fn get_of(ask: Ask) -> Call<Entry>
+pub(crate) fn get_of(ask: ItemAsk) -> Call<Entry>
     ensures { result ≡ get_due ask }
 {
     Call {
@@ -304,6 +317,21 @@ impl<'a> Walk<'a> {
         let (pairs, left) = behind_pairs(replies, most);
         self.left = Left::Replies(left);
         Some((pairs, replies))
+    }
+
+    /// Takes off as many replies as there are, so many at most, where they stand alone: how many.
+    pub(crate) fn skip(&mut self, most: usize) -> usize
+        ensures few { result ≤ most }
+        ensures told { result ≤ length self.old }
+        ensures taken { self.new ≡ drop result self.old }
+    {
+        let Left::Replies(replies) = self.left else {
+            return 0;
+        };
+        let count = replies.len().min(most);
+        let (_, left) = replies.split_at(count);
+        self.left = Left::Replies(left);
+        count
     }
 
     /// Takes the next reply off, where there is one.

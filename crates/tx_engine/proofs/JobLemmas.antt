@@ -1,5 +1,5 @@
--- The calls of a job: none at first, and one more is asked after the replies so far.
-use Rattle.std.proofs.Common.{◌≡◌, ◌⊎◌, ℕ, Bool, true, false, ◌+◌, ◌<◌, List, [], ◌∷◌}
+-- The calls of a job: none at first, and one more is asked after the replies so far. What it noted of the first replies holds among more.
+use Rattle.std.proofs.Common.{◌≡◌, ◌⊎◌, ℕ, Bool, true, false, ◌+◌, ◌<◌, ◌≤◌, List, [], ◌∷◌}
 use Rattle.std.proofs.Common.{◌++◌, length, take, get_or, refl, sym, ap, subst, inl, inr, arith, length-append}
 use Rattle.std.proofs.Math.Dec.{ltb}
 use Rattle.std.proofs.lemmas.Bool.{ltb-false, ltb-true}
@@ -8,6 +8,8 @@ use Rattle.seq_model.specs.declared.call.Call.{Call}
 use Rattle.seq_model.specs.declared.call.Reply.{Reply}
 use Rattle.seq_model.specs.declared.job.Ask.{Ask}
 use Rattle.seq_model.specs.declared.job.Ask.TheVariants as ask
+use Rattle.seq_model.specs.declared.place.JobPlace.{JobPlace}
+use Rattle.seq_model.specs.Places.{IsPlaceIn}
 use Rattle.seq_model.specs.Programs.{replies_of}
 use Rattle.tx_engine.specs.Jobs.{AreAskedBy}
 
@@ -51,3 +53,16 @@ module _ {V : Type 0} (asks : List (Reply V) → Ask V → Type 0) where
       → replies_of (calls ++ (call, reply) ∷ []) ≡ replies_of calls ++ reply ∷ []
   replies_more [] call reply = refl
   replies_more (c ∷ cs) call reply = ap (λ (rs : List (Reply V)). c.1 ∷ rs) (replies_more cs call reply)
+
+-- a place among these replies is one among them and further ones
+pub place_on : {V : Type 0} (stands : List (Reply V) → JobPlace → Type 0) (replies more : List (Reply V)) (place : JobPlace)
+    → IsPlaceIn stands replies place → IsPlaceIn stands (replies ++ more) place
+place_on {V} stands replies more place is = (within, by is.1)
+  where
+    within : place.heard ≤ length (replies ++ more)
+    within = omega (arith, is.0, length-append replies more)
+
+    by : (place.heard ≡ 0) ⊎ stands (take place.heard replies) place
+        → (place.heard ≡ 0) ⊎ stands (take place.heard (replies ++ more)) place
+    by (inl none) = inl none
+    by (inr noted) = inr (subst (λ (told : List (Reply V)). stands told place) (sym (take-append-le place.heard replies more is.0)) noted)

@@ -1,6 +1,7 @@
 //! One attempt of a job.
 ghost use Rattle.std.specs.Prelude.{◌≡◌, ◌+◌, ◌<◌, IfErr, IfNone, IfOk, IfSome, [], false, length};
 ghost use Rattle.seq_model.specs.declared.limits.TheConstants.{CALL_LIMIT as AsCallLimit};
+ghost use Rattle.seq_model.specs.Places.{IsPlaceIn};
 ghost use Rattle.tx_table.specs.Seated.{acts, opening_of};
 ghost use Rattle.actor_laws.specs.Phases.{Rests, Stands};
 ghost use Rattle.tx_turns.specs.Begins.{begins_of};
@@ -10,7 +11,7 @@ ghost use Rattle.tx_engine.specs.Attempts.{Aborts, AttemptsTo, IsSoFar, IsUnmade
 
 use crate::pause::Pause;
 use crate::seats::TxSeat;
-use seq_model::{Ask, Job, Record, Refusal, Reply, Value};
+use seq_model::{Ask, Job, JobPlace, Record, Refusal, Reply, Value};
 use tx_table::TxTable;
 
 /// What became of an attempt.
@@ -44,22 +45,26 @@ fn begin<V: Value>(table: &TxTable<V>, seat: &mut TxSeat<V>) -> Result<u64, Refu
     seat.begin(table)
 }
 
-/// The job's next call is made, and its reply joins those before it; or the job is done, or aborts.
+/// The job's next call is made, and its reply joins those before it; or the job is done, or aborts. The job is asked by what it noted of
+/// the replies before.
 fn ask_next<V: Value, J: Job<V>>(
     table: &TxTable<V>,
     seat: &mut TxSeat<V>,
     job: &J,
+    place: &mut JobPlace,
     replies: &mut Vec<Reply<V>>,
 ) -> Result<Option<End>, Refusal>
     requires ready { IsReady table.now seat.old }
     requires since { HasBegunSince table.now seat.old }
     requires so_far { IsSoFar (J.asks job.now) (opening_of table.now) seat.old.seat replies.old.items }
+    requires place { IsPlaceIn (J.stands job.now) replies.old.items place.old }
     ensures ready { IsReady table.now seat.new }
     ensures since { HasBegunSince table.now seat.new }
     ensures keeps { KeepsReceipts seat.old.seat seat.new.seat }
     ensures begins { begins_of seat.new.seat ≡ begins_of seat.old.seat }
     ensures so_far { IfOk result (λ next. IfNone next
         (IsSoFar (J.asks job.now) (opening_of table.now) seat.new.seat replies.new.items)) }
+    ensures place { IfOk result (λ next. IfNone next (IsPlaceIn (J.stands job.now) replies.new.items place.new)) }
     ensures room { IfOk result (λ next. IfNone next
         ((length replies.old.items < AsCallLimit) × (length replies.new.items ≡ length replies.old.items + 1))) }
     ensures same { IfOk result (λ next. IfNone next (HasSameAborted (opening_of table.now) seat.old.seat seat.new.seat)) }
@@ -68,7 +73,7 @@ fn ask_next<V: Value, J: Job<V>>(
     ensures refused { IfErr result
         (IsUnmade (J.asks job.now) (opening_of table.now) (acts (opening_of table.now) seat.old.seat).aborted seat.old.seat seat.new.seat) }
 {
-    match job.ask(replies.as_slice())? {
+    match job.ask_on(replies.as_slice(), place)? {
         Ask::Done => Ok(Some(End::Done)),
         Ask::GiveUp => Ok(Some(End::GivenUp)),
         Ask::Call(call) => {
@@ -79,7 +84,8 @@ fn ask_next<V: Value, J: Job<V>>(
     }
 }
 
-/// The calls of a job on the transaction that has just begun, up to where it is done, or aborts. The list of replies is cleared first.
+/// The calls of a job on the transaction that has just begun, up to where it is done, or aborts. The list of replies is cleared first, and
+/// the job has noted nothing yet.
 fn ask_all<V: Value, J: Job<V>>(
     table: &TxTable<V>,
     seat: &mut TxSeat<V>,
@@ -99,8 +105,9 @@ fn ask_all<V: Value, J: Job<V>>(
         (IsUnmade (J.asks job.now) (opening_of table.now) (acts (opening_of table.now) seat.old.seat).aborted seat.old.seat seat.new.seat) }
 {
     replies.clear();
+    let mut place = JobPlace::new();
     'calls: loop {
-        match ask_next(table, seat, job, replies)? {
+        match ask_next(table, seat, job, &mut place, replies)? {
             Some(end) => return Ok(end),
             None => {}
         }

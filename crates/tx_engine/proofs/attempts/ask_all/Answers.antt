@@ -1,8 +1,9 @@
-use Rattle.std.proofs.Common.{◌∙◌}
+use Rattle.std.proofs.Common.{◌∙◌, arith, inl, refl, subst, sym}
 use Rattle.std.proofs.lemmas.Result.{err_from_is_err_and}
 use Rattle.tx_table.specs.Seated.{acts, opening_of}
-use Rattle.tx_engine.proofs.AttemptLemmas.{reaches_before, unmade_before}
+use Rattle.tx_engine.proofs.AttemptLemmas.{fresh_so_far, keeps_self, reaches_before, unmade_before}
 use Rattle.tx_engine.proofs.RequestLemmas.{then_keeps}
+use Rattle.tx_engine.specs.Attempts.{IsSoFar}
 use Rattle.tx_engine.proofs.attempts.ask_all.Goals as goal
 
 pub returns-in_err-end-clause-keeps : goal.returns-in_err-end-clause-keeps
@@ -36,6 +37,7 @@ calls-preserved g c = record {
   same = (rw c.in-None.is at c.in_ok-end.ensures.same) ∙ c.calls.invariant.same;
   begins = c.ask_next.ensures.begins ∙ c.calls.invariant.begins;
   so_far = (rw c.in-None.is at c.in_ok-end.ensures.so_far);
+  place = (rw c.in-None.is at c.in_ok-end.ensures.place);
 }
 
 pub returns-in_err-end-clause-begins : goal.returns-in_err-end-clause-begins
@@ -43,3 +45,19 @@ returns-in_err-end-clause-begins g c = c.ask_next.ensures.begins ∙ c.calls.inv
 
 pub returns-in-Some-clause-begins : goal.returns-in-Some-clause-begins
 returns-in-Some-clause-begins g c = c.ask_next.ensures.begins ∙ c.calls.invariant.begins
+
+pub calls-init : goal.calls-init
+calls-init g c =
+    let asks = g.J.Job.asks c.args.job.now in
+    let o = opening_of c.args.table.now in
+    let s = c.args.seat.now.seat in
+    let new = c.new-place.ensures in
+    record {
+      ready = c.requires.ready;
+      since = c.requires.since;
+      keeps = keeps_self s;
+      same = refl;
+      begins = refl;
+      so_far = subst (λ rs. IsSoFar asks o s rs) (sym c.clear.ensures.items) (fresh_so_far asks o s c.requires.fresh);
+      place = (omega (arith, new), inl new);
+    }

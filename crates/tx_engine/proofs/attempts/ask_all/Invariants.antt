@@ -1,5 +1,6 @@
 use Rattle.std.proofs.Common.{◌≡◌, ◌-◌, length}
 use Rattle.seq_model.specs.declared.limits.TheConstants.{CALL_LIMIT}
+use Rattle.seq_model.specs.Places.{IsPlaceIn}
 use Rattle.tx_table.specs.Seated.{opening_of}
 use Rattle.tx_turns.specs.Begins.{begins_of}
 use Rattle.tx_engine.specs.Ready.{HasBegunSince, IsReady}
@@ -15,6 +16,7 @@ invariant-calls g l = record {
   same : HasSameAborted (opening_of l.table) l.fn.seat.seat l.seat.seat;
   begins : begins_of l.seat.seat ≡ begins_of l.fn.seat.seat;
   so_far : IsSoFar (g.J.Job.asks l.job) (opening_of l.table) l.seat.seat l.replies.items;
+  place : IsPlaceIn (g.J.Job.stands l.job) l.replies.items l.place;
 }
 
 abbrev pub decreases-calls : goal.decreases-calls

@@ -14,7 +14,7 @@ pub returns-in-Some : goal.returns-in-Some
 returns-in-Some c =
     along _ _ _ _ (c.in_ok-who.ensures.comes (programs.delete_found c.args.customer)
     ∙ ap (λ o. after (programs.delete_found c.args.customer (option_copied o)) c.get_customer.new.self) c.in-Some.is)
-    c.delete_found.ensures
+    c.delete_from.ensures
 
 pub returns-in-None : goal.returns-in-None
 returns-in-None c =

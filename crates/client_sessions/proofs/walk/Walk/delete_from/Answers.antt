@@ -7,16 +7,16 @@ use Rattle.vac_model.specs.Actions as actions
 use Rattle.client_sessions.specs.Sessions as programs
 use Rattle.client_sessions.specs.Sessions.{SessionProgram}
 use Rattle.client_sessions.proofs.WalkLemmas.{stops_along}
-use Rattle.client_sessions.proofs.walk.Walk.delete_found.Goals as goal
+use Rattle.client_sessions.proofs.walk.Walk.delete_from.Goals as goal
 
 -- what comes after the units, the waits and the customer
 abbrev pub serves : Customer → SessionProgram
 serves who = programs.serve_all who.bookings (λ served. Answers (reply.Deleted (actions.bill who.bookings) served))
 
-pub returns-in_err-give_all_back : goal.returns-in_err-give_all_back
-returns-in_err-give_all_back c = let p = err_from_is_err_and c.from_residual.result c.from_residual.ensures.1 in
+pub returns-in_err-give_back_from : goal.returns-in_err-give_back_from
+returns-in_err-give_back_from c = let p = err_from_is_err_and c.from_residual.result c.from_residual.ensures.1 in
     let who = c.args.who.now in
-    rw (p.1, p.2) (c.in_err-give_all_back.ensures (programs.forget_all who.waits (programs.remove_customer c.args.customer (serves who))))
+    rw (p.1, p.2) (c.in_err-give_back_from.ensures (programs.forget_all who.waits (programs.remove_customer c.args.customer (serves who))))
 
 pub returns-in_err-forget_all : goal.returns-in_err-forget_all
 returns-in_err-forget_all c =
@@ -24,8 +24,8 @@ returns-in_err-forget_all c =
     let who = c.args.who.now in
     let rest : SessionProgram = programs.remove_customer c.args.customer (serves who) in
     rw (p.1, p.2) (stops_along _ _ _
-    (c.in_ok-give_all_back.ensures (programs.forget_all who.waits rest)
-    ∙ ap (λ waits. after (programs.forget_all waits rest) c.give_all_back.new.self) (sym c.waits.ensures))
+    (c.in_ok-give_back_from.ensures (programs.forget_all who.waits rest)
+    ∙ ap (λ waits. after (programs.forget_all waits rest) c.give_back_from.new.self) (sym c.waits.ensures))
     (c.in_err-forget_all.ensures rest))
 
 pub returns-in_err-remove_customer : goal.returns-in_err-remove_customer
@@ -34,8 +34,8 @@ returns-in_err-remove_customer c =
     let who = c.args.who.now in
     let rest : SessionProgram = programs.remove_customer c.args.customer (serves who) in
     rw (p.1, p.2) (stops_along _ _ _
-    (c.in_ok-give_all_back.ensures (programs.forget_all who.waits rest)
-    ∙ ap (λ waits. after (programs.forget_all waits rest) c.give_all_back.new.self) (sym c.waits.ensures)
+    (c.in_ok-give_back_from.ensures (programs.forget_all who.waits rest)
+    ∙ ap (λ waits. after (programs.forget_all waits rest) c.give_back_from.new.self) (sym c.waits.ensures)
     ∙ c.in_ok-forget_all.ensures rest)
     (c.in_err-remove_customer.ensures (serves who)))
 
@@ -45,8 +45,8 @@ returns-in_err-served c =
     let who = c.args.who.now in
     let rest : SessionProgram = programs.remove_customer c.args.customer (serves who) in
     rw (p.1, p.2) (stops_along _ _ _
-    (c.in_ok-give_all_back.ensures (programs.forget_all who.waits rest)
-    ∙ ap (λ waits. after (programs.forget_all waits rest) c.give_all_back.new.self) (sym c.waits.ensures)
+    (c.in_ok-give_back_from.ensures (programs.forget_all who.waits rest)
+    ∙ ap (λ waits. after (programs.forget_all waits rest) c.give_back_from.new.self) (sym c.waits.ensures)
     ∙ c.in_ok-forget_all.ensures rest
     ∙ c.in_ok-remove_customer.ensures (serves who))
     (c.in_err-served.ensures (λ served. Answers (reply.Deleted (actions.bill who.bookings) served))))
@@ -55,8 +55,8 @@ pub returns : goal.returns
 returns c =
     let who = c.args.who.now in
     let rest : SessionProgram = programs.remove_customer c.args.customer (serves who) in
-    c.in_ok-give_all_back.ensures (programs.forget_all who.waits rest)
-    ∙ ap (λ waits. after (programs.forget_all waits rest) c.give_all_back.new.self) (sym c.waits.ensures)
+    c.in_ok-give_back_from.ensures (programs.forget_all who.waits rest)
+    ∙ ap (λ waits. after (programs.forget_all waits rest) c.give_back_from.new.self) (sym c.waits.ensures)
     ∙ c.in_ok-forget_all.ensures rest
     ∙ c.in_ok-remove_customer.ensures (serves who)
     ∙ c.in_ok-served.ensures (λ served. Answers (reply.Deleted (actions.bill who.bookings) served))
