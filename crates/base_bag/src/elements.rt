@@ -5,7 +5,7 @@ ghost use Rattle.seq_model.specs.Counts.{copies, with_copies};
 ghost use Rattle.base_bag.specs.Conflicts.{change_multiset};
 
 use conflict::{Change, Table};
-use seq_model::{COPY_LIMIT, Counts, Memory};
+use seq_model::{COPY_LIMIT, Counts, Memory, counts_of};
 use std::alloc::Global;
 use std::marker::Model;
 
@@ -54,7 +54,7 @@ impl Elements {
     pub fn to_counts(&self) -> Result<Counts, Memory>
         ensures { IfOk result (λ counts. counts ≡ self.now.shown) }
     {
-        Ok(Counts::from_entries(self.table.to_entries()?))
+        Ok(counts_of(self.table.to_entries()?))
     }
 
     /// How many copies of the element there are, 0 for one that is not there.

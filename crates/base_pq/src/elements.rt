@@ -15,7 +15,7 @@ ghost use Rattle.base_pq.specs.Laid.{first_kept, laid, layered, lesser};
 use crate::merge::merged;
 use crate::rest::Rest;
 use crate::sorted::Sorted;
-use seq_model::{Counts, Entries, Memory};
+use seq_model::{Counts, Entries, Memory, counts_of};
 use std::alloc::Global;
 use std::marker::Model;
 
@@ -88,7 +88,7 @@ impl Elements {
         let all = self.to_entries(alloc)?;
         let mut entries = Entries::new(alloc);
         insert_all(&mut entries, all.as_slice())?;
-        Ok(Counts::from_entries(entries))
+        Ok(counts_of(entries))
     }
 
     // The elements with the numbers of their copies, rising.

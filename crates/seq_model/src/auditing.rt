@@ -11,11 +11,11 @@ use crate::refusal::{Memory, Refusal};
 use crate::state::State;
 use crate::value::Value;
 use std::alloc::Global;
-use std::error::Error;
 use std::fmt;
+use thiserror::Error;
 
 /// Why records are no run from the opening state to the last one.
-#[derive(Clone, Copy, Debug, PartialEq, Eq)]
+#[derive(Clone, Copy, Debug, PartialEq, Eq, Error)]
 pub enum AuditFault {
     /// The least number that two writers share.
     DoubleNumber(u64),
@@ -36,8 +36,6 @@ impl fmt::Display for AuditFault {
         }
     }
 }
-
-impl Error for AuditFault {}
 
 impl From<Memory> for AuditFault {
     ghost use Rattle.seq_model.specs.declared.auditing.AuditFault.TheVariants.{Memory as OutOfMemory};

@@ -3,11 +3,11 @@ ghost use Rattle.std.specs.Prelude.{Some};
 ghost use Rattle.seq_model.specs.CauseTexts.{last_abort_text};
 
 use crate::refusal::Refusal;
-use std::error::Error;
 use std::fmt;
+use thiserror::Error;
 
 /// Why a job has no receipt.
-#[derive(Clone, Copy, Debug, PartialEq, Eq)]
+#[derive(Clone, Copy, Debug, PartialEq, Eq, Error)]
 pub enum LastAbort {
     /// This refused its last attempt.
     Refused(Refusal),
@@ -28,5 +28,3 @@ impl fmt::Display for LastAbort {
         }
     }
 }
-
-impl Error for LastAbort {}

@@ -7,7 +7,7 @@ ghost use Rattle.tx_handles.specs.Gates.{AreParts};
 ghost use Rattle.tx_handles.specs.Lanes.{AreFirstOf};
 
 use crate::gates::Gates;
-use seq_model::{Counts, Entries, Held, Memory, QueueItems, Value};
+use seq_model::{Entries, Held, Memory, QueueItems, Value, counts_of};
 use std::alloc::Global;
 
 /// The entries of each of the collections.
@@ -56,7 +56,7 @@ pub fn bags_of<V: Value>(alloc: Global, parts: Vec<Entries<u64>>) -> Result<Vec<
 {
     let mut all = Vec::with_capacity(alloc, parts.len())?;
     'parts: for part in parts {
-        all.push(Held::Bag(Counts::from_entries(part)))?;
+        all.push(Held::Bag(counts_of(part)))?;
     }
     Ok(all)
 }

@@ -26,9 +26,8 @@
 //! A map holds values of any type that is a [`Value`]: numbers, `bool`, pairs, `Option`, [`Text`], [`Shared`], and structs of these by an
 //! `impl` of two functions.
 //!
-//! The types keep what a call needs, so no contract of a service has to mention transactions. Of all that a service calls only
-//! [`Counts::from_entries`] has a condition, that no count is 0; [`Counts::set_copies`] fills counts without one. A service that wants to
-//! prove something of its own defines `makes` of a body, and `serves` of a session.
+//! The types keep what a call needs, so no contract of a service has to mention transactions. Nothing that a
+//! service calls has a condition. A service that wants to prove something of its own defines `makes` of a body, and `serves` of a session.
 #![tactic(auto)]
 
 mod homes;
