@@ -8,12 +8,12 @@ use Rattle.tx_machine.specs.Requests as word
 use Rattle.tx_machine.specs.World.{plan}
 use Rattle.tx_machine.specs.Cells.{word_of}
 use Rattle.tx_machine.specs.Boosted.{Action, OnWords, TakeGate, PutGate, Accept, GoHome}
-use Rattle.replay_log.specs.Contents.{Asked}
+use Rattle.replay_log.specs.Contents.{CollectionCall}
 use Rattle.replay_log.specs.Pieces.{covers_at}
 use Rattle.replay_log.specs.Seats.{World, Seat, Stage, Copying, Ready}
 use Rattle.actor_laws.specs.Own.{Alike}
 use Rattle.actor_laws.specs.Steps.{atomic_action, ready_at}
-use Rattle.actor_laws.specs.Spots.{spot_of, deed_of, spot_by, spot_at}
+use Rattle.actor_laws.specs.StepTargets.{spot_of, deed_of, spot_by, spot_at}
 use Rattle.actor_laws.proofs.OwnEvents.{asks_alike}
 
 module _ {V : Type 0} where
@@ -72,7 +72,7 @@ module _ {V : Type 0} where
   ready_same a v w e = subst (λ (p : Stage V). Alike a (ready_at a v (v.seats a).stage) (ready_at a w p)) (stage_same a v w e)
       (ready_alike a v w (v.seats a).stage e)
 
-  spot_alike : (a : ℕ) (v w : World V) (d : Option (Action (Asked V))) → Alike a v w → spot_by a v d ≡ spot_by a w d
+  spot_alike : (a : ℕ) (v w : World V) (d : Option (Action (CollectionCall V))) → Alike a v w → spot_by a v d ≡ spot_by a w d
   spot_alike a v w (Some (OnWords e)) h = ap (λ (x : Actor). spot_of (word_of (plan x x.place))) h.boosted.actor
   spot_alike a v w (Some (TakeGate b k)) h = refl
   spot_alike a v w (Some (PutGate b k which)) h = refl

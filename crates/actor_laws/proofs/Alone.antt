@@ -18,7 +18,7 @@ use Rattle.seq_model.specs.declared.event.Event.TheVariants as event
 use Rattle.tx_machine.specs.Boosted.{Action, OnWords, TakeGate, PutGate, Accept, GoHome, is_actor, is_none}
 use Rattle.replay_log.specs.Base.{Shown}
 use Rattle.tx_machine.specs.Content.{IsIn}
-use Rattle.replay_log.specs.Contents.{Asked, Answered as Outcomes, HaveStripes, block_of, first_of, content, home_of}
+use Rattle.replay_log.specs.Contents.{CollectionCall, CallWithOutcome as Outcomes, HaveStripes, block_of, first_of, content, home_of}
 use Rattle.replay_log.proofs.ContentLemmas.{read_at, positive_at, home_is, content_frame}
 use Rattle.replay_log.specs.Seats.{World, Seat, Stage, Copying, Ready, acted, asks}
 use Rattle.replay_log.specs.Worlds.{happens}
@@ -26,8 +26,8 @@ use Rattle.replay_log.specs.WorldCalls.{with_editions}
 use Rattle.actor_laws.specs.Machine.{SameWord}
 use Rattle.actor_laws.specs.Own.{Alike, SameAfter, SameCopy, FindsBy, FindsAt}
 use Rattle.actor_laws.specs.Steps.{Does, atomic_action, ready_at}
-use Rattle.actor_laws.specs.Spots.{Spot, Nowhere, Word, Gate, spot_of, deed_of, word_spot, spot_by, gate_word, with_word, found_gate}
-use Rattle.actor_laws.specs.Spots.{spot_at, number_at, planted, given}
+use Rattle.actor_laws.specs.StepTargets.{Spot, Nowhere, Word, Gate, spot_of, deed_of, word_spot, spot_by, gate_word, with_word, found_gate}
+use Rattle.actor_laws.specs.StepTargets.{spot_at, number_at, planted, given}
 use Rattle.actor_laws.proofs.OwnEvents.{own_event}
 use Rattle.actor_laws.proofs.OneStep.{ask_calm, one_step}
 
@@ -131,7 +131,7 @@ module _ {V : Type 0} (a : ℕ) where
             (cond-true {A = ℕ} (home_of w.words w.blocks l == k) (v.boosted.editions l) (w.boosted.editions l) b),
       )
 
-  copy_found : (v w : World V) (q : Asked V) → HaveStripes v.blocks → Alike a v w
+  copy_found : (v w : World V) (q : CollectionCall V) → HaveStripes v.blocks → Alike a v w
       → let k = q.collection in SameCopy v (planted a w (Gate k) (number_at v (Gate k)) v.boosted.parts v.boosted.editions) q
   copy_found v w q stripes e =
       let c = content {V = V} v.words v.blocks in
@@ -139,7 +139,7 @@ module _ {V : Type 0} (a : ℕ) where
       let t = planted a w (Gate k) (number_at v (Gate k)) v.boosted.parts v.boosted.editions in (
         λ o at. read_editions _ _ (c.reads o)
             (λ l m.
-            (base_found v w k e l (eq-eqb _ _ (read_home v stripes o l m ∙ ap (λ (z : Asked V). z.collection) at))).1),
+            (base_found v w k e l (eq-eqb _ _ (read_home v stripes o l m ∙ ap (λ (z : CollectionCall V). z.collection) at))).1),
         sym ((content_frame {V = V} v.words v.blocks stripes).legal v.boosted.parts t.boosted.parts q
             (λ l m. (base_found v w k e l (eq-eqb _ _ (read_home v stripes (c.outcome v.boosted.parts q) l m))).0)),
       )
@@ -154,7 +154,7 @@ module _ {V : Type 0} (a : ℕ) where
       (ask_calm a v word.AskStore).cells c
       ∙ (word_found v w (word_of (deed_of (ready v) a)) c touches ∙ sym ((ask_calm a t word.AskStore).cells c))
 
-  finds_by : (v w u : World V) (x : Seat V) (p : Stage V) (d : Option (Action (Asked V))) → Does a v x p d u → Alike a v w
+  finds_by : (v w u : World V) (x : Seat V) (p : Stage V) (d : Option (Action (CollectionCall V))) → Does a v x p d u → Alike a v w
       → FindsBy a v (planted a w (spot_by a v d) (number_at v (spot_by a v d)) v.boosted.parts v.boosted.editions) d
   finds_by v w u x p None g e = tt
   finds_by v w u x p (Some (OnWords (Ask b q))) (h, g) e = absurd h

@@ -7,6 +7,7 @@ use Rattle.std.proofs.Common.{Some, refl, sym, ◌∙◌, ap, subst, true≢fals
 use Rattle.std.specs.Prelude.{nat_lt}
 use Rattle.std.proofs.lemmas.Bool.{cases_Bool, cond_both}
 use Rattle.std.proofs.lemmas.Bool.Decides.{nat_tests}
+use Rattle.std.proofs.lemmas.Option.{same_Some}
 use Rattle.tx_sets.specs.Entries.{lookup}
 use Rattle.tx_machine.specs.Actor.{clock_limit}
 use Rattle.tx_machine.specs.Notices as told
@@ -25,8 +26,9 @@ use Rattle.seq_model.specs.declared.held.Held.{Held}
 use Rattle.seq_model.specs.declared.limits.TheConstants.{CALL_LIMIT}
 use Rattle.seq_model.specs.declared.refusal.Refusal.{Refusal}
 use Rattle.seq_model.specs.declared.refusal.Refusal.TheVariants as refusal
+use Rattle.seq_model.proofs.LogicLemmas.{lt-nat_lt}
 use Rattle.tx_machine.specs.Boosted.{PutGate, changes, is_none}
-use Rattle.replay_log.specs.Contents.{Asked, Answered, Block, HaveStripes, content}
+use Rattle.replay_log.specs.Contents.{CollectionCall, CallWithOutcome, Block, HaveStripes, content}
 use Rattle.replay_log.specs.Guards.{IsAtRest}
 use Rattle.replay_log.specs.Pieces.{covers_at, piece_at}
 use Rattle.replay_log.specs.WorldAlone.{IsAlone, IsConflict, TellsConflict}
@@ -48,9 +50,6 @@ use Rattle.actor_laws.specs.Alone.{ArePlain, HasRoomFor, IsAnswered, IsNeverRefu
 use Rattle.actor_laws.proofs.BoundLemmas.{BoundAt, run_bound}
 use Rattle.actor_laws.proofs.FewLemmas.{IsFew, Sized, SizedAt, fits_one, has_room_for, run_sized}
 
-pub less : (m n : ℕ) → m < n → nat_lt m n ≡ true
-less m n h = grind (arith, nat_tests)
-
 pub or_true : (a b c : Bool) → c ≡ true → (a || (b || c)) ≡ true
 or_true a b c e = ap (λ (d : Bool). a || (b || d)) e ∙ by a b
   where
@@ -58,9 +57,6 @@ or_true a b c e = ap (λ (d : Bool). a || (b || d)) e ∙ by a b
     by true b = refl
     by false true = refl
     by false false = refl
-
-pub same_cause : (c d : Refusal) → Some c ≡ Some d → c ≡ d
-same_cause c d e = cc
 
 abbrev AnyWeight : ℕ → Type 0
 AnyWeight n = Unit {0}
@@ -72,7 +68,7 @@ module _ {V : Type 0} where
 
   -- ---- calls
   -- the outcome that is sized is one of the call
-  sized_room : (u : World V) (a n : ℕ) (asked : Asked V) → IsFew n (actor_of u a) → IsSmall asked.op → n + weight asked.op ≤ 4096
+  sized_room : (u : World V) (a n : ℕ) (asked : CollectionCall V) → IsFew n (actor_of u a) → IsSmall asked.op → n + weight asked.op ≤ 4096
       → let c = content u.words u.blocks in
       let sized = sized_by u a asked (outcome_at u a asked) in
       has_room (actor_of u a) (c.reads sized) (c.writes sized) ≡ true
@@ -80,11 +76,11 @@ module _ {V : Type 0} where
       let c = content u.words u.blocks in
       let z = u.boosted.shadows a in
       cond_both (is_stale (actor_of u a).reads (with_editions u.boosted.editions (c.reads (outcome_at u a asked)))) (outcome_now u asked)
-      (outcome_at u a asked) (λ (o : Answered V). has_room (actor_of u a) (c.reads o) (c.writes o) ≡ true)
+      (outcome_at u a asked) (λ (o : CallWithOutcome V). has_room (actor_of u a) (c.reads o) (c.writes o) ≡ true)
       (λ _. has_room_for AnyWeight a u n u.boosted.parts asked h small few)
       (λ _. has_room_for AnyWeight a u n (changes c z.outcomes z.parts) asked h small few)
 
-  answers_no : (u : World V) (a : ℕ) (before x : Seat V) (sized o : Answered V) (editions : ℕ → ℕ)
+  answers_no : (u : World V) (a : ℕ) (before x : Seat V) (sized o : CallWithOutcome V) (editions : ℕ → ℕ)
       → (let c = content u.words u.blocks in has_room (actor_of u a) (c.reads sized) (c.writes sized) ≡ true)
       → NoRefusal (answers u a before x sized o editions)
   answers_no u a before x sized o editions room =
@@ -93,7 +89,7 @@ module _ {V : Type 0} where
       (seated u a (at_stage before Open), Refused a refusal.TooLong) room
       (loads_no (with_editions editions (c.reads o)) u a x o)
 
-  pub copying_no : (w : World V) (a : ℕ) (x : Seat V) (asked : Asked V) → IsFew (weights x.calls) (actor_of w a) → IsSmall asked.op
+  pub copying_no : (w : World V) (a : ℕ) (x : Seat V) (asked : CollectionCall V) → IsFew (weights x.calls) (actor_of w a) → IsSmall asked.op
       → weights x.calls + weight asked.op ≤ 4096 → NoRefusal (step_at w a x (Copying asked))
   copying_no w a x asked h small few =
       let which = covers_at w.words w.blocks asked in
@@ -103,7 +99,7 @@ module _ {V : Type 0} where
       answers_no t a x (with_piece x asked.collection (piece_at w.blocks asked)) (sized_by t a asked (outcome_at t a asked))
       (outcome_at t a asked) t.boosted.editions (sized_room t a (weights x.calls) asked now small few)
 
-  pub calls_on_no : (w : World V) (a : ℕ) (x : Seat V) (asked : Asked V) → IsFew (weights x.calls) (actor_of w a) → IsSmall asked.op
+  pub calls_on_no : (w : World V) (a : ℕ) (x : Seat V) (asked : CollectionCall V) → IsFew (weights x.calls) (actor_of w a) → IsSmall asked.op
       → weights x.calls + weight asked.op ≤ 4096 → NoRefusal (calls_on w a x asked)
   calls_on_no w a x asked h small few =
       let c = content w.words w.blocks in
@@ -118,7 +114,7 @@ module _ {V : Type 0} where
   allowed_no w a x known room next is short fits h =
       true_no known _ (w, Refused a refusal.NoSuch) is
       (true_no (nat_lt (length x.calls) CALL_LIMIT && room) next (w, Refused a refusal.TooLong)
-      (ap (λ (b : Bool). b && room) (less (length x.calls) CALL_LIMIT short) ∙ fits) h)
+      (ap (λ (b : Bool). b && room) (lt-nat_lt (length x.calls) CALL_LIMIT short) ∙ fits) h)
 
   pub reads_no : (w : World V) (a : ℕ) (x : Seat V) (l : ℕ) (n : told.Notice) → NoRefusal (reads w a x l n)
   reads_no w a x l (told.Number v) = λ q. q
@@ -132,7 +128,7 @@ module _ {V : Type 0} where
       → (known && may_ask (actor_of w a) op) ≡ true
   known_may w a op known d is = ap (λ (b : Bool). b && may_ask (actor_of w a) op) is ∙ may w a op d
 
-  held_no : (w : World V) (a : ℕ) (x : Seat V) (asked : Asked V) (known : Bool) → (actor_of w a).declared ≡ false
+  held_no : (w : World V) (a : ℕ) (x : Seat V) (asked : CollectionCall V) (known : Bool) → (actor_of w a).declared ≡ false
       → IsFew (weights x.calls) (actor_of w a) → IsSmall asked.op → known ≡ true → length x.calls < CALL_LIMIT
       → weights x.calls + weight asked.op ≤ 4096
       → NoRefusal (if_allowed w a x (known && may_ask (actor_of w a) asked.op) true (calls_on w a x asked))
@@ -145,13 +141,13 @@ module _ {V : Type 0} where
   op_no w a x t Read d h small there short few =
       let y = actor_of w a in
       allowed_no w a x (nat_lt t w.words) (y.declared || (not (is_none (lookup y.writes t)) || fits y.reads (t ∷ []))) _
-      (less t w.words there) short
+      (lt-nat_lt t w.words there) short
       (or_true y.declared (not (is_none (lookup y.writes t))) (fits y.reads (t ∷ [])) (fits_one y.reads (weights x.calls) t h.reads few))
       (reads_no w a x t _)
   op_no w a x t (Write v) d h small there short few =
       let y = actor_of w a in
       allowed_no w a x (nat_lt t w.words && not y.declared) (fits y.writes (t ∷ [])) _
-      (ap (λ (b : Bool). b && not y.declared) (less t w.words there) ∙ ap not d) short
+      (ap (λ (b : Bool). b && not y.declared) (lt-nat_lt t w.words there) ∙ ap not d) short
       (fits_one y.writes (weights x.calls) t h.writes few) (λ q. q)
   op_no w a x t op d h small there short few = held_no w a x (record { collection = t; op = op }) _ d h small there short few
 
@@ -308,7 +304,7 @@ module _ {V : Type 0} where
           none (subst IsRefusal (sym n) tt)
       refused_at Leaving u c small due room h at is n =
           let ends = ends_by_conflict events plain (ap is_ending at) in
-          let same : ends.0 ≡ c = same_cause ends.0 c (sym ends.1 ∙ is.0) in
+          let same : ends.0 ≡ c = same_Some ends.0 c (sym ends.1 ∙ is.0) in
           no_conflict events plain (Step a) refl (subst TellsConflict (sym n) (subst IsConflict same ends.2))
       refused_at st u c small due room h at is n = is
 

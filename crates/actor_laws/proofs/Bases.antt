@@ -12,6 +12,7 @@ use Rattle.std.specs.FinMap.{empty}
 use Rattle.std.proofs.lemmas.Bool.{cond-true, cond-false, cond_both, cases_Bool}
 use Rattle.std.proofs.lemmas.List.Sums.{fold-append}
 use Rattle.std.proofs.lemmas.List.Elements.{Contains-append_left, Contains-append_right, Contains-append_cases}
+use Rattle.std.proofs.lemmas.Option.{same_Some}
 use Rattle.tx_sets.specs.Entries.{lookup}
 use Rattle.tx_machine.specs.Actor.{Actor}
 use Rattle.conflict.specs.declared.outcome.Outcome.{Outcome}
@@ -28,19 +29,19 @@ use Rattle.tx_machine.proofs.BoostedInvariant.{ShadowOk}
 use Rattle.replay_log.specs.declared.base.Base.{Base}
 use Rattle.replay_log.specs.Base.{Shown, OfMap, OfBag, OfPq, OfQueue, after, changes_of, editions_of, shown_of, writes_of}
 use Rattle.replay_log.specs.Parts.{Kind, MapKind, BagKind, PqKind, QueueKind, kind_of, part, whole}
-use Rattle.replay_log.specs.Contents.{Block, Answered, HaveStripes, block_of, end_of, first_of, home_of, is_plain, content, size, shifted}
+use Rattle.replay_log.specs.Contents.{Block, CallWithOutcome, HaveStripes, block_of, end_of, first_of, home_of, is_plain, content, size, shifted}
 use Rattle.replay_log.specs.Contents.{blank, seen, changed, writes_in}
 use Rattle.replay_log.specs.Seats.{World, actor_of}
 use Rattle.replay_log.specs.Worlds.{happens, opened, run}
 use Rattle.replay_log.proofs.PartLemmas.{is_whole, leaves_other_parts, whole_local}
-use Rattle.replay_log.proofs.ContentLemmas.{shifted_in, in_shifted, same_block, read_at, positive_at, home_is, not_plain, content_frame}
+use Rattle.replay_log.proofs.ContentLemmas.{shifted_in, in_shifted, read_at, positive_at, home_is, not_plain, content_frame}
 use Rattle.replay_log.proofs.LogLemmas.{raises_each, keeps_others}
 use Rattle.replay_log.proofs.EventLemmas.{run_linked, opened_linked}
 use Rattle.actor_laws.specs.Bases.{IsBaseOf, ShowsBase, changes_on, writes_on, log_changes, log_locations, IsFolded}
 use Rattle.actor_laws.specs.Gates.{GoesHome, Homed}
 use Rattle.actor_laws.specs.Own.{Alike}
 use Rattle.actor_laws.proofs.Guards.{home_allowed}
-use Rattle.actor_laws.proofs.Turned.{in_list, out_list, home_turned}
+use Rattle.actor_laws.proofs.StepResult.{in_list, out_list, home_turned}
 
 -- where a location of collection k is in its block
 inner : (w : ℕ) (bs : List Block) (l k : ℕ) (b : Block) → block_of bs k ≡ Some b → w ≤ l → l < end_of w bs → home_of w bs l ≡ k
@@ -50,7 +51,7 @@ inner w (c ∷ bs) l zero b is above below at =
     ⊎_elim
     (λ (t : ltb l (w + size c) ≡ true).
     let lt = ltb-true l (w + size c) t in
-    let same : size c ≡ size b = ap size (same_block c b is) in (l - w, omega arith, omega arith))
+    let same : size c ≡ size b = ap size (same_Some c b is) in (l - w, omega arith, omega arith))
     (λ (f : ltb l (w + size c) ≡ false).
     absurd (let z : suc (home_of (w + size c) bs l) ≡ 0 = sym (cond-false _ 0 (suc (home_of (w + size c) bs l)) f) ∙ at in omega arith))
     (cases_Bool (ltb l (w + size c)))
@@ -144,7 +145,7 @@ module _ {V : Type 0} where
 
   module _ (n : ℕ) (bs : List Block) (k : ℕ) (b : Block) (stripes : HaveStripes bs) (is : block_of bs k ≡ Some b) where
     -- what an outcome writes is of its collection
-    its_home : (o : Answered V) (i : ℕ) → i < size b → IsIn (first_of n bs k + i) ((content n bs).writes o) → o.asked.collection ≡ k
+    its_home : (o : CallWithOutcome V) (i : ℕ) → i < size b → IsIn (first_of n bs k + i) ((content n bs).writes o) → o.asked.collection ≡ k
     its_home o i lt m =
         let c = o.asked.collection in
         let l = first_of n bs k + i in
@@ -152,7 +153,7 @@ module _ {V : Type 0} where
         ((content_frame {V = V} n bs stripes).read o l m) in
         sym (home_is n bs c z.1 z.0 z.2 z.4) ∙ (ap (home_of n bs) (sym z.3) ∙ home_is n bs k i b is lt)
 
-    shows_one : (o : Answered V) (v : ℕ → Shown V) (s : Shown V) (t : Bool) → (o.asked.collection == k) ≡ t → kind_of s ≡ b.kind
+    shows_one : (o : CallWithOutcome V) (v : ℕ → Shown V) (s : Shown V) (t : Bool) → (o.asked.collection == k) ≡ t → kind_of s ≡ b.kind
         → ((i : ℕ) → i < size b → v (first_of n bs k + i) ≡ part b.stripes i s) → (i : ℕ) → i < size b
         → (content n bs).change o v (first_of n bs k + i) ≡ part b.stripes i (after (if t then changes_on b o.outcome else []) s)
     shows_one o v s true t kind shows i lt =
@@ -165,7 +166,7 @@ module _ {V : Type 0} where
         (λ m. true≢false (sym (eq-eqb o.asked.collection k (its_home o i lt m)) ∙ t))
         ∙ (shows i lt ∙ sym (ap (part b.stripes i) (after_none s)))
 
-    pub shows_log : (os : List (Answered V)) (v : ℕ → Shown V) (s : Shown V) → kind_of s ≡ b.kind
+    pub shows_log : (os : List (CallWithOutcome V)) (v : ℕ → Shown V) (s : Shown V) → kind_of s ≡ b.kind
         → ((i : ℕ) → i < size b → v (first_of n bs k + i) ≡ part b.stripes i s) → (i : ℕ) → i < size b
         → changes (content n bs) os v (first_of n bs k + i) ≡ part b.stripes i (after (log_changes k b os) s)
     shows_log [] v s kind shows i lt = shows i lt ∙ sym (ap (part b.stripes i) (after_none s))
@@ -176,14 +177,14 @@ module _ {V : Type 0} where
         ∙ sym (ap (part b.stripes i) (after_both cs (log_changes k b os) s))
 
     -- ---- locations
-    writes_are : (o : Answered V) → o.asked.collection ≡ k → (content n bs).writes o ≡ shifted (first_of n bs k) (writes_on b o.outcome)
+    writes_are : (o : CallWithOutcome V) → o.asked.collection ≡ k → (content n bs).writes o ≡ shifted (first_of n bs k) (writes_on b o.outcome)
     writes_are o e = (λ z. writes_in ((ap (block_of bs) e ∙ is) z) (first_of n bs (e z)) o.outcome) ∙ by o.outcome
       where
         by : (r : Option (Outcome V)) → writes_in (Some b) (first_of n bs k) r ≡ shifted (first_of n bs k) (writes_on b r)
         by None = refl
         by (Some r) = refl
 
-    written_is_logged : (os : List (Answered V)) (i : ℕ) → i < size b → does_write (content n bs) (first_of n bs k + i) os ≡ true
+    written_is_logged : (os : List (CallWithOutcome V)) (i : ℕ) → i < size b → does_write (content n bs) (first_of n bs k + i) os ≡ true
         → Contains (log_locations k b os) i
     written_is_logged [] i lt h = absurd (true≢false (sym h))
     written_is_logged (o ∷ os) i lt h =
@@ -204,7 +205,7 @@ module _ {V : Type 0} where
         (written_is_logged os i lt (sym (cond-false (has ws l) true (does_write (content n bs) l os) f) ∙ h)))
         (cases_Bool (has ws l))
 
-    logged_is_written : (os : List (Answered V)) (i : ℕ) → Contains (log_locations k b os) i → does_write (content n bs)
+    logged_is_written : (os : List (CallWithOutcome V)) (i : ℕ) → Contains (log_locations k b os) i → does_write (content n bs)
         (first_of n bs k + i) os ≡ true
     logged_is_written [] i (j, lt, e) = absurd (omega (arith, lt))
     logged_is_written (o ∷ os) i c =
@@ -227,14 +228,14 @@ module _ {V : Type 0} where
         here false t (j, lt, e) = absurd (omega (arith, lt))
 
   -- ---- a log grows at its end
-  pub more_changes : (k : ℕ) (b : Block) (os : List (Answered V)) (o : Answered V)
+  pub more_changes : (k : ℕ) (b : Block) (os : List (CallWithOutcome V)) (o : CallWithOutcome V)
       → log_changes k b (os ++ o ∷ []) ≡ log_changes k b os ++ (if o.asked.collection == k then changes_on b o.outcome else [])
   more_changes k b [] o = append-nil _
   more_changes k b (p ∷ os) o =
       let cs : List (Change V) = if p.asked.collection == k then changes_on b p.outcome else [] in
       ap (λ ds. cs ++ ds) (more_changes k b os o) ∙ sym (append_assoc cs (log_changes k b os) _)
 
-  pub more_locations : (k : ℕ) (b : Block) (os : List (Answered V)) (o : Answered V)
+  pub more_locations : (k : ℕ) (b : Block) (os : List (CallWithOutcome V)) (o : CallWithOutcome V)
       → log_locations k b (os ++ o ∷ []) ≡ log_locations k b os ++ (if o.asked.collection == k then writes_on b o.outcome else [])
   more_locations k b [] o = append-nil _
   more_locations k b (p ∷ os) o =
@@ -243,7 +244,7 @@ module _ {V : Type 0} where
 
   -- ---- the base is put back
   -- the write set has the locations of collections that the outcomes write
-  abbrev SetsOk : ℕ → List Block → Actor → Shadow (Shown V) (Answered V) → Type 0
+  abbrev SetsOk : ℕ → List Block → Actor → Shadow (Shown V) (CallWithOutcome V) → Type 0
   SetsOk n bs y z =
       ((l : ℕ) → lookup y.writes l ≡ None → Untouched (content n bs) l z.outcomes)
       × ((l x : ℕ) → is_plain n bs l ≡ false → lookup y.writes l ≡ Some x → IsWritten (content n bs) l z.outcomes)

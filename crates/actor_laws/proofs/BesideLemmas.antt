@@ -7,6 +7,7 @@ use Rattle.std.proofs.Common.{◌≡◌, inl, inr, ℕ, ◌+◌, ◌<◌, ◌≤
 use Rattle.std.proofs.Common.{Option, Some, None, refl, sym, ◌∙◌, ap, subst, true≢false}
 use Rattle.std.specs.Prelude.{nat_lt}
 use Rattle.std.proofs.lemmas.Bool.{cases_Bool, cases_eq}
+use Rattle.std.proofs.lemmas.Option.{same_Some, none-some}
 use Rattle.tx_sets.specs.Entries.{Entries, lookup}
 use Rattle.tx_machine.specs.Actor.{Actor}
 use Rattle.tx_machine.specs.Requests as word
@@ -42,11 +43,11 @@ use Rattle.replay_log.proofs.RequestLemmas.{happens_by}
 use Rattle.replay_log.proofs.SeatLemmas.{Linked}
 use Rattle.actor_laws.specs.Alone.{IsSmall, weight, weights}
 use Rattle.actor_laws.specs.Beside.{AreFitting, BeginsNoReader, IsFitting, IsNoReader, RefusesAsMistaken}
-use Rattle.actor_laws.specs.Phases.{IsMistaken}
+use Rattle.actor_laws.specs.KnownStages.{IsMistaken}
 use Rattle.actor_laws.proofs.BoundLemmas.{BoundAt, begins_bound, bound_more, calls_bound, cancels_on, commits_bound, due}
 use Rattle.actor_laws.proofs.BoundLemmas.{op_on, starve_on, step_on}
 use Rattle.seq_model.specs.declared.call.Call.{Call}
-use Rattle.actor_laws.proofs.AloneLemmas.{allowed_no, by_notice, calls_on_no, copying_no, ending_goes, or_true, reads_no, same_cause}
+use Rattle.actor_laws.proofs.AloneLemmas.{allowed_no, by_notice, calls_on_no, copying_no, ending_goes, or_true, reads_no}
 use Rattle.actor_laws.proofs.FewLemmas.{IsFew, Sized, SizedAt, SizedIn, begin_sized, call_sized, cancels_sized, commit_sized, fits_one}
 use Rattle.actor_laws.proofs.FewLemmas.{gives_up_sized, sits, step_sized}
 
@@ -55,10 +56,7 @@ abbrev HasRoom : ℕ → Type 0
 HasRoom n = n ≤ 4096
 
 memory_well : (o : Option Refusal) → o ≡ Some refusal.Memory → (c : Refusal) → o ≡ Some c → IsMistaken c → ⊥
-memory_well o e c is m = subst IsMistaken (same_cause c refusal.Memory (sym is ∙ e)) m
-
-none_some : (c : Refusal) → None ≡ Some c → ⊥
-none_some c e = cc
+memory_well o e c is m = subst IsMistaken (same_Some c refusal.Memory (sym is ∙ e)) m
 
 module _ {V : Type 0} where
   -- ---- the sets
@@ -193,7 +191,7 @@ module _ {V : Type 0} where
   abort_ends : (w : World V) (a : ℕ) (st : Stage V) → (w.seats a).stage ≡ st → is_ending st ≡ false
       → EndsWell a (ask_at w a (w.seats a) st request.Abort).0
   abort_ends w a Idle at was e c is m = no_end w a Idle at was e
-  abort_ends w a Open at was e c is m = none_some c (sym (abort_cause w a (w.seats a)) ∙ is)
+  abort_ends w a Open at was e c is m = none-some c (sym (abort_cause w a (w.seats a)) ∙ is)
   abort_ends w a st at was e c is m = no_end w a st at was e
 
   ask_ends : (w : World V) (a : ℕ) (q : Request V) → Linked w → EndsWell a w → EndsWell a (happens w (Ask a q)).0
@@ -244,7 +242,7 @@ module _ {V : Type 0} where
           | inl was ↦ λ c is m. h was c (sym (keeps_cause w a was e) ∙ is) m
           | inr wasnt ↦ λ c is m. (
               let new = world_causes blocks clock values held events a stripes wasnt e in
-              found_well w a (w.seats a).stage u new.0 new.2 (subst IsMistaken (same_cause c new.0 (sym is ∙ new.1)) m))
+              found_well w a (w.seats a).stage u new.0 new.2 (subst IsMistaken (same_Some c new.0 (sym is ∙ new.1)) m))
         ]
 
     own_ends : (events : List (Event V)) (e : Event V) → whose e ≡ a → EndsWell a (run o events) → EndsWell a (happens (run o events) e).0

@@ -222,7 +222,7 @@ does_clock s a (world.ExchangeLock l k won lost) = exchanged_clock s a l k won l
 does_clock s a (world.StoreValue l v y) = refl
 does_clock s a (world.StoreLock l w y) = refl
 
-noted_clock : (t : Words) (o : world.Outcome) → (world.noted t o).clock ≡ t.clock
+noted_clock : (t : Words) (o : world.StepEnd) → (world.noted t o).clock ≡ t.clock
 noted_clock t world.GoesOn = refl
 noted_clock t (world.Commits r) = refl
 noted_clock t (world.Aborts e) = refl
@@ -247,7 +247,7 @@ plain_is_mild word.AskBeginRead h = h
 plain_is_mild word.AskLock h = h
 plain_is_mild q h = tt
 
-noted_actors : (t : Words) (o : world.Outcome) → (world.noted t o).actors ≡ t.actors
+noted_actors : (t : Words) (o : world.StepEnd) → (world.noted t o).actors ≡ t.actors
 noted_actors t world.GoesOn = refl
 noted_actors t (world.Commits r) = refl
 noted_actors t (world.Aborts e) = refl
@@ -256,7 +256,7 @@ stepped_bound : (n a : ℕ) (s : Words) → IsBound n a s → IsBound n a (world
 stepped_bound n a s h =
     let y = s.actors a in
     let p = y.place in
-    let o = world.outcome a y p in
+    let o = world.step_end a y p in
     let d = plan y p in
     let t = world.step s a y p in
     let r = step_bound s y p refl h.undeclared in

@@ -33,6 +33,7 @@ use Rattle.seq_model.specs.declared.limits.TheConstants.{CALL_LIMIT, INDEX_LIMIT
 use Rattle.seq_model.specs.declared.refusal.Refusal.TheVariants as refusal
 use Rattle.seq_model.specs.Calls.{map_call}
 use Rattle.seq_model.specs.Counts.{Multiset}
+use Rattle.seq_model.proofs.LogicLemmas.{le-nat_le}
 use Rattle.base_map.specs.Conflicts as map
 use Rattle.base_bag.specs.Conflicts as bag
 use Rattle.base_pq.specs.Conflicts as pq
@@ -45,7 +46,7 @@ use Rattle.conflict.specs.Footprints.{queue_reads, queue_writes}
 use Rattle.tx_machine.specs.Boosted.{Boosted, PutGate, Accept, TakeGate, GoHome, is_open, is_sound, every, may_write, changes}
 use Rattle.tx_machine.specs.Boosted.{writes_asked, longer, is_none}
 use Rattle.replay_log.specs.Base.{Shown, OfMap, OfBag, OfPq, OfQueue, outcome_of, reads_of, writes_of}
-use Rattle.replay_log.specs.Contents.{Block, Asked, Answered, answer, block_of, blank, content, first_of, reads_in}
+use Rattle.replay_log.specs.Contents.{Block, CollectionCall, CallWithOutcome, answer, block_of, blank, content, first_of, reads_in}
 use Rattle.replay_log.specs.Contents.{seen, writes_in}
 use Rattle.replay_log.specs.Parts.{Kind, MapKind, BagKind, PqKind, QueueKind, whole}
 use Rattle.replay_log.specs.Pieces.{piece_at, covers_at}
@@ -181,7 +182,7 @@ module _ {V : Type 0} where
   few_in op (Some b) f v s = few_some op b f (outcome_of op (seen b f v)) s (is_of op (seen b f v) s)
 
   -- the locations of a small call, whatever the collections show
-  few_of : (n : ℕ) (bs : List Block) (v : ℕ → Shown V) (asked : Asked V) → IsSmall asked.op
+  few_of : (n : ℕ) (bs : List Block) (v : ℕ → Shown V) (asked : CollectionCall V) → IsSmall asked.op
       → let c = content n bs in
       (length (c.reads (c.outcome v asked)) ≤ weight asked.op) × (length (c.writes (c.outcome v asked)) ≤ weight asked.op)
   few_of n bs v asked s = few_in asked.op (block_of bs asked.collection) (first_of n bs asked.collection) v s
@@ -261,13 +262,10 @@ few_more n m y le h = record {
 }
 
 -- ---- room in a set
-le_true : (m n : ℕ) → m ≤ n → nat_le m n ≡ true
-le_true m n h = grind (arith, nat_tests)
-
 fit : (set : Entries) (ls : List ℕ) → length set + length ls ≤ 4096 → fits set ls ≡ true
 fit set ls h =
     let few = filter_shorter (λ l. is_none (lookup set l)) ls in
-    le_true (length set + length (new_in set ls)) 4096 (omega (arith, few, h))
+    le-nat_le (length set + length (new_in set ls)) 4096 (omega (arith, few, h))
 
 room : (y : Actor) (rs ws : List ℕ) → length y.reads + length rs ≤ 4096 → length y.writes + length ws ≤ 4096 → has_room y rs ws ≡ true
 room y rs ws h g =
@@ -289,7 +287,7 @@ module _ {V : Type 0} where
 
   -- ---- a seat
   -- a call is judged, and n locations of it are left
-  pub record IsJudged (x : Seat V) (o : Answered V) (n : ℕ) (y : Actor) : Type 0 where
+  pub record IsJudged (x : Seat V) (o : CallWithOutcome V) (n : ℕ) (y : Actor) : Type 0 where
     pub reads : length y.reads + n ≤ weights x.calls + weight o.asked.op
     pub writes : length y.writes ≤ weights x.calls
     pub small : IsSmall o.asked.op
@@ -303,7 +301,7 @@ module _ {V : Type 0} where
   Sized P x (Loading o es) y = IsJudged x o (length es) y
   Sized P x st y = Unit {0}
 
-  judged_same : (x : Seat V) (o : Answered V) (n : ℕ) (y z : Actor) → SameSets y z → IsJudged x o n y → IsJudged x o n z
+  judged_same : (x : Seat V) (o : CallWithOutcome V) (n : ℕ) (y z : Actor) → SameSets y z → IsJudged x o n y → IsJudged x o n z
   judged_same x o n y z e h = record {
     reads = subst (λ (es : Entries). length es + n ≤ weights x.calls + weight o.asked.op) (sym e.0) h.reads;
     writes = subst (λ (es : Entries). length es ≤ weights x.calls) (sym e.1) h.writes;
@@ -350,7 +348,7 @@ module _ {V : Type 0} (P : ℕ → Type 0) (a : ℕ) where
   gives_up_sized u x (k ∷ ks) = sits u (at_stage x (Returning (k ∷ ks))) tt
 
   -- ---- a call on a collection
-  accepted_grows : (u : World V) (asked : Asked V) → IsSmall asked.op
+  accepted_grows : (u : World V) (asked : CollectionCall V) → IsSmall asked.op
       → Grows (weight asked.op) (actor_of u a) (actor_of (acted u (Accept a asked ∷ [])) a)
   accepted_grows u asked small =
       let c = content u.words u.blocks in
@@ -359,12 +357,12 @@ module _ {V : Type 0} (P : ℕ → Type 0) (a : ℕ) where
       let v = changes c (s.shadows a).outcomes (s.shadows a).parts in
       let o = c.outcome v asked in
       let few = (few_of u.words u.blocks v asked small).1 in
-      let written : Boosted (Shown V) (Answered V) = record s {
+      let written : Boosted (Shown V) (CallWithOutcome V) = record s {
         words = world.run (writes_asked a (s.shadows a).editions (c.writes o)) s.words;
         shadows = world.put s.shadows a (longer (s.shadows a) o);
       } in
       cond_both (is_open y.place && (may_write y.declared (c.writes o) && every (is_sound c s a) (c.reads o))) written s
-      (λ (t : Boosted (Shown V) (Answered V)). Grows (weight asked.op) y (t.words.actors a))
+      (λ (t : Boosted (Shown V) (CallWithOutcome V)). Grows (weight asked.op) y (t.words.actors a))
       (λ _. (let g = writes_grow a (s.shadows a).editions (c.writes o) s.words in
       let more = g.1 in (g.0, omega (arith, few, more))))
       (λ _. (refl, omega arith))
@@ -373,7 +371,7 @@ module _ {V : Type 0} (P : ℕ → Type 0) (a : ℕ) where
   fresh_sized u x d v next n =
       choose (eqb d.1 v) next _ (λ _. n) (λ _. gives_up_sized u (because x (refusal.Stale d.0 d.1 v)) [])
 
-  judges_sized : (u : World V) (x : Seat V) (o : Answered V) (d : ℕ × ℕ) (es : Entries) (next : After V) (r : Option ℕ)
+  judges_sized : (u : World V) (x : Seat V) (o : CallWithOutcome V) (d : ℕ × ℕ) (es : Entries) (next : After V) (r : Option ℕ)
       → IsJudged x o (length (d ∷ es)) (actor_of u a) → SizedIn next → SizedIn (judges u a x o d es next r)
   judges_sized u x o d es next None h n =
       let t = acted u (asks a (word.AskRead d.0) ∷ []) in
@@ -382,7 +380,7 @@ module _ {V : Type 0} (P : ℕ → Type 0) (a : ℕ) where
       (asked_same u (word.AskRead d.0) tt) (record { reads = h.reads; writes = h.writes; small = h.small }))
   judges_sized u x o d es next (Some v) h n = fresh_sized u x d v next n
 
-  loads_sized : (es : Entries) (u : World V) (x : Seat V) (o : Answered V) → IsJudged x o (length es) (actor_of u a)
+  loads_sized : (es : Entries) (u : World V) (x : Seat V) (o : CallWithOutcome V) → IsJudged x o (length es) (actor_of u a)
       → SizedIn (loads u a x o es)
   loads_sized [] u x o h =
       let reads = h.reads in
@@ -394,7 +392,7 @@ module _ {V : Type 0} (P : ℕ → Type 0) (a : ℕ) where
       judges_sized u x o d es (loads u a x o es) (lookup (actor_of u a).reads d.0) h
       (loads_sized es u x o (record { reads = omega (arith, reads); writes = h.writes; small = h.small }))
 
-  answers_sized : (u : World V) (before x : Seat V) (sized : Answered V) (v : ℕ → Shown V) (asked : Asked V) (editions : ℕ → ℕ)
+  answers_sized : (u : World V) (before x : Seat V) (sized : CallWithOutcome V) (v : ℕ → Shown V) (asked : CollectionCall V) (editions : ℕ → ℕ)
       → IsFew (weights before.calls) (actor_of u a) → before.calls ≡ x.calls → IsSmall asked.op
       → SizedIn (answers u a before x sized ((content u.words u.blocks).outcome v asked) editions)
   answers_sized u before x sized v asked editions h same small =
@@ -410,7 +408,7 @@ module _ {V : Type 0} (P : ℕ → Type 0) (a : ℕ) where
       (λ _. loads_sized es u x o (record { reads = omega (arith, reads, long, left); writes = few.writes; small = small }))
       (λ _. sits u (at_stage before Open) h)
 
-  calls_on_sized : (u : World V) (x : Seat V) (asked : Asked V) → IsFew (weights x.calls) (actor_of u a) → IsSmall asked.op
+  calls_on_sized : (u : World V) (x : Seat V) (asked : CollectionCall V) → IsFew (weights x.calls) (actor_of u a) → IsSmall asked.op
       → P (weights x.calls + weight asked.op) → SizedIn (calls_on u a x asked)
   calls_on_sized u x asked h small room =
       let c = content u.words u.blocks in
@@ -421,7 +419,7 @@ module _ {V : Type 0} (P : ℕ → Type 0) (a : ℕ) where
       (λ _. sits u (at_stage x (Trying asked more_tries)) (h, small, room))
 
   -- a load of a call
-  has_loaded_sized : (u : World V) (x : Seat V) (y z : Actor) (o : Answered V) (d : ℕ × ℕ) (es : Entries) (n : told.Notice)
+  has_loaded_sized : (u : World V) (x : Seat V) (y z : Actor) (o : CallWithOutcome V) (d : ℕ × ℕ) (es : Entries) (n : told.Notice)
       → actor_of u a ≡ z → u.seats a ≡ x → x.stage ≡ Loading o (d ∷ es) → IsJudged x o (length (d ∷ es)) y → AfterRead d.0 y z n
       → SizedIn (has_loaded u a x o d es n)
   has_loaded_sized u x y z o d es told.Quiet e seat st h after =
@@ -482,7 +480,7 @@ module _ {V : Type 0} (P : ℕ → Type 0) (a : ℕ) where
       let reads = h.reads in
       let grown : Grows 1 y (actor_of t a) =
       cond_both (c.plain l) (record s { words = world.now s.words a z }) s
-      (λ (t : Boosted (Shown V) (Answered V)). Grows 1 y (t.words.actors a)) (λ _. asked_grows s.words a l v) (λ _. (refl, omega arith)) in
+      (λ (t : Boosted (Shown V) (CallWithOutcome V)). Grows 1 y (t.words.actors a)) (λ _. asked_grows s.words a l v) (λ _. (refl, omega arith)) in
       sits t (with_call x call reply.Done)
       (joins_few x call reply.Done (actor_of t a)
       (few_grown (weights x.calls) 1 y (actor_of t a) grown (omega (arith, reads)) h.writes))
@@ -673,7 +671,7 @@ module _ {V : Type 0} (P : ℕ → Type 0) (a : ℕ) where
 
   -- ---- room for a call
   -- a small call after these has room in the sets
-  pub has_room_for : (u : World V) (n : ℕ) (v : ℕ → Shown V) (asked : Asked V) → IsFew n (actor_of u a) → IsSmall asked.op
+  pub has_room_for : (u : World V) (n : ℕ) (v : ℕ → Shown V) (asked : CollectionCall V) → IsFew n (actor_of u a) → IsSmall asked.op
       → n + weight asked.op ≤ 4096
       → let c = content u.words u.blocks in
       has_room (actor_of u a) (c.reads (c.outcome v asked)) (c.writes (c.outcome v asked)) ≡ true

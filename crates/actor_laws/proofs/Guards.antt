@@ -7,7 +7,7 @@ use Rattle.tx_machine.specs.Actor.{Actor}
 use Rattle.seq_model.specs.declared.held.Held.{Held}
 use Rattle.seq_model.specs.declared.event.Event.{Event}
 use Rattle.tx_machine.specs.Boosted.{Action, TakeGate, PutGate, GoHome, is_actor, is_committing, is_stored}
-use Rattle.replay_log.specs.Contents.{Asked, Block, HaveStripes}
+use Rattle.replay_log.specs.Contents.{CollectionCall, Block, HaveStripes}
 use Rattle.replay_log.specs.Guards.{IsAllowed, step_action}
 use Rattle.replay_log.specs.Seats.{World, Stage, Ready, moves, actor_of}
 use Rattle.replay_log.specs.Worlds.{opened, run}
@@ -19,7 +19,7 @@ use Rattle.actor_laws.proofs.Alike.{action_same}
 
 module _ {V : Type 0} where
   -- but for the first value store the action is that of the next step
-  due : (v : World V) (a : ℕ) (p : Stage V) (d : Action (Asked V)) → (Some (moves a) ≡ Some d → ⊥) → atomic_action a v p ≡ Some d
+  due : (v : World V) (a : ℕ) (p : Stage V) (d : Action (CollectionCall V)) → (Some (moves a) ≡ Some d → ⊥) → atomic_action a v p ≡ Some d
       → step_action v a p ≡ Some d
   due v a (Ready ks) d out e = absurd (out e)
   due v a p d out e = e
@@ -29,7 +29,7 @@ module _ {V : Type 0} where
     abbrev reached : World V
     reached = run (opened blocks clock values held) events
 
-    allowed : (d : Action (Asked V)) → (Some (moves a) ≡ Some d → ⊥) → atomic_action a t (t.seats a).stage ≡ Some d
+    allowed : (d : Action (CollectionCall V)) → (Some (moves a) ≡ Some d → ⊥) → atomic_action a t (t.seats a).stage ≡ Some d
         → IsAllowed reached (reached.seats a).stage (Some d)
     allowed d out e =
         subst (IsAllowed reached (reached.seats a).stage) (due reached a (reached.seats a).stage d out (action_same a reached t alike ∙ e))

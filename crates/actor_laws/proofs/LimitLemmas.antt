@@ -7,7 +7,7 @@ use Rattle.std.specs.Prelude.{not, nat_lt, slice_index_or, ◌||◌, ◌==◌}
 use Rattle.std.proofs.lemmas.Bool.{cases_Bool, cases_eq, cond-true, cond-false}
 use Rattle.std.proofs.lemmas.Bool.Decides.{nat_tests}
 use Rattle.tx_machine.specs.Requests.{Request, AskWrite, AskStore, AskRelease}
-use Rattle.tx_machine.specs.World.{Ask, Step, Outcome, GoesOn, Commits, Aborts, outcome, put, step, run as word_run}
+use Rattle.tx_machine.specs.World.{Ask, Step, StepEnd, GoesOn, Commits, Aborts, step_end, put, step, run as word_run}
 use Rattle.tx_machine.proofs.Sets.{put-same}
 use Rattle.tx_machine.specs.Content.{Content, Frame}
 use Rattle.tx_machine.specs.Boosted.{Action, Boosted, OnWords, TakeGate, PutGate, Accept, GoHome, act_all, acts, changes, homed}
@@ -18,14 +18,15 @@ use Rattle.tx_machine.specs.Serial.{views}
 use Rattle.tx_machine.proofs.BoostedInvariant.{IsHome}
 use Rattle.tx_machine.proofs.Models.{fits_all, run_of}
 use Rattle.tx_machine.proofs.BoostedSchedules.{all-opening, all_ok}
-use Rattle.tx_machine.proofs.Stated.{Opened, opened, reached}
+use Rattle.tx_machine.proofs.SequentialRuns.{Opened, opened, reached}
 use Rattle.seq_model.specs.Calls.{IsWithinLimits}
 use Rattle.seq_model.specs.Contents.{Contents}
 use Rattle.seq_model.specs.declared.event.Event.{Event}
 use Rattle.seq_model.specs.declared.held.Held.{Held}
+use Rattle.seq_model.proofs.LogicLemmas.{lt-nat_lt, le-nat_lt}
 use Rattle.replay_log.specs.Base.{Shown, held_of}
 use Rattle.replay_log.specs.Collections.{Suit, shown_at}
-use Rattle.replay_log.specs.Contents.{Answered, Asked, Block, HaveStripes, content, end_of, home_of, is_plain, seen, size}
+use Rattle.replay_log.specs.Contents.{CallWithOutcome, CollectionCall, Block, HaveStripes, content, end_of, home_of, is_plain, seen, size}
 use Rattle.replay_log.specs.WorldTraces.{held_from}
 use Rattle.replay_log.specs.Worlds as worlds
 use Rattle.replay_log.specs.Worlds.{World, run, state}
@@ -47,23 +48,17 @@ each_all P [] h i d lt = absurd (omega (arith, lt))
 each_all P (x ∷ xs) h zero d lt = h.0
 each_all P (x ∷ xs) h (suc i) d lt = each_all P xs h.1 i d (omega (arith, lt))
 
-below : (l n : ℕ) → l < n → nat_lt l n ≡ true
-below l n h = grind (arith, nat_tests)
-
-above : (l n : ℕ) → n ≤ l → nat_lt l n ≡ false
-above l n h = grind (arith, nat_tests)
-
 apart : (i j : ℕ) → (i ≡ j → ⊥) → (i == j) ≡ false
 apart i j ne = grind (arith, nat_tests)
 
 head_home : (f : ℕ) (b : Block) (bs : List Block) (l : ℕ) → l < f + size b → home_of f (b ∷ bs) l ≡ 0
-head_home f b bs l lt = cond-true (nat_lt l (f + size b)) 0 (suc (home_of (f + size b) bs l)) (below l (f + size b) lt)
+head_home f b bs l lt = cond-true (nat_lt l (f + size b)) 0 (suc (home_of (f + size b) bs l)) (lt-nat_lt l (f + size b) lt)
 
 tail_home : (f : ℕ) (b : Block) (bs : List Block) (l : ℕ) → f + size b ≤ l → home_of f (b ∷ bs) l ≡ suc (home_of (f + size b) bs l)
-tail_home f b bs l ge = cond-false (nat_lt l (f + size b)) 0 (suc (home_of (f + size b) bs l)) (above l (f + size b) ge)
+tail_home f b bs l ge = cond-false (nat_lt l (f + size b)) 0 (suc (home_of (f + size b) bs l)) (le-nat_lt l (f + size b) ge)
 
 abbrev State : Type 0 → Type 0
-State V = Boosted (Shown V) (Answered V)
+State V = Boosted (Shown V) (CallWithOutcome V)
 
 module _ {V : Type 0} where
   -- ---- which actions leave the bases
@@ -71,13 +66,13 @@ module _ {V : Type 0} where
   on_requested s true a q = refl
   on_requested s false a q = refl
 
-  ask_leaves : (c : Content (Shown V) (Asked V) (Answered V)) (s : State V) (a : ℕ) (q : Request) → (on_ask c s a q).parts ≡ s.parts
+  ask_leaves : (c : Content (Shown V) (CollectionCall V) (CallWithOutcome V)) (s : State V) (a : ℕ) (q : Request) → (on_ask c s a q).parts ≡ s.parts
   ask_leaves c s a (AskWrite l v) = on_requested s (c.plain l) a (AskWrite l v)
   ask_leaves c s a AskStore = on_requested s (every (is_held c s a) _) a AskStore
   ask_leaves c s a AskRelease = on_requested s (every (is_given c s a) _) a AskRelease
   ask_leaves c s a q = refl
 
-  recorded_leaves : (s : State V) (os : List (Answered V)) (o : Outcome) → (recorded s os o).parts ≡ s.parts
+  recorded_leaves : (s : State V) (os : List (CallWithOutcome V)) (o : StepEnd) → (recorded s os o).parts ≡ s.parts
   recorded_leaves s os GoesOn = refl
   recorded_leaves s os (Commits r) = refl
   recorded_leaves s os (Aborts e) = refl
@@ -86,7 +81,7 @@ module _ {V : Type 0} where
   choose_leaves true s u e = e
   choose_leaves false s u e = refl
 
-  accept_leaves : (c : Content (Shown V) (Asked V) (Answered V)) (s : State V) (a : ℕ) (op : Asked V)
+  accept_leaves : (c : Content (Shown V) (CollectionCall V) (CallWithOutcome V)) (s : State V) (a : ℕ) (op : CollectionCall V)
       → (acts c s (Accept a op)).parts ≡ s.parts
   accept_leaves c s a op =
       let x = s.words.actors a in
@@ -150,7 +145,7 @@ module _ {V : Type 0} where
     abbrev n : ℕ
     n = length values
 
-    abbrev c : Content (Shown V) (Asked V) (Answered V)
+    abbrev c : Content (Shown V) (CollectionCall V) (CallWithOutcome V)
     c = content n bs
 
     frame : Frame c
@@ -159,7 +154,7 @@ module _ {V : Type 0} where
     abbrev IsOpened : State V → Type 0
     IsOpened s = Opened c (shown_at n bs hs) s
 
-    opened_on : (s : State V) (e : Action (Asked V)) → IsOpened s → IsOpened (acts c s e)
+    opened_on : (s : State V) (e : Action (CollectionCall V)) → IsOpened s → IsOpened (acts c s e)
     opened_on s e o =
         opened c frame (shown_at n bs hs) (acts c s e) (all_ok c frame (e ∷ []) s o.inv)
         ((all-opening c frame (e ∷ []) s o.inv).0 ∙ o.opening)
@@ -183,7 +178,7 @@ module _ {V : Type 0} where
 
     in_blocks : (l : ℕ) → n ≤ l → l < end_of n bs → is_plain n bs l ≡ false
     in_blocks l ge lt =
-        ap (λ (b : Bool). b || not (nat_lt l (end_of n bs))) (above l n ge) ∙ ap (λ (b : Bool). not b) (below l (end_of n bs) lt)
+        ap (λ (b : Bool). b || not (nat_lt l (end_of n bs))) (le-nat_lt l n ge) ∙ ap (λ (b : Bool). not b) (lt-nat_lt l (end_of n bs) lt)
 
     homed_limited : (s : State V) (a k : ℕ) → IsOpened (homed c s a k) → Limited n bs s.parts → Limited n bs (homed c s a k).parts
     homed_limited s a k o h =
@@ -197,13 +192,13 @@ module _ {V : Type 0} where
     kept : (s u : State V) → u.parts ≡ s.parts → Limited n bs s.parts → Limited n bs u.parts
     kept s u e h = subst (λ (v : ℕ → Shown V). Limited n bs v) (sym e) h
 
-    step_limited : (s : State V) (e : Action (Asked V)) → IsOpened s → Limited n bs s.parts → Limited n bs (acts c s e).parts
+    step_limited : (s : State V) (e : Action (CollectionCall V)) → IsOpened s → Limited n bs s.parts → Limited n bs (acts c s e).parts
     step_limited s (OnWords (Ask a q)) o h = kept s (acts c s (OnWords (Ask a q))) (ask_leaves c s a q) h
     step_limited s (OnWords (Step a)) o h =
         let x = s.words.actors a in
         kept s (acts c s (OnWords (Step a)))
         (recorded_leaves (record s { words = step s.words a x x.place; shadows = shadows_after s a x.place }) (s.shadows a).outcomes
-        (outcome a x x.place)) h
+        (step_end a x x.place)) h
     step_limited s (TakeGate a k) o h =
         kept s (acts c s (TakeGate a k))
         (choose_leaves (is_none (s.gates k) && not (is_committing (s.words.actors a).place)) s
@@ -223,7 +218,7 @@ module _ {V : Type 0} where
           | inr isnt ↦ subst (λ (u : State V). Limited n bs u.parts) (sym (cond-false b (homed c s a k) s isnt)) h
         ]
 
-    all_limited : (es : List (Action (Asked V))) (s : State V) → IsOpened s → Limited n bs s.parts → Limited n bs (act_all c es s).parts
+    all_limited : (es : List (Action (CollectionCall V))) (s : State V) → IsOpened s → Limited n bs s.parts → Limited n bs (act_all c es s).parts
     all_limited [] s o h = h
     all_limited (e ∷ es) s o h = all_limited es (acts c s e) (opened_on s e o) (step_limited s e o h)
 

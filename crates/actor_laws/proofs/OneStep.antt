@@ -25,7 +25,7 @@ use Rattle.seq_model.specs.declared.limits.TheConstants.{CALL_LIMIT}
 use Rattle.tx_machine.specs.Content.{Content}
 use Rattle.tx_machine.specs.Boosted.{Boosted, PutGate, Accept, is_open, is_sound, may_write, every, longer, on_words, writes_asked}
 use Rattle.replay_log.specs.Base.{Shown}
-use Rattle.replay_log.specs.Contents.{Asked, Answered as Outcomes, content, is_plain}
+use Rattle.replay_log.specs.Contents.{CollectionCall, CallWithOutcome as Outcomes, content, is_plain}
 use Rattle.replay_log.specs.Pieces.{piece_at, covers_at}
 use Rattle.replay_log.specs.Seats.{World, Seat, Stage, Idle, Beginning, Open, Locking, Releasing, Closing, Cancelling, Leaving, Reading}
 use Rattle.replay_log.specs.Seats.{Trying, Copying, Loading, Gating, Ready, Storing, Homing, Returning, After, no_one, at_stage, because}
@@ -169,10 +169,10 @@ module _ {V : Type 0} (a : ℕ) where
   ask_calm v word.AskClose = asked_calm v word.AskClose
   ask_calm v (word.AskRead l) = asked_calm v (word.AskRead l)
 
-  accept_calm : (v : World V) (q : Asked V) → OnlyOwn a v (acted v (Accept a q ∷ []))
+  accept_calm : (v : World V) (q : CollectionCall V) → OnlyOwn a v (acted v (Accept a q ∷ []))
   accept_calm v q =
       let o : Outcomes V = outcome_at v a q in
-      let c : Content (Shown V) (Asked V) (Outcomes V) = content v.words v.blocks in
+      let c : Content (Shown V) (CollectionCall V) (Outcomes V) = content v.words v.blocks in
       let b = v.boosted in
       let t : Boosted (Shown V)
       (Outcomes V) = record b {
@@ -207,7 +207,7 @@ module _ {V : Type 0} (a : ℕ) where
   asks_by : (v u : World V) (x : Seat V) (q : word.Request) → OnlyOwn a v u → OnlyOwn a v (seated (acted u (asks a q ∷ [])) a x)
   asks_by v u x q g = seated_by v _ x (through v u _ g (ask_calm u q))
 
-  accept_by : (v u : World V) (x : Seat V) (q : Asked V) → OnlyOwn a v u → OnlyOwn a v (seated (acted u (Accept a q ∷ [])) a x)
+  accept_by : (v u : World V) (x : Seat V) (q : CollectionCall V) → OnlyOwn a v u → OnlyOwn a v (seated (acted u (Accept a q ∷ [])) a x)
   accept_by v u x q g = seated_by v _ x (through v u _ g (accept_calm u q))
 
   cancels_by : (v u : World V) (x : Seat V) → OnlyOwn a v u → OnlyOwn a v (cancels u a x)
@@ -246,7 +246,7 @@ module _ {V : Type 0} (a : ℕ) where
   reads_by v u x l (told.Number i) g = asks_by v u _ ((word.AskRead l)) g
   reads_by v u x l n g = asks_by v u _ ((word.AskRead l)) g
 
-  calls_on_by : (v u : World V) (x : Seat V) (asked : Asked V) → OnlyOwn a v u → OnlyOwn a v (calls_on u a x asked).0
+  calls_on_by : (v u : World V) (x : Seat V) (asked : CollectionCall V) → OnlyOwn a v u → OnlyOwn a v (calls_on u a x asked).0
   calls_on_by v u x asked g =
       let editions = (u.boosted.shadows a).editions in
       let o = outcome_at u a asked in

@@ -9,8 +9,8 @@ use Rattle.std.proofs.lemmas.Bool.{cond_both, cases_eq}
 use Rattle.tx_machine.specs.Actor.{Actor, Place, Begin}
 use Rattle.tx_machine.specs.Requests as word
 use Rattle.tx_machine.specs.World as machine
-use Rattle.tx_machine.specs.World.{Outcome, GoesOn, Commits, Aborts, outcome, step, put}
-use Rattle.tx_machine.proofs.Answered.{step_other}
+use Rattle.tx_machine.specs.World.{StepEnd, GoesOn, Commits, Aborts, step_end, step, put}
+use Rattle.tx_machine.proofs.AnswerBound.{step_other}
 use Rattle.tx_machine.proofs.Sets.{put-same, put-other}
 use Rattle.seq_model.specs.declared.event.Event.{Event}
 use Rattle.seq_model.specs.declared.event.Event.TheVariants.{Ask, Step, Starve}
@@ -18,7 +18,7 @@ use Rattle.tx_machine.specs.Boosted.{Boosted, Shadow, Action, OnWords, TakeGate,
 use Rattle.tx_machine.specs.Boosted.{is_open, is_stored, is_committing, fresh, shadows_after, recorded, word_step, gated, homed}
 use Rattle.tx_machine.specs.Boosted.{copied}
 use Rattle.replay_log.specs.Base.{Shown}
-use Rattle.replay_log.specs.Contents.{Asked, Answered, content}
+use Rattle.replay_log.specs.Contents.{CollectionCall, CallWithOutcome, content}
 use Rattle.replay_log.specs.WorldProgress.{whose}
 use Rattle.replay_log.specs.Seats.{World, Seat, Stage, Closing, Leaving, Ready, acted}
 use Rattle.replay_log.specs.Worlds.{happens}
@@ -59,7 +59,7 @@ module _ {X Out : Type 0} (a b : ℕ) (ne : b ≢ a) where
       (λ _. sym (put-other s.shadows a (fresh s) b ne)) (λ _. refl)
   shadow_stands s p = refl
 
-  recorded_stands : (s t : Boosted X Out) (os : List Out) (o : Outcome) → AlikeBelow b s t → AlikeBelow b s (recorded t os o)
+  recorded_stands : (s t : Boosted X Out) (os : List Out) (o : StepEnd) → AlikeBelow b s t → AlikeBelow b s (recorded t os o)
   recorded_stands s t os GoesOn e = e
   recorded_stands s t os (Commits r) e = record {
     actor = e.actor;
@@ -74,7 +74,7 @@ module _ {X Out : Type 0} (a b : ℕ) (ne : b ≢ a) where
   step_stands s =
       let x : Actor = s.words.actors a in
       recorded_stands s (record s { words = step s.words a x x.place; shadows = shadows_after s a x.place }) (s.shadows a).outcomes
-      (outcome a x x.place)
+      (step_end a x x.place)
       (record {
         actor = sym (step_other s.words a b ne);
         shadow = shadow_stands s x.place;
@@ -99,13 +99,13 @@ module _ {V : Type 0} (a b : ℕ) (ne : b ≢ a) where
   }
 
   -- where the boosted part stands for b
-  with_boosted : (v : World V) (s : Boosted (Shown V) (Answered V)) → AlikeBelow b v.boosted s → Alike b v (record v { boosted = s })
+  with_boosted : (v : World V) (s : Boosted (Shown V) (CallWithOutcome V)) → AlikeBelow b v.boosted s → Alike b v (record v { boosted = s })
   with_boosted v s e = record { words = refl; blocks = refl; seat = refl; boosted = e }
 
   take_stands : (v : World V) (k : ℕ) → Alike b v (acted v (TakeGate a k ∷ []))
   take_stands v k =
-      let s : Boosted (Shown V) (Answered V) = v.boosted in
-      cond_both {A = Boosted (Shown V) (Answered V)} (is_none (s.gates k) && not (is_committing (s.words.actors a).place))
+      let s : Boosted (Shown V) (CallWithOutcome V) = v.boosted in
+      cond_both {A = Boosted (Shown V) (CallWithOutcome V)} (is_none (s.gates k) && not (is_committing (s.words.actors a).place))
       (gated s (put s.gates k (Some a)) s.shadows) s (λ t. Alike b v (record v { boosted = t }))
       (λ e. with_boosted v _ (record {
         actor = refl;
@@ -119,14 +119,14 @@ module _ {V : Type 0} (a b : ℕ) (ne : b ≢ a) where
 
   put_stands : (v : World V) (k : ℕ) (which : ℕ → Bool) → Alike b v (acted v (PutGate a k which ∷ []))
   put_stands v k which =
-      let s : Boosted (Shown V) (Answered V) = v.boosted in
+      let s : Boosted (Shown V) (CallWithOutcome V) = v.boosted in
       let c = content {V = V} v.words v.blocks in
-      let f : ℕ → Shadow (Shown V) (Answered V) = if is_open (s.words.actors a).place then put s.shadows a
+      let f : ℕ → Shadow (Shown V) (CallWithOutcome V) = if is_open (s.words.actors a).place then put s.shadows a
       (copied c s (s.words.actors a).calls (s.shadows a) k which) else s.shadows in
-      let same : s.shadows b ≡ f b = cond_both {A = ℕ → Shadow (Shown V) (Answered V)} (is_open (s.words.actors a).place)
+      let same : s.shadows b ≡ f b = cond_both {A = ℕ → Shadow (Shown V) (CallWithOutcome V)} (is_open (s.words.actors a).place)
       (put s.shadows a (copied c s (s.words.actors a).calls (s.shadows a) k which)) s.shadows (λ g. s.shadows b ≡ g b)
       (λ _. sym (put-other s.shadows a _ b ne)) (λ _. refl) in
-      cond_both {A = Boosted (Shown V) (Answered V)} (is_actor a (s.gates k) && not (is_committing (s.words.actors a).place))
+      cond_both {A = Boosted (Shown V) (CallWithOutcome V)} (is_actor a (s.gates k) && not (is_committing (s.words.actors a).place))
       (gated s (put s.gates k None) f) s (λ t. Alike b v (record v { boosted = t }))
       (λ e. with_boosted v _ (record {
         actor = refl;
@@ -140,8 +140,8 @@ module _ {V : Type 0} (a b : ℕ) (ne : b ≢ a) where
 
   home_stands : (v : World V) (k : ℕ) → Alike b v (acted v (GoHome a k ∷ []))
   home_stands v k =
-      let s : Boosted (Shown V) (Answered V) = v.boosted in
-      cond_both {A = Boosted (Shown V) (Answered V)} (is_actor a (s.gates k) && is_stored (s.words.actors a).place)
+      let s : Boosted (Shown V) (CallWithOutcome V) = v.boosted in
+      cond_both {A = Boosted (Shown V) (CallWithOutcome V)} (is_actor a (s.gates k) && is_stored (s.words.actors a).place)
       (homed (content {V = V} v.words v.blocks) s a k) s (λ t. Alike b v (record v { boosted = t }))
       (λ e. with_boosted v _ (record {
         actor = refl;
@@ -153,7 +153,7 @@ module _ {V : Type 0} (a b : ℕ) (ne : b ≢ a) where
       }))
       (λ _. with_boosted v s (stays a b ne s))
 
-  atomic_stands : (v : World V) (d : Action (Asked V)) → IsAtomic a d → Alike b v (acted v (d ∷ []))
+  atomic_stands : (v : World V) (d : Action (CollectionCall V)) → IsAtomic a d → Alike b v (acted v (d ∷ []))
   atomic_stands v (OnWords (machine.Ask i q)) h = absurd h
   atomic_stands v (OnWords (machine.Step i)) h = subst (λ (z : ℕ). Alike b v (acted v (OnWords (machine.Step z) ∷ []))) (sym h)
       (with_boosted v _ (step_stands a b ne v.boosted))
@@ -172,7 +172,7 @@ module _ {V : Type 0} (a b : ℕ) (ne : b ≢ a) where
   noted_stands v t x Leaving e = record { words = e.words; blocks = e.blocks; seat = e.seat; boosted = e.boosted }
   noted_stands v t x p e = e
 
-  action_stands : (v u : World V) (x : Seat V) (p : Stage V) (d : Option (Action (Asked V))) → Does a v x p d u → Alike b v u
+  action_stands : (v u : World V) (x : Seat V) (p : Stage V) (d : Option (Action (CollectionCall V))) → Does a v x p d u → Alike b v u
   action_stands v u x p None g = calm_alike v u g
   action_stands v u x p (Some d) (h, g) =
       let t : World V = acted v (d ∷ []) in

@@ -12,7 +12,7 @@ use Rattle.tx_machine.specs.Actor.{Actor, Call, Place, Begin, clock_limit}
 use Rattle.tx_machine.specs.Requests.{Request, AskBegin, AskBeginRead, AskLock, AskStore, AskRelease, AskCancel, AskAbort, AskClose}
 use Rattle.tx_machine.specs.Requests.{AskRead, AskWrite, ask}
 use Rattle.tx_machine.specs.World.{World, Ask, Step, Deed, Rests, LoadClock, AddToClock, LoadLock, LoadValue, ExchangeLock, StoreValue}
-use Rattle.tx_machine.specs.World.{StoreLock, Outcome, GoesOn, Commits, Aborts, plan, outcome, step, does, noted, now, put, run}
+use Rattle.tx_machine.specs.World.{StoreLock, StepEnd, GoesOn, Commits, Aborts, plan, step_end, step, does, noted, now, put, run}
 use Rattle.tx_machine.specs.Cells.{Cell, ClockCell, LockCell, ValueCell, cell, word_of, learns}
 use Rattle.tx_machine.specs.Opacity.{first_read}
 use Rattle.tx_machine.proofs.Cells.{step_learns}
@@ -72,9 +72,9 @@ module _ {X Op Out : Type 0} (c : Content X Op Out) (a : ℕ) where
 
   -- ---- a step of the words
   rests_keep : (s : World) (x : Actor) (p : Place) → plan x p ≡ Rests → (step s a x p).actors a ≡ s.actors a
-  rests_keep s x p e = noted_keeps (does s a (plan x p)) (outcome a x p) ∙ ap (λ (d : Deed). (does s a d).actors a) e
+  rests_keep s x p e = noted_keeps (does s a (plan x p)) (step_end a x p) ∙ ap (λ (d : Deed). (does s a d).actors a) e
     where
-      noted_keeps : (u : World) (o : Outcome) → (noted u o).actors a ≡ u.actors a
+      noted_keeps : (u : World) (o : StepEnd) → (noted u o).actors a ≡ u.actors a
       noted_keeps u GoesOn = refl
       noted_keeps u (Commits r) = refl
       noted_keeps u (Aborts r) = refl
@@ -108,7 +108,7 @@ module _ {X Op Out : Type 0} (c : Content X Op Out) (a : ℕ) where
       ∙ sym (put-same t.shadows a (fresh t)))) e.shadow
   shadow_alike s t p e clock = e.shadow
 
-  recorded_alike : (s t : Boosted X Out) (os ps : List Out) (o q : Outcome) → AlikeBelow a s t → AlikeBelow a (recorded s os o)
+  recorded_alike : (s t : Boosted X Out) (os ps : List Out) (o q : StepEnd) → AlikeBelow a s t → AlikeBelow a (recorded s os o)
       (recorded t ps q)
   recorded_alike s t os ps o q e = record {
     actor = words_of s os o ∙ (e.actor ∙ sym (words_of t ps q));
@@ -118,27 +118,27 @@ module _ {X Op Out : Type 0} (c : Content X Op Out) (a : ℕ) where
     first = first_of s os o ∙ (e.first ∙ sym (first_of t ps q));
   }
     where
-      words_of : (u : Boosted X Out) (r : List Out) (z : Outcome) → (recorded u r z).words.actors a ≡ u.words.actors a
+      words_of : (u : Boosted X Out) (r : List Out) (z : StepEnd) → (recorded u r z).words.actors a ≡ u.words.actors a
       words_of u r GoesOn = refl
       words_of u r (Commits z) = refl
       words_of u r (Aborts z) = refl
 
-      shadows_of : (u : Boosted X Out) (r : List Out) (z : Outcome) → (recorded u r z).shadows a ≡ u.shadows a
+      shadows_of : (u : Boosted X Out) (r : List Out) (z : StepEnd) → (recorded u r z).shadows a ≡ u.shadows a
       shadows_of u r GoesOn = refl
       shadows_of u r (Commits z) = refl
       shadows_of u r (Aborts z) = refl
 
-      gates_of : (u : Boosted X Out) (r : List Out) (z : Outcome) (k : ℕ) → (recorded u r z).gates k ≡ u.gates k
+      gates_of : (u : Boosted X Out) (r : List Out) (z : StepEnd) (k : ℕ) → (recorded u r z).gates k ≡ u.gates k
       gates_of u r GoesOn k = refl
       gates_of u r (Commits z) k = refl
       gates_of u r (Aborts z) k = refl
 
-      opening_of : (u : Boosted X Out) (r : List Out) (z : Outcome) → (recorded u r z).opening ≡ u.opening
+      opening_of : (u : Boosted X Out) (r : List Out) (z : StepEnd) → (recorded u r z).opening ≡ u.opening
       opening_of u r GoesOn = refl
       opening_of u r (Commits z) = refl
       opening_of u r (Aborts z) = refl
 
-      first_of : (u : Boosted X Out) (r : List Out) (z : Outcome) → (recorded u r z).first ≡ u.first
+      first_of : (u : Boosted X Out) (r : List Out) (z : StepEnd) → (recorded u r z).first ≡ u.first
       first_of u r GoesOn = refl
       first_of u r (Commits z) = refl
       first_of u r (Aborts z) = refl
@@ -150,7 +150,7 @@ module _ {X Op Out : Type 0} (c : Content X Op Out) (a : ℕ) where
       let y : Actor = t.words.actors a in
       let u : Boosted X Out = record s { words = step s.words a x x.place; shadows = shadows_after s a x.place } in
       let v : Boosted X Out = record t { words = step t.words a y y.place; shadows = shadows_after t a y.place } in
-      recorded_alike u v (s.shadows a).outcomes (t.shadows a).outcomes (outcome a x x.place) (outcome a y y.place) record {
+      recorded_alike u v (s.shadows a).outcomes (t.shadows a).outcomes (step_end a x x.place) (step_end a y y.place) record {
         actor = word_alike s.words t.words x refl (sym e.actor) same ∙ ap (λ (z : Actor). (step t.words a z z.place).actors a) e.actor;
         shadow = shadow_alike s t x.place e (λ (p : x.place ≡ Begin). same ClockCell (ap (λ (z : Place). word_of (plan x z)) p))
             ∙ ap (λ (z : Actor). shadows_after t a z.place a) e.actor;

@@ -37,7 +37,7 @@ use Rattle.tx_machine.specs.Content.{Content}
 use Rattle.tx_machine.specs.Boosted.{Boosted, Shadow, Action, TakeGate, PutGate, Accept, GoHome, acts, changes, is_none, is_actor}
 use Rattle.tx_machine.specs.Boosted.{is_open, is_committing, gated, copied}
 use Rattle.replay_log.specs.Base.{Shown}
-use Rattle.replay_log.specs.Contents.{Block, Asked, Answered as Outcomes, block_of, content, home_of, is_plain}
+use Rattle.replay_log.specs.Contents.{Block, CollectionCall, CallWithOutcome as Outcomes, block_of, content, home_of, is_plain}
 use Rattle.replay_log.specs.Pieces.{piece_at, covers_at}
 use Rattle.replay_log.specs.Seats.{World, Seat, Stage, Idle, Beginning, Open, Locking, Releasing, Closing, Cancelling, Leaving, Reading}
 use Rattle.replay_log.specs.Seats.{Trying, Copying, Loading, Gating, Ready, Storing, Homing, Returning, After, no_one, at_stage, because}
@@ -83,13 +83,13 @@ module _ {V : Type 0} (a : ℕ) where
     boosted = e.boosted;
   }
 
-  one_alike : (v u : World V) (d : Action (Asked V)) → Alike a v u → FindsBelow (content v.words v.blocks) a v.boosted u.boosted d
+  one_alike : (v u : World V) (d : Action (CollectionCall V)) → Alike a v u → FindsBelow (content v.words v.blocks) a v.boosted u.boosted d
       → Alike a (acted v (d ∷ [])) (acted u (d ∷ []))
   one_alike v u d e f = record {
     words = e.words;
     blocks = e.blocks;
     seat = e.seat;
-    boosted = subst (λ (z : Content (Shown V) (Asked V) (Outcomes V)). AlikeBelow a (acts (content v.words v.blocks) v.boosted d)
+    boosted = subst (λ (z : Content (Shown V) (CollectionCall V) (Outcomes V)). AlikeBelow a (acts (content v.words v.blocks) v.boosted d)
         (acts z u.boosted d)) (same_content v u e) (own_action (content v.words v.blocks) a v.boosted u.boosted d e.boosted f);
   }
 
@@ -130,7 +130,7 @@ module _ {V : Type 0} (a : ℕ) where
   reads_alike v u x l (told.Number i) e = replied_alike _ _ x _ _ (asks_alike v u (word.AskRead l) e)
   reads_alike v u x l n e = quietly _ _ _ _ Quiet refl (asks_alike v u (word.AskRead l) e)
 
-  outcome_alike : (v u : World V) (q : Asked V) → Alike a v u → outcome_at v a q ≡ outcome_at u a q
+  outcome_alike : (v u : World V) (q : CollectionCall V) → Alike a v u → outcome_at v a q ≡ outcome_at u a q
   outcome_alike v u q e i = (same_content v u e i).outcome
       (changes (same_content v u e i) (e.boosted.shadow i).outcomes (e.boosted.shadow i).parts) q
 
@@ -173,7 +173,7 @@ module _ {V : Type 0} (a : ℕ) where
       (answers_alike v u before x sized o f g same e))
 
   -- whose locations are to fit the sets
-  sized_alike : (v u : World V) (q : Asked V) → Alike a v u → SameCopy v u q
+  sized_alike : (v u : World V) (q : CollectionCall V) → Alike a v u → SameCopy v u q
       → sized_by v a q (outcome_at v a q) ≡ sized_by u a q (outcome_at u a q)
   sized_alike v u q e f =
       let same = f.0 (outcome_at v a q) refl
@@ -202,7 +202,7 @@ module _ {V : Type 0} (a : ℕ) where
       (copied c s (s.words.actors a).calls (s.shadows a) k which) else s.shadows)) s
       (λ t. t.parts ≡ s.parts) (λ _. refl) (λ _. refl)
 
-  put_copy : (v u : World V) (q : Asked V) (k : ℕ) (which others : ℕ → Bool) → SameCopy v u q
+  put_copy : (v u : World V) (q : CollectionCall V) (k : ℕ) (which others : ℕ → Bool) → SameCopy v u q
       → SameCopy (acted v (PutGate a k which ∷ [])) (acted u (PutGate a k others ∷ [])) q
   put_copy v u q k which others f = (
     λ o at.
@@ -214,7 +214,7 @@ module _ {V : Type 0} (a : ℕ) where
         ∙ (f.1 ∙ sym (ap (λ (g : ℕ → Shown V). c.outcome g q) (put_parts u k others)))),
   )
 
-  calls_alike : (v u : World V) (x : Seat V) (q : Asked V) → Alike a v u → SameAfter a (calls_on v a x q) (calls_on u a x q)
+  calls_alike : (v u : World V) (x : Seat V) (q : CollectionCall V) → Alike a v u → SameAfter a (calls_on v a x q) (calls_on u a x q)
   calls_alike v u x q e =
       agree (SameAfter a) _ _ _ _ _ _ (ap (λ (bs : List Block). x.copied q.collection (piece_at bs q)) e.blocks)
       (answers_from v u x x _ _ _ _ _ _ (outcome_alike v u q e) (outcome_alike v u q e)

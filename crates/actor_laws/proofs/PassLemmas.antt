@@ -22,7 +22,7 @@ use Rattle.tx_machine.specs.Boosted.{is_given, is_held, is_open, is_sound, longe
 use Rattle.tx_machine.specs.Boosted.{word_step, writes_asked}
 use Rattle.tx_machine.proofs.Runs.{recorded_words}
 use Rattle.replay_log.proofs.SetLemmas.{home_words, put_words, take_words}
-use Rattle.replay_log.specs.Contents.{Asked, Answered, content}
+use Rattle.replay_log.specs.Contents.{CollectionCall, CallWithOutcome, content}
 use Rattle.replay_log.specs.Pieces.{piece_at, covers_at}
 use Rattle.replay_log.specs.Worlds.{World, Seat, Stage, Idle, Beginning, Open, Locking, Releasing, Closing, Cancelling, Leaving, Reading}
 use Rattle.replay_log.specs.Worlds.{Trying, Copying, Loading, Gating, Ready, Storing, Homing, Returning, After, has_room, with_editions}
@@ -75,7 +75,7 @@ module _ {X Op Out : Type 0} (c : Content X Op Out) (a : ℕ) (P : Words → Typ
   word_step_keeps s h =
       let y = s.words.actors a in
       let t : Boosted X Out = record s { words = world.step s.words a y y.place; shadows = shadows_after s a y.place } in
-      subst P (sym (recorded_words t (s.shadows a).outcomes (world.outcome a y y.place))) (stepped s.words h)
+      subst P (sym (recorded_words t (s.shadows a).outcomes (world.step_end a y y.place))) (stepped s.words h)
 
   writes_keep : (editions : ℕ → ℕ) (ls : List ℕ) (s : Words) → P s → P (world.run (writes_asked a editions ls) s)
   writes_keep editions [] s h = h
@@ -113,7 +113,7 @@ module _ {V : Type 0} (a : ℕ) (P : Words → Type 0)
   abbrev pub Kept : After V → Type 0
   Kept r = KeptAt r.0
 
-  act_keeps : (u : World V) (e : Action (Asked V)) → IsPlainAction a e → KeptAt u → KeptAt (acted u (e ∷ []))
+  act_keeps : (u : World V) (e : Action (CollectionCall V)) → IsPlainAction a e → KeptAt u → KeptAt (acted u (e ∷ []))
   act_keeps u e m h = acts_keep (content u.words u.blocks) a P asked stepped u.boosted e m h
 
   pub cancels_keep : (u : World V) (x : Seat V) → KeptAt u → KeptAt (cancels u a x)
@@ -128,16 +128,16 @@ module _ {V : Type 0} (a : ℕ) (P : Words → Type 0)
   fresh_keeps u x d i next h m =
       cond_both {A = After V} (eqb d.1 i) next _ Kept (λ _. m) (λ _. gives_up_keeps u (because x (refusal.Stale d.0 d.1 i)) [] h)
 
-  judges_keep : (u : World V) (x : Seat V) (o : Answered V) (d : ℕ × ℕ) (es : Entries) (next : After V) (r : Option ℕ) → KeptAt u
+  judges_keep : (u : World V) (x : Seat V) (o : CallWithOutcome V) (d : ℕ × ℕ) (es : Entries) (next : After V) (r : Option ℕ) → KeptAt u
       → Kept next → Kept (judges u a x o d es next r)
   judges_keep u x o d es next None h m = act_keeps u (asks a (word.AskRead d.0)) (refl, tt) h
   judges_keep u x o d es next (Some i) h m = fresh_keeps u x d i next h m
 
-  loads_keep : (es : Entries) (u : World V) (x : Seat V) (o : Answered V) → KeptAt u → Kept (loads u a x o es)
+  loads_keep : (es : Entries) (u : World V) (x : Seat V) (o : CallWithOutcome V) → KeptAt u → Kept (loads u a x o es)
   loads_keep [] u x o h = act_keeps u (Accept a o.asked) refl h
   loads_keep (d ∷ es) u x o h = judges_keep u x o d es (loads u a x o es) (lookup (actor_of u a).reads d.0) h (loads_keep es u x o h)
 
-  answers_keep : (u : World V) (before x : Seat V) (sized o : Answered V) (editions : ℕ → ℕ) → KeptAt u
+  answers_keep : (u : World V) (before x : Seat V) (sized o : CallWithOutcome V) (editions : ℕ → ℕ) → KeptAt u
       → Kept (answers u a before x sized o editions)
   answers_keep u before x sized o editions h =
       let c = content u.words u.blocks in
@@ -150,7 +150,7 @@ module _ {V : Type 0} (a : ℕ) (P : Words → Type 0)
   reads_keep u x l (told.Number i) h = act_keeps u (asks a (word.AskRead l)) (refl, tt) h
   reads_keep u x l m h = act_keeps u (asks a (word.AskRead l)) (refl, tt) h
 
-  calls_on_keep : (u : World V) (x : Seat V) (asked : Asked V) → KeptAt u → Kept (calls_on u a x asked)
+  calls_on_keep : (u : World V) (x : Seat V) (asked : CollectionCall V) → KeptAt u → Kept (calls_on u a x asked)
   calls_on_keep u x asked h =
       let editions = (u.boosted.shadows a).editions in
       let o = outcome_at u a asked in
@@ -187,7 +187,7 @@ module _ {V : Type 0} (a : ℕ) (P : Words → Type 0)
   tried_keeps u x free k got again next (suc m) h =
       cond_both {A = After V} free (seated u a (at_stage x next), Quiet) _ Kept (λ _. h) (λ _. h)
 
-  loaded_keeps : (u : World V) (x : Seat V) (o : Answered V) (d : ℕ × ℕ) (es : Entries) (m : told.Notice) → KeptAt u
+  loaded_keeps : (u : World V) (x : Seat V) (o : CallWithOutcome V) (d : ℕ × ℕ) (es : Entries) (m : told.Notice) → KeptAt u
       → Kept (has_loaded u a x o d es m)
   loaded_keeps u x o d es (told.Number i) h = fresh_keeps u x d i (loads u a x o es) h (loads_keep es u x o h)
   loaded_keeps u x o d es (told.Moved i w) h = gives_up_keeps u (because x (refusal.Moved i w)) [] h

@@ -4,7 +4,7 @@ use Rattle.conflict.specs.declared.change.Change.{Change}
 use Rattle.conflict.specs.declared.outcome.Outcome.{Outcome}
 use Rattle.replay_log.specs.declared.base.Base.{Base}
 use Rattle.replay_log.specs.Base.{after, changes_of, editions_of, shown_of, stripes_of, writes_of}
-use Rattle.replay_log.specs.Contents.{Answered, Block, blank, first_of, home_of, is_plain, size}
+use Rattle.replay_log.specs.Contents.{CallWithOutcome, Block, blank, first_of, home_of, is_plain, size}
 use Rattle.replay_log.specs.Log.{AreRaised}
 use Rattle.replay_log.specs.Parts.{kind_of, part}
 use Rattle.replay_log.specs.Seats.{World}
@@ -33,11 +33,11 @@ module _ {V : Type 0} where
 
   -- what the calls of a transaction on collection k push into its log, one call after another: their changes, and the locations that
   -- they write
-  abbrev pub log_changes : (k : ℕ) → Block → List (Answered V) → List (Change V)
+  abbrev pub log_changes : (k : ℕ) → Block → List (CallWithOutcome V) → List (Change V)
   log_changes k b [] = []
   log_changes k b (o ∷ os) = (if o.asked.collection == k then changes_on b o.outcome else []) ++ log_changes k b os
 
-  abbrev pub log_locations : (k : ℕ) → Block → List (Answered V) → List ℕ
+  abbrev pub log_locations : (k : ℕ) → Block → List (CallWithOutcome V) → List ℕ
   log_locations k b [] = []
   log_locations k b (o ∷ os) = (if o.asked.collection == k then writes_on b o.outcome else []) ++ log_locations k b os
 

@@ -11,7 +11,7 @@ use Rattle.seq_model.specs.declared.limits.TheConstants.{CALL_LIMIT}
 use Rattle.replay_log.specs.WorldAnswers.{is_there}
 use Rattle.replay_log.specs.Worlds.{World, Open, happens}
 use Rattle.actor_laws.specs.Alone.{IsSmall, weight, weights}
-use Rattle.actor_laws.specs.Phases.{IsMistaken}
+use Rattle.actor_laws.specs.KnownStages.{IsMistaken}
 
 module _ {V : Type 0} where
   -- The call is on a word, a key of a map or an end of a queue; there is what it asks of; and after the calls that actor a has made, it is

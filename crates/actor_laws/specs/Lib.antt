@@ -2,12 +2,12 @@ pub mod Machine
 pub mod Own
 pub mod Clock
 pub mod Steps
-pub mod Spots
+pub mod StepTargets
 pub mod Gates
-pub mod Tells
+pub mod StepAnswers
 pub mod Bases
 pub mod StepVectors
-pub mod Phases
+pub mod KnownStages
 pub mod Courses
 pub mod Alone
 pub mod Beside

@@ -3,7 +3,7 @@ use Rattle.std.specs.Prelude.{◌≡◌, ℕ, Option, Some, None}
 use Rattle.seq_model.specs.declared.event.Event.{Event}
 use Rattle.seq_model.specs.declared.event.Event.TheVariants.{Ask, Step, Starve}
 use Rattle.tx_machine.specs.Boosted.{Action}
-use Rattle.replay_log.specs.Contents.{Asked, Answered, content}
+use Rattle.replay_log.specs.Contents.{CollectionCall, CallWithOutcome, content}
 use Rattle.replay_log.specs.Seats.{World, After, Stage, Copying}
 use Rattle.replay_log.specs.WorldCalls.{with_editions}
 use Rattle.actor_laws.specs.Machine.{AlikeBelow, FindsBelow}
@@ -21,18 +21,18 @@ module _ {V : Type 0} where
   abbrev pub SameAfter : ℕ → After V → After V → Type 0
   SameAfter a p q = Alike a p.0 q.0 × (p.1 ≡ q.1)
 
-  abbrev pub FindsBy : ℕ → World V → World V → Option (Action (Asked V)) → Type 0
+  abbrev pub FindsBy : ℕ → World V → World V → Option (Action (CollectionCall V)) → Type 0
   FindsBy a v u None = Unit {0}
   FindsBy a v u (Some action) = FindsBelow (content v.words v.blocks) a v.boosted u.boosted action
 
   -- the editions of what a call reads are the same
-  abbrev pub SameEditions : World V → World V → Asked V → Type 0
+  abbrev pub SameEditions : World V → World V → CollectionCall V → Type 0
   SameEditions v u asked =
-      (o : Answered V) → o.asked ≡ asked → let reads = (content v.words v.blocks).reads o in with_editions v.boosted.editions reads
+      (o : CallWithOutcome V) → o.asked ≡ asked → let reads = (content v.words v.blocks).reads o in with_editions v.boosted.editions reads
       ≡ with_editions u.boosted.editions reads
 
   -- and so is the outcome that it has of the base
-  abbrev pub SameCopy : World V → World V → Asked V → Type 0
+  abbrev pub SameCopy : World V → World V → CollectionCall V → Type 0
   SameCopy v u asked =
       let c = content v.words v.blocks in SameEditions v u asked × (c.outcome v.boosted.parts asked ≡ c.outcome u.boosted.parts asked)
 

@@ -17,11 +17,11 @@ use Rattle.seq_model.specs.declared.event.Request.TheVariants as request
 use Rattle.tx_machine.specs.Boosted.{insert_commit}
 use Rattle.conflict.specs.declared.change.Change.TheVariants as change
 use Rattle.replay_log.specs.Parts.{MapKind}
-use Rattle.replay_log.specs.Contents.{Answered, Block}
+use Rattle.replay_log.specs.Contents.{CallWithOutcome, Block}
 use Rattle.replay_log.specs.Seats.{World}
 use Rattle.replay_log.specs.Worlds.{happens, opened}
-use Rattle.actor_laws.specs.Spots.{Spot, Nowhere, Word, Gate, spot_at, found_gate}
-use Rattle.actor_laws.specs.Tells.{tells}
+use Rattle.actor_laws.specs.StepTargets.{Spot, Nowhere, Word, Gate, spot_at, found_gate}
+use Rattle.actor_laws.specs.StepAnswers.{tells}
 use Rattle.actor_laws.specs.Bases.{log_changes, log_locations}
 
 -- the words and gates of a's steps until it is idle, of so many at most
@@ -102,7 +102,7 @@ two_stripes = record { kind = MapKind; stripes = 2 }
 two_maps : World ℕ
 two_maps = opened (two_stripes ∷ two_stripes ∷ []) 0 [] (Map empty ∷ Map empty ∷ [])
 
-outcomes : List (Answered ℕ)
+outcomes : List (CallWithOutcome ℕ)
 outcomes = ((plays 1 (request.Begin ∷ call (Put 5 2) ∷ call_on 1 (Put 7 1) ∷ call (Get 5) ∷ call
     (Put 6 3) ∷ []) two_maps).0.boosted.shadows 1).outcomes
 

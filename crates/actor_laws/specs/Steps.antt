@@ -6,7 +6,7 @@ use Rattle.tx_machine.specs.Cells.{Cell, cell}
 use Rattle.seq_model.specs.declared.event.Event.{Event}
 use Rattle.seq_model.specs.declared.event.Event.TheVariants as event
 use Rattle.tx_machine.specs.Boosted.{Action, OnWords, TakeGate, PutGate, Accept, GoHome}
-use Rattle.replay_log.specs.Contents.{Asked}
+use Rattle.replay_log.specs.Contents.{CollectionCall}
 use Rattle.replay_log.specs.Guards.{step_action}
 use Rattle.replay_log.specs.Seats.{World, Seat, Stage, Closing, Leaving, Ready, acted, asks, moves}
 use Rattle.replay_log.specs.WorldCommits.{recorded}
@@ -32,7 +32,7 @@ module _ {V : Type 0} where
     pub left : stamps_left (u.boosted.words.actors a).place ≤ stamps_left (v.boosted.words.actors a).place
 
   -- an atomic action of a: a step of the words, or a load or a store of one gate, with its base
-  abbrev pub IsAtomic : ℕ → Action (Asked V) → Type 0
+  abbrev pub IsAtomic : ℕ → Action (CollectionCall V) → Type 0
   IsAtomic a (OnWords (Ask b q)) = ⊥
   IsAtomic a (OnWords (Step b)) = b ≡ a
   IsAtomic a (TakeGate b k) = b ≡ a
@@ -41,7 +41,7 @@ module _ {V : Type 0} where
   IsAtomic a (GoHome b k) = b ≡ a
 
   -- the atomic action that is next at a stage; at Ready the first value store, whose request is made just before
-  abbrev pub atomic_action : ℕ → World V → Stage V → Option (Action (Asked V))
+  abbrev pub atomic_action : ℕ → World V → Stage V → Option (Action (CollectionCall V))
   atomic_action a v (Ready ks) = Some (moves a)
   atomic_action a v stage = step_action v a stage
 
@@ -59,7 +59,7 @@ module _ {V : Type 0} where
   ended_at a x stage w = w
 
   -- u is v after this action of a, whose seat is x, but for what is a's own
-  abbrev pub Does : ℕ → World V → Seat V → Stage V → Option (Action (Asked V)) → World V → Type 0
+  abbrev pub Does : ℕ → World V → Seat V → Stage V → Option (Action (CollectionCall V)) → World V → Type 0
   Does a v x stage None u = OnlyOwn a v u
   Does a v x stage (Some action) u = IsAtomic a action × OnlyOwn a (ended_at a x stage (acted v (action ∷ []))) u
 

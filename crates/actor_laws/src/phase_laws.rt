@@ -1,6 +1,6 @@
 //! The laws of phases. The functions compute nothing: their contracts are the laws.
 ghost use Rattle.actor_laws.specs.Courses.{StepsComeTo};
-ghost use Rattle.actor_laws.specs.Phases.{AsksMove, StepsMove};
+ghost use Rattle.actor_laws.specs.KnownStages.{AsksMove, StepsMove};
 
 use seq_model::Value;
 

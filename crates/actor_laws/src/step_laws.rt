@@ -9,17 +9,17 @@ ghost use Rattle.seq_model.specs.declared.event.Event.{Event};
 ghost use Rattle.seq_model.specs.declared.event.Event.TheVariants.{Step};
 ghost use Rattle.tx_machine.specs.Content.{Content, Frame};
 ghost use Rattle.tx_machine.specs.Boosted.{Boosted, Action, acts, changes, is_actor, is_none, is_stored, is_committing};
-ghost use Rattle.replay_log.specs.Contents.{Answered, Block, HaveStripes, block_of, content, home_of};
+ghost use Rattle.replay_log.specs.Contents.{CallWithOutcome, Block, HaveStripes, block_of, content, home_of};
 ghost use Rattle.replay_log.specs.WorldProgress.{whose};
 ghost use Rattle.replay_log.specs.Seats.{World, Beginning, actor_of};
 ghost use Rattle.replay_log.specs.Worlds.{happens, opened, run};
 ghost use Rattle.actor_laws.specs.Machine.{AlikeBelow, FindsBelow, SameBase};
 ghost use Rattle.actor_laws.specs.Own.{Alike, SameAfter, Finds};
 ghost use Rattle.actor_laws.specs.Steps.{IsOneAction, atomic_action, ready_at};
-ghost use Rattle.actor_laws.specs.Spots.{Word, Gate, spot_at, deed_of, given};
+ghost use Rattle.actor_laws.specs.StepTargets.{Word, Gate, spot_at, deed_of, given};
 ghost use Rattle.actor_laws.specs.Gates.{Tries, Puts, GoesHome, Gated, Homed};
 ghost use Rattle.actor_laws.specs.Clock.{Grows};
-ghost use Rattle.actor_laws.specs.Tells.{tells};
+ghost use Rattle.actor_laws.specs.StepAnswers.{tells};
 ghost use Rattle.actor_laws.specs.Bases.{IsBaseOf, ShowsBase, IsFolded, changes_on, writes_on, log_changes, log_locations};
 ghost use Rattle.replay_log.specs.declared.base.Base.{Base};
 
@@ -109,7 +109,7 @@ pub fn told_by_what_is_found()
 
 /// A step that begins a transaction, of a declared reader or not, takes nothing of the present world but the clock: no word, no gate,
 /// and no base is copied.
-pub fn begins<V>()
+pub fn begin_takes_the_clock<V>()
     ensures { (blocks : List Block) (clock : ℕ) (values : List ℕ) (held : List (Held V)) (events : List (Event V)) (a : ℕ) (u : World V) →
         HaveStripes blocks →
         let v = run (opened blocks clock values held) events in
@@ -148,10 +148,10 @@ pub fn goes_home_as_folded<V>()
         GoesHome t a k → block_of t.blocks k ≡ Some b → IsBaseOf b before → ShowsBase t.words t.blocks t k before →
         IsFolded (log_changes k b outcomes) (log_locations k b outcomes) before now →
         IsBaseOf b now × ShowsBase t.words t.blocks (happens t (Step a)).0 k now }
-    ensures changes { (k : ℕ) (b : Block) (outcomes : List (Answered V)) (outcome : Answered V) →
+    ensures changes { (k : ℕ) (b : Block) (outcomes : List (CallWithOutcome V)) (outcome : CallWithOutcome V) →
         log_changes k b (outcomes ++ outcome ∷ [])
         ≡ log_changes k b outcomes ++ (if outcome.asked.collection == k then changes_on b outcome.outcome else []) }
-    ensures locations { (k : ℕ) (b : Block) (outcomes : List (Answered V)) (outcome : Answered V) →
+    ensures locations { (k : ℕ) (b : Block) (outcomes : List (CallWithOutcome V)) (outcome : CallWithOutcome V) →
         log_locations k b (outcomes ++ outcome ∷ [])
         ≡ log_locations k b outcomes ++ (if outcome.asked.collection == k then writes_on b outcome.outcome else []) }
 {}

@@ -17,7 +17,7 @@ use Rattle.tx_machine.specs.Boosted.{Boosted, Shadow as Part, fresh, opens, word
 use Rattle.tx_machine.proofs.BoostedSchedules.{all-opening, opens_ok}
 use Rattle.replay_log.specs.Base.{Shown}
 use Rattle.replay_log.specs.Collections.{Suit, shown_at, viewed}
-use Rattle.replay_log.specs.Contents.{Answered, Block, HaveStripes, block_of, content, first_of}
+use Rattle.replay_log.specs.Contents.{CallWithOutcome, Block, HaveStripes, block_of, content, first_of}
 use Rattle.replay_log.specs.Worlds.{Beginning, Stage, World, acted, actor_of, moves, opened, run, word_notice}
 use Rattle.replay_log.proofs.CollectionLemmas.{behind, found, kind_viewed}
 use Rattle.replay_log.proofs.ContentLemmas.{content_frame, first_above}
@@ -25,8 +25,8 @@ use Rattle.replay_log.proofs.EventLemmas.{opened_linked, run_linked}
 use Rattle.replay_log.proofs.RequestLemmas.{actions_of, run_by}
 use Rattle.replay_log.proofs.SeatLemmas.{Linked, StageOk}
 use Rattle.actor_laws.specs.Bases.{log_changes, log_locations}
-use Rattle.actor_parts.specs.Copied.{IsReadOf}
-use Rattle.actor_parts.specs.Copies.{ShowParts}
+use Rattle.actor_parts.specs.CopyAtGate.{IsReadOf}
+use Rattle.actor_parts.specs.PrivateCopy.{ShowParts}
 use Rattle.actor_parts.specs.Owns.{IsOwn, IsUncalled}
 
 begins_below : (clock rv : ℕ) (b : Bool) → cond b (notice.Begun clock) (notice.Exhausted clock) ≡ notice.Begun rv → b ≡ true
@@ -41,7 +41,7 @@ module _ {V : Type 0} (blocks : List Block) (clock : ℕ) (values : List ℕ) (h
   abbrev w : World V
   w = run (opened blocks clock values held) events
 
-  abbrev s : Boosted (Shown V) (Answered V)
+  abbrev s : Boosted (Shown V) (CallWithOutcome V)
   s = w.boosted
 
   abbrev u : World V
@@ -53,7 +53,7 @@ module _ {V : Type 0} (blocks : List Block) (clock : ℕ) (values : List ℕ) (h
       let c = content {V = V} n blocks in
       let f = content_frame {V = V} n blocks stripes in
       let m : ℕ → ℕ = λ l. get_or values l 0 in
-      ap (λ (z : Boosted (Shown V) (Answered V)). z.opening) ac.1
+      ap (λ (z : Boosted (Shown V) (CallWithOutcome V)). z.opening) ac.1
       ∙ (all-opening c f ac.0 (opens clock m (shown_at n blocks held)) (opens_ok c f clock m (shown_at n blocks held))).0
 
   blocks_are : w.blocks ≡ blocks
@@ -80,7 +80,7 @@ module _ {V : Type 0} (blocks : List Block) (clock : ℕ) (values : List ℕ) (h
     shadow_is : u.boosted.shadows a ≡ fresh s
     shadow_is =
         ap (λ p. (word_step s a (actor_of w a) p).shadows a) place_is
-        ∙ ap (λ (f : ℕ → Part (Shown V) (Answered V)). f a)
+        ∙ ap (λ (f : ℕ → Part (Shown V) (CallWithOutcome V)). f a)
         (cond-true (nat_lt s.words.clock clock_limit) (words.put s.shadows a (fresh s)) s.shadows below)
         ∙ put-same s.shadows a (fresh s)
 
@@ -102,7 +102,7 @@ module _ {V : Type 0} (blocks : List Block) (clock : ℕ) (values : List ℕ) (h
             (
               kind_viewed f.held b.kind f.kind,
               λ i lt.
-                  ap (λ (z : Part (Shown V) (Answered V)). z.parts (at + i)) shadow_is
+                  ap (λ (z : Part (Shown V) (CallWithOutcome V)). z.parts (at + i)) shadow_is
                   ∙ ap (λ (g : ℕ → Shown V). g (at + i)) opening_is
                   ∙ ap (λ l. shown_at n blocks held (l + i)) (first_is k)
                   ∙ behind n blocks held (first_of n blocks k + i) (let z = first_above n blocks k in omega (arith, z))
@@ -113,8 +113,8 @@ module _ {V : Type 0} (blocks : List Block) (clock : ℕ) (values : List ℕ) (h
       uncalled : IsUncalled b (first_of w.words w.blocks k) k (u.boosted.shadows a)
       uncalled = (
         shown,
-        ap (λ (z : Part (Shown V) (Answered V)). log_changes k b z.outcomes) shadow_is,
-        ap (λ (z : Part (Shown V) (Answered V)). log_locations k b z.outcomes) shadow_is,
+        ap (λ (z : Part (Shown V) (CallWithOutcome V)). log_changes k b z.outcomes) shadow_is,
+        ap (λ (z : Part (Shown V) (CallWithOutcome V)). log_locations k b z.outcomes) shadow_is,
       )
 
       unread : (i : ℕ) → first_read (actor_of u a).calls (first_of w.words w.blocks k + i) ≡ None

@@ -10,11 +10,12 @@ use Rattle.tx_machine.proofs.Quiet.{lookup-none, none_if}
 use Rattle.tx_machine.proofs.Invariant.{HasBegun, IsKept}
 use Rattle.seq_model.specs.declared.held.Held.{Held}
 use Rattle.seq_model.specs.declared.event.Event.{Event}
+use Rattle.seq_model.proofs.LogicLemmas.{some-none}
 use Rattle.conflict.specs.declared.outcome.Outcome.{Outcome}
 use Rattle.tx_machine.specs.Content.{IsIn}
 use Rattle.tx_machine.specs.Boosted.{Accept, changes, is_edition, is_open, is_sound}
 use Rattle.replay_log.specs.Base.{Shown}
-use Rattle.replay_log.specs.Contents.{Asked, Block, HaveStripes, answer, blank, block_of, content, first_of, is_plain, seen, shifted}
+use Rattle.replay_log.specs.Contents.{CollectionCall, Block, HaveStripes, answer, blank, block_of, content, first_of, is_plain, seen, shifted}
 use Rattle.replay_log.specs.Contents.{writes_in}
 use Rattle.replay_log.specs.Guards.{Allows}
 use Rattle.replay_log.specs.Worlds.{World, Stage, Open, actor_of, is_change, opened, outcome_at, run, with_editions}
@@ -28,9 +29,6 @@ use Rattle.actor_parts.specs.declared.judged.Judged.TheVariants.{All, Next, Stal
 use Rattle.actor_parts.specs.Judged.{judged, judged_one}
 use Rattle.actor_parts.specs.Owns.{IsHeldAsk, MayCall, read_at}
 use Rattle.actor_parts.proofs.OutcomeLemmas.{outcome_op, writes_nothing}
-
-pub no_none : (v : ℕ) → Some v ≡ None → ⊥
-no_none v e = cc
 
 -- ---- what is judged
 next_all : (l : ℕ) → Next l ≡ All → ⊥
@@ -90,14 +88,14 @@ not_read reads (d ∷ es) l e =
     ]
 
 module _ {V : Type 0} where
-  writes_none : (b : Option Block) (f : ℕ) (v : ℕ → Shown V) (asked : Asked V) (r : Outcome V) → answer b f v asked.op ≡ Some r
+  writes_none : (b : Option Block) (f : ℕ) (v : ℕ → Shown V) (asked : CollectionCall V) (r : Outcome V) → answer b f v asked.op ≡ Some r
       → is_change asked.op ≡ false → writes_in b f (Some r) ≡ []
   writes_none None f v asked r e h = refl
   writes_none (Some b) f v asked r e h =
       ap (shifted f) (writes_nothing b.stripes r (blank b) (ap is_change (outcome_op (seen b f v) asked.op r e) ∙ h))
 
   module _ (w : World V) (a : ℕ) (k : Linked w) (place : (actor_of w a).place ≡ machine.Open)
-      (live : Live w.words w.blocks (w.seats a) (actor_of w a) (w.boosted.shadows a)) (asked : Asked V) where
+      (live : Live w.words w.blocks (w.seats a) (actor_of w a) (w.boosted.shadows a)) (asked : CollectionCall V) where
     accepts : IsHeldAsk w a asked → judged (actor_of w a).reads (read_at w a asked) ≡ All
         → Allows (content w.words w.blocks) w.boosted (Accept a asked)
     accepts held all =
@@ -139,7 +137,7 @@ module _ {V : Type 0} where
             let y = actor_of w a in
             let wrote = (k.base.inv.shadows a).wrote l v plain h in
             let read = (k.base.inv.shadows a).sets l wrote.1 in
-            no_none ((w.boosted.shadows a).editions l)
+            some-none ((w.boosted.shadows a).editions l)
             (sym read.1 ∙ (sym (live.kept l plain ∙ ap (λ b. in_set b (first_read y.calls l)) is) ∙ none))
 
     next_unwritten : (l : ℕ) → IsHeldAsk w a asked → judged (actor_of w a).reads (read_at w a asked) ≡ Next l

@@ -16,7 +16,7 @@ use Rattle.seq_model.specs.declared.call.Reply.{Reply}
 use Rattle.tx_machine.specs.Boosted.{Accept, Boosted, every, is_open, is_sound, may_write}
 use Rattle.tx_machine.specs.Content.{IsIn}
 use Rattle.replay_log.specs.Base.{Shown}
-use Rattle.replay_log.specs.Contents.{Answered, Block, content, is_plain}
+use Rattle.replay_log.specs.Contents.{CallWithOutcome, Block, content, is_plain}
 use Rattle.replay_log.specs.Guards.{Allows}
 use Rattle.replay_log.specs.Worlds.{World, Seat, Loading, acted, actor_of, at_stage, call_of, outcome_at, reply_of, with_call}
 use Rattle.replay_log.specs.Worlds.{with_editions}
@@ -24,7 +24,7 @@ use Rattle.replay_log.proofs.MixedLemmas.{Told, is_on_word, is_word_op, on_held}
 use Rattle.replay_log.proofs.SeatLemmas.{AtReading, Copy, IsLeft, Kept, Linked, StageOk}
 use Rattle.actor_parts.specs.declared.judged.Judged.TheVariants.{All, Next}
 use Rattle.actor_parts.specs.Judged.{comes_to, judged, left_after, left_one}
-use Rattle.actor_parts.specs.Loading.{AreRead, IsDoomed}
+use Rattle.actor_parts.specs.LoadInWorld.{AreRead, IsDoomed}
 use Rattle.actor_parts.proofs.CallingLemmas.{one_all}
 use Rattle.replay_log.proofs.CallLemmas.{in_set_some}
 
@@ -103,7 +103,7 @@ left_in editions (i ∷ ls) l m = elim m [ inl e ↦ inl e | inr rest ↦ inr (l
 
 module _ {V : Type 0} where
   -- one call more than outcomes
-  told_longer : (cs : List (model.Call V × Reply V)) (c : model.Call V × Reply V) (os : List (Answered V)) → Told cs os
+  told_longer : (cs : List (model.Call V × Reply V)) (c : model.Call V × Reply V) (os : List (CallWithOutcome V)) → Told cs os
       → Told (cs ++ c ∷ []) os → ⊥
   told_longer [] c [] h more = more
   told_longer [] c (o ∷ os) h more = h
@@ -111,12 +111,12 @@ module _ {V : Type 0} where
   told_longer (d ∷ cs) c (o ∷ os) h more = told_longer cs c os h.2 more.2
 
   -- a stage that loads is not that of an idle word actor
-  not_open : (n : World V) (v : Seat V) (q : Actor) (z : Copy V) (o : Answered V) (left : Entries)
+  not_open : (n : World V) (v : Seat V) (q : Actor) (z : Copy V) (o : CallWithOutcome V) (left : Entries)
       → StageOk n.words n.blocks v q z (Loading o left) q.place → q.place ≡ machine.Open → ⊥
   not_open n v q z o [] h e = h
   not_open n v q z o (f ∷ fs) h e = subst (AtReading f.0) e h.0
 
-  module _ (u : World V) (a : ℕ) (x : Seat V) (o : Answered V) (left : Entries) where
+  module _ (u : World V) (a : ℕ) (x : Seat V) (o : CallWithOutcome V) (left : Entries) where
     -- ---- the acceptance
     module _ (k : Linked (comes_to u a x o left All).0) (kind : is_word_op o.asked.op ≡ false)
         (held : Told (on_held x.calls) (u.boosted.shadows a).outcomes) where
@@ -142,7 +142,7 @@ module _ {V : Type 0} where
           told_longer (on_held x.calls) c (u.boosted.shadows a).outcomes held
           (subst (λ (cs : List (model.Call V × Reply V)). Told cs (u.boosted.shadows a).outcomes) more
           (subst (λ (q : Copy V). Told (on_held told_one.calls) q.outcomes)
-          (ap (λ (s : Boosted (Shown V) (Answered V)). s.shadows a) none) told_there))
+          (ap (λ (s : Boosted (Shown V) (CallWithOutcome V)). s.shadows a) none) told_there))
 
       pub allowed : Allows (content u.words u.blocks) u.boosted (Accept a o.asked)
       allowed = by guard refl

@@ -3,13 +3,14 @@
 use Rattle.std.proofs.Common.{◌≡◌, ◌⊎◌, ℕ, ◌+◌, Bool, true, false, eq-eqb, List, [], ◌∷◌, Option, Some, None, inl, inr, refl, sym, ap}
 use Rattle.std.proofs.Common.{subst, ◌∙◌, eqb, ne_eqb}
 use Rattle.std.proofs.lemmas.Bool.{cases_eq, cond-true, cond-false}
+use Rattle.std.proofs.lemmas.Option.{none-some, same_Some}
 use Rattle.tx_sets.specs.Entries.{Entries, lookup}
 use Rattle.tx_machine.specs.Actor.{Call}
 use Rattle.tx_machine.specs.Opacity.{first_read}
 use Rattle.tx_machine.specs.Content.{IsIn}
 use Rattle.replay_log.specs.Contents.{shifted}
 use Rattle.replay_log.specs.Worlds.{differs, is_stale, with_editions}
-use Rattle.actor_parts.specs.Loading.{IsDoomed}
+use Rattle.actor_parts.specs.LoadInWorld.{IsDoomed}
 
 -- each of these locations was read with this edition where it was read, or one was read with another
 pub judged_by : (read : ℕ → Option ℕ) (cs : List Call) (editions : ℕ → ℕ) (f : ℕ) (ls : List ℕ) → ((l : ℕ) → read l ≡ first_read cs l)
@@ -24,21 +25,15 @@ judged_by read cs editions f (l ∷ ls) is = by (read (f + l)) refl (judged_by r
         → (i e : ℕ) → IsIn i (l ∷ ls) → read (f + i) ≡ Some e → e ≡ editions (f + i)
     more one rest i e m r = elim m [ inl same ↦ here i e same r one | inr there ↦ rest i e there r ]
 
-    no_some : (v : ℕ) → None ≡ Some v → ⊥
-    no_some v e = cc
-
-    some_same : (u v : ℕ) → Some u ≡ Some v → u ≡ v
-    some_same u v e = cc
-
     by : (o : Option ℕ) → read (f + l) ≡ o
         → ((i e : ℕ) → IsIn i ls → read (f + i) ≡ Some e → e ≡ editions (f + i)) ⊎ IsDoomed cs (with_editions editions (shifted f ls))
         → ((i e : ℕ) → IsIn i (l ∷ ls) → read (f + i) ≡ Some e → e ≡ editions (f + i))
         ⊎ IsDoomed cs (with_editions editions (shifted f (l ∷ ls)))
     by o e (inr doomed) = inr (inr doomed)
-    by None e (inl rest) = inl (more (λ v r. absurd (no_some v (sym e ∙ r))) rest)
+    by None e (inl rest) = inl (more (λ v r. absurd (none-some v (sym e ∙ r))) rest)
     by (Some v) e (inl rest) =
         elim (cases_eq v (editions (f + l))) [
-          | inl same ↦ inl (more (λ u r. some_same u v (sym r ∙ e) ∙ same) rest)
+          | inl same ↦ inl (more (λ u r. same_Some u v (sym r ∙ e) ∙ same) rest)
           | inr ne ↦ inr (inl (v, sym (is (f + l)) ∙ e, ne))
         ]
 

@@ -6,7 +6,7 @@ use Rattle.tx_machine.specs.Actor.{Actor}
 use Rattle.tx_machine.specs.Opacity.{first_read}
 use Rattle.seq_model.specs.declared.event.Event.{Event}
 use Rattle.seq_model.specs.declared.event.Event.TheVariants.{Ask, Step, Starve}
-use Rattle.replay_log.specs.Contents.{Answered, Asked, first_of, home_of}
+use Rattle.replay_log.specs.Contents.{CallWithOutcome, CollectionCall, first_of, home_of}
 use Rattle.replay_log.specs.WorldProgress.{whose}
 use Rattle.replay_log.specs.Worlds.{World, Stage, After, Idle, Beginning, Open, Locking, Releasing, Closing, Cancelling, Leaving, Reading}
 use Rattle.replay_log.specs.Worlds.{Trying, Copying, Loading, Gating, Ready, Storing, Homing, Returning, acted, actor_of, happens, moves}
@@ -17,14 +17,14 @@ use Rattle.replay_log.proofs.RequestLemmas.{run_by}
 use Rattle.replay_log.proofs.SeatLemmas.{Linked}
 use Rattle.actor_laws.proofs.Others.{others}
 use Rattle.actor_parts.specs.Shows.{put_back}
-use Rattle.actor_parts.specs.declared.copies.Copied.{Copied}
-use Rattle.actor_parts.specs.Copied.{IsReadOf}
-use Rattle.actor_parts.specs.Staying.{EventStays, EventsStay, ReadsStay, StaysAsked, StaysOrJoins, Stays, StepStays, call_in}
-use Rattle.actor_parts.proofs.HomedLemmas.{HomedAt, IsHomed, homed_reached}
+use Rattle.actor_parts.specs.declared.copies.PrivateCopy.{PrivateCopy}
+use Rattle.actor_parts.specs.CopyAtGate.{IsReadOf}
+use Rattle.actor_parts.specs.CopiesAfterEvent.{EventStays, EventsStay, ReadsStay, StaysAsked, StaysOrJoins, Stays, StepStays, call_in}
+use Rattle.actor_parts.proofs.LeftToReadLemmas.{HomedAt, IsHomed, homed_reached}
 use Rattle.actor_parts.proofs.ReadLemmas.{reads_more}
-use Rattle.actor_parts.proofs.StayingLemmas.{AskedBy, Either, SameIn, asked_by, starved}
-use Rattle.actor_parts.proofs.SteppedLemmas.{LoadBy, StepBy, step_by}
-use Rattle.actor_parts.proofs.StillLemmas.{SameReads}
+use Rattle.actor_parts.proofs.ShadowAfterEventLemmas.{AskedBy, Either, SameIn, asked_by, starved}
+use Rattle.actor_parts.proofs.ShadowAfterStepLemmas.{LoadBy, StepBy, step_by}
+use Rattle.actor_parts.proofs.ShadowAfterActionLemmas.{SameReads}
 
 module _ {V : Type 0} where
   -- ---- what the others have
@@ -58,16 +58,16 @@ module _ {V : Type 0} where
     stays_of : SameIn w.words a w f.0 → Stays w f.0 a
     stays_of h = (reads_of w refl refl h.0, h.1)
 
-    either_of : (u : World V) (o : Answered V) → u.words ≡ w.words → u.blocks ≡ w.blocks → Either w.words a u o f → StaysOrJoins u a o f
+    either_of : (u : World V) (o : CallWithOutcome V) → u.words ≡ w.words → u.blocks ≡ w.blocks → Either w.words a u o f → StaysOrJoins u a o f
     either_of u o eu ebs (inl h) = inl ((reads_of u eu ebs h.0.0, h.0.1), h.1)
     either_of u o eu ebs (inr h) = inr ((reads_of u eu ebs h.0.0, h.0.1), h.1)
 
-    asked_of : (o : Option (Asked V)) → AskedBy w.words a w o f → StaysAsked w a o f
+    asked_of : (o : Option (CollectionCall V)) → AskedBy w.words a w o f → StaysAsked w a o f
     asked_of None h = stays_of h
     asked_of (Some asked) h = either_of w (outcome_at w a asked) refl refl h
 
     -- what a load leaves of another collection
-    other_unread : (o : Answered V) (l k : ℕ) (c : Option (Copied V)) → LoadBy w a o l f → home_of w.words w.blocks l ≡ o.asked.collection
+    other_unread : (o : CallWithOutcome V) (l k : ℕ) (c : Option (PrivateCopy V)) → LoadBy w a o l f → home_of w.words w.blocks l ≡ o.asked.collection
         → k ≢ o.asked.collection → IsReadOf w a k c → IsReadOf (acted w (moves a ∷ [])) a k c
     other_unread o l k (Some c) h home other is = reads_more w (acted w (moves a ∷ [])) a k c refl refl h.reads.0 is
     other_unread o l k None h home other is =

@@ -2,12 +2,12 @@
 -- was touched; a whole copy without a change shows what was copied.
 use Rattle.std.proofs.Common.{◌≡◌, ℕ, [], Some, None, sym, ap, ◌∙◌}
 use Rattle.std.specs.FinMap.{empty}
+use Rattle.std.proofs.lemmas.Option.{none-some, same_Some}
 use Rattle.seq_model.specs.declared.call.Op.{Op}
 use Rattle.seq_model.specs.declared.call.Op.TheVariants.{Get, Put, Remove, Len, Count, Add, Take}
-use Rattle.conflict.specs.Places.{none_some, some_same}
-use Rattle.conflict.specs.Table.{Room}
+use Rattle.conflict.specs.RoomMap.{Room}
 use Rattle.replay_log.specs.declared.base.Base.{Base}
-use Rattle.replay_log.specs.declared.touch.Touched.{Touched}
+use Rattle.replay_log.specs.declared.touch.TouchedKey.{TouchedKey}
 use Rattle.replay_log.specs.Base.{Shown, OfMap, OfBag, OfPq, OfQueue, after, shown_of, stripes_of}
 use Rattle.replay_log.specs.Contents.{Block}
 use Rattle.replay_log.specs.Parts.{MapKind, BagKind, PqKind, QueueKind, kind_of}
@@ -16,12 +16,12 @@ use Rattle.shadow.specs.Memo.{IsCopyBy, MemoView, shape}
 use Rattle.shadow.specs.declared.memo.MemoKind.{MemoKind}
 use Rattle.shadow.specs.declared.memo.MemoKind.TheVariants as kind
 use Rattle.shadow.proofs.CopyLemmas.{new_copy_bag, new_copy_map}
-use Rattle.actor_parts.specs.declared.copies.Copied.TheVariants.{Keys, Whole}
-use Rattle.actor_parts.specs.declared.copies.Found.TheVariants as found
-use Rattle.actor_parts.specs.Copies.{IsOf}
+use Rattle.actor_parts.specs.declared.copies.PrivateCopy.TheVariants.{Keys, Whole}
+use Rattle.actor_parts.specs.declared.copies.BaseExcerpt.TheVariants as found
+use Rattle.actor_parts.specs.PrivateCopy.{IsOf}
 use Rattle.actor_parts.specs.First.{FirstCopies, IsBlank, memo_kind}
-use Rattle.actor_parts.proofs.CopiesLemmas.{follows_learnt, same_copy}
-use Rattle.actor_parts.proofs.CopyingLemmas.{after_none}
+use Rattle.actor_parts.proofs.PrivateCopyLemmas.{follows_learnt, same_copy}
+use Rattle.actor_parts.proofs.CopyByPartsLemmas.{after_none}
 
 module _ {V : Type 0} where
   blank_copy : (k : MemoKind) (s : Shown V) → kind_of {V = V} (shape k) ≡ kind_of s → IsCopyBy (shape k) empty empty None 0 0 [] s
@@ -34,25 +34,25 @@ module _ {V : Type 0} where
   blank_copy kind.Bag (OfPq m) e = absurd (let z : BagKind ≡ PqKind = e in let y : ⊥ = cc in y)
   blank_copy kind.Bag (OfQueue m) e = absurd (let z : BagKind ≡ QueueKind = e in let y : ⊥ = cc in y)
 
-  same_kind : (h i : Touched V) → h ≡ i → kind_of {V = V} (shape (memo_kind i)) ≡ kind_of {V = V} (shape (memo_kind h))
-  same_kind h i e = ap (λ (z : Touched V). kind_of {V = V} (shape (memo_kind z))) (sym e)
+  same_kind : (h i : TouchedKey V) → h ≡ i → kind_of {V = V} (shape (memo_kind i)) ≡ kind_of {V = V} (shape (memo_kind h))
+  same_kind h i e = ap (λ (z : TouchedKey V). kind_of {V = V} (shape (memo_kind z))) (sym e)
 
   -- what is touched is of the collection's kind
-  pub kind_touched : (n : ℕ) (op : Op V) (s : Shown V) (h : Touched V) → summed_by n op s ≡ Some h
+  pub kind_touched : (n : ℕ) (op : Op V) (s : Shown V) (h : TouchedKey V) → summed_by n op s ≡ Some h
       → kind_of {V = V} (shape (memo_kind h)) ≡ kind_of s
-  kind_touched n (Get k) (OfMap m) h e = same_kind _ h (some_same _ h e)
-  kind_touched n (Put k v) (OfMap m) h e = same_kind _ h (some_same _ h e)
-  kind_touched n (Remove k) (OfMap m) h e = same_kind _ h (some_same _ h e)
-  kind_touched n Len (OfMap m) h e = same_kind _ h (some_same _ h e)
-  kind_touched n (Count x) (OfBag m) h e = same_kind _ h (some_same _ h e)
-  kind_touched n (Add x) (OfBag m) h e = same_kind _ h (some_same _ h e)
-  kind_touched n (Take x) (OfBag m) h e = same_kind _ h (some_same _ h e)
-  kind_touched n op (OfMap y) h e = absurd (none_some h e)
-  kind_touched n op (OfBag y) h e = absurd (none_some h e)
-  kind_touched n (Get q) (OfPq y) h e = absurd (none_some h e)
-  kind_touched n op (OfPq y) h e = absurd (none_some h e)
-  kind_touched n (Get q) (OfQueue y) h e = absurd (none_some h e)
-  kind_touched n op (OfQueue y) h e = absurd (none_some h e)
+  kind_touched n (Get k) (OfMap m) h e = same_kind _ h (same_Some _ h e)
+  kind_touched n (Put k v) (OfMap m) h e = same_kind _ h (same_Some _ h e)
+  kind_touched n (Remove k) (OfMap m) h e = same_kind _ h (same_Some _ h e)
+  kind_touched n Len (OfMap m) h e = same_kind _ h (same_Some _ h e)
+  kind_touched n (Count x) (OfBag m) h e = same_kind _ h (same_Some _ h e)
+  kind_touched n (Add x) (OfBag m) h e = same_kind _ h (same_Some _ h e)
+  kind_touched n (Take x) (OfBag m) h e = same_kind _ h (same_Some _ h e)
+  kind_touched n op (OfMap y) h e = absurd (none-some h e)
+  kind_touched n op (OfBag y) h e = absurd (none-some h e)
+  kind_touched n (Get q) (OfPq y) h e = absurd (none-some h e)
+  kind_touched n op (OfPq y) h e = absurd (none-some h e)
+  kind_touched n (Get q) (OfQueue y) h e = absurd (none-some h e)
+  kind_touched n op (OfQueue y) h e = absurd (none-some h e)
 
   pub blank_of : (b : Block) (s : Shown V) (k : MemoKind) (m : MemoView V) (es : Room ℕ) → IsBlank b.stripes k m
       → kind_of {V = V} (shape k) ≡ kind_of s → kind_of s ≡ b.kind → IsOf b s [] [] (Keys m es)

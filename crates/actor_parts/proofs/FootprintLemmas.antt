@@ -12,8 +12,8 @@ use Rattle.replay_log.specs.Parts.{Kind, MapKind, BagKind, PqKind, QueueKind, ki
 use Rattle.replay_log.specs.Contents.{Block, blank, size}
 use Rattle.replay_log.proofs.ContentLemmas.{read_at, shifted_in, written_at}
 use Rattle.actor_laws.proofs.Bases.{writes_by}
-use Rattle.actor_parts.specs.declared.copies.Copied.{Copied}
-use Rattle.actor_parts.specs.Footprints.{base_in, places_in, reads_in, writes_in}
+use Rattle.actor_parts.specs.declared.copies.PrivateCopy.{PrivateCopy}
+use Rattle.actor_parts.specs.Footprints.{base_in, location_count, reads_in, writes_in}
 use Rattle.actor_parts.specs.Sizes.{LieIn, base_reads, base_writes}
 
 -- each element of a list has what all of them have
@@ -82,10 +82,10 @@ module _ {V : Type 0} where
       subst (λ (m : ℕ). i < m) (sized n s)
       (writes_within b o pos i (subst (λ (ls : List ℕ). Contains ls i) (sym (writes_by (kind_of s) n o s refl)) h)))
 
-  pub reads_below : (c : Copied V) (o : Outcome V) → 0 < stripes_of (base_in c) → All (λ l. l < places_in c) (reads_in c o)
+  pub reads_below : (c : PrivateCopy V) (o : Outcome V) → 0 < stripes_of (base_in c) → All (λ l. l < location_count c) (reads_in c o)
   reads_below c o pos = base_reads_below (base_in c) o pos
 
-  pub writes_below : (c : Copied V) (o : Outcome V) → 0 < stripes_of (base_in c) → All (λ l. l < places_in c) (writes_in c o)
+  pub writes_below : (c : PrivateCopy V) (o : Outcome V) → 0 < stripes_of (base_in c) → All (λ l. l < location_count c) (writes_in c o)
   writes_below c o pos = base_writes_below (base_in c) o pos
 
   -- they are numbers of locations, where the collection begins at f
@@ -95,6 +95,6 @@ module _ {V : Type 0} where
       let here : slice_index_or ls k d < locations_of (stripes_of base) (shown_of base) = all k d lt in
       omega (arith, here, le)
 
-  pub in_range : (c : Copied V) (f : ℕ) (ls : List ℕ) → f + places_in c ≤ 2 ^ 32 → All (λ l. l < places_in c) ls
+  pub in_range : (c : PrivateCopy V) (f : ℕ) (ls : List ℕ) → f + location_count c ≤ 2 ^ 32 → All (λ l. l < location_count c) ls
       → All (λ l. f + l < 2 ^ 32) ls
   in_range c f ls le all = base_range (base_in c) f ls le all

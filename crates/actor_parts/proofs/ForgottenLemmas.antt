@@ -6,11 +6,12 @@ use Rattle.std.proofs.lemmas.Bool.{cond-false}
 use Rattle.std.specs.Cmp.{nat_cmp_total}
 use Rattle.std.specs.Ordering.{nat_cmp, eq_by_cmp}
 use Rattle.std.specs.FinMap.{FinMap, get, get-insert, get-remove, insert, remove}
+use Rattle.std.proofs.lemmas.Option.{none-some, same_Some}
 use Rattle.seq_model.specs.declared.call.Op.{Op}
 use Rattle.seq_model.specs.declared.call.Op.TheVariants.{Get, Put, Remove, Len, Count, Add, Take}
 use Rattle.seq_model.specs.Counts.{Multiset}
-use Rattle.conflict.specs.Places.{none_some, same_key, some_same}
-use Rattle.replay_log.specs.declared.touch.Touched.{Touched}
+use Rattle.conflict.specs.Places.{same_key}
+use Rattle.replay_log.specs.declared.touch.TouchedKey.{TouchedKey}
 use Rattle.replay_log.specs.Base.{Shown, OfMap, OfBag, OfPq, OfQueue, shown_of}
 use Rattle.replay_log.specs.Parts.{MapKind, BagKind, kind_of}
 use Rattle.replay_log.specs.Pieces as pieces
@@ -18,10 +19,10 @@ use Rattle.replay_log.specs.Pieces.{Piece}
 use Rattle.replay_log.specs.Touches.{summed_by}
 use Rattle.shadow.specs.Memo.{MemoView, copies_without, entries_without, has_key, holds_with, total_without, with_count, with_entry}
 use Rattle.shadow.specs.Memo.{with_key, with_total}
-use Rattle.actor_parts.specs.declared.copies.Copied.TheVariants.{Keys, Whole}
-use Rattle.actor_parts.specs.Copied.{ForgetsPieces}
-use Rattle.actor_parts.specs.Copies.{memo_piece}
-use Rattle.actor_parts.proofs.TakenLemmas.{at_bag, at_map}
+use Rattle.actor_parts.specs.declared.copies.PrivateCopy.TheVariants.{Keys, Whole}
+use Rattle.actor_parts.specs.CopyAtGate.{ForgetsPieces}
+use Rattle.actor_parts.specs.PrivateCopy.{memo_piece}
+use Rattle.actor_parts.proofs.AfterGateLemmas.{at_bag, at_map}
 
 -- a key that was not held
 back_again : {A : Type 0} (known : FinMap nat_cmp A) (k j : ℕ) (a : A) → has_key known k ≡ false
@@ -46,21 +47,21 @@ module _ {V : Type 0} where
   piece_by s es cs total p = false
 
   module _ (n : ℕ) (es : FinMap nat_cmp (Option V)) (cs : FinMap nat_cmp ℕ) (total : Option ℕ) where
-    abbrev Forgets : Op V → Piece → Touched V → Shown V → Type 0
+    abbrev Forgets : Op V → Piece → TouchedKey V → Shown V → Type 0
     Forgets op q h z =
         holds_with z es cs total op ≡ false
         → piece_by z (entries_without op (with_entry h es)) (copies_without op (with_count h cs)) (total_without op (with_total h total)) q
         ≡ piece_by z es cs total q
 
-    map_forgets : (op : Op V) (q : Piece) (g h : Touched V) → Some g ≡ Some h → ((m : FinMap nat_cmp V) → Forgets op q g (OfMap m))
+    map_forgets : (op : Op V) (q : Piece) (g h : TouchedKey V) → Some g ≡ Some h → ((m : FinMap nat_cmp V) → Forgets op q g (OfMap m))
         → (z : Shown V) → kind_of z ≡ MapKind → Forgets op q h z
     map_forgets op q g h e each z kind =
-        at_map (Forgets op q h) (λ m. subst (λ t. Forgets op q t (OfMap m)) (some_same g h e) (each m)) z kind
+        at_map (Forgets op q h) (λ m. subst (λ t. Forgets op q t (OfMap m)) (same_Some g h e) (each m)) z kind
 
-    bag_forgets : (op : Op V) (q : Piece) (g h : Touched V) → Some g ≡ Some h → ((m : Multiset) → Forgets op q g (OfBag m))
+    bag_forgets : (op : Op V) (q : Piece) (g h : TouchedKey V) → Some g ≡ Some h → ((m : Multiset) → Forgets op q g (OfBag m))
         → (z : Shown V) → kind_of z ≡ BagKind → Forgets op q h z
     bag_forgets op q g h e each z kind =
-        at_bag (Forgets op q h) (λ m. subst (λ t. Forgets op q t (OfBag m)) (some_same g h e) (each m)) z kind
+        at_bag (Forgets op q h) (λ m. subst (λ t. Forgets op q t (OfBag m)) (same_Some g h e) (each m)) z kind
 
     entry_forgets : (k : ℕ) (v : Option V) (q : Piece) (m : FinMap nat_cmp V) → has_key es k ≡ false
         → piece_by (OfMap m) (remove (with_key es k v) k) cs total q ≡ piece_by (OfMap m) es cs total q
@@ -80,7 +81,7 @@ module _ {V : Type 0} where
     len_forgets pieces.Counts m none = sym none
     len_forgets pieces.Whole m none = refl
 
-    forgets : (op : Op V) (s : Shown V) (h : Touched V) (q : Piece) → summed_by n op s ≡ Some h → (z : Shown V) → kind_of z ≡ kind_of s
+    forgets : (op : Op V) (s : Shown V) (h : TouchedKey V) (q : Piece) → summed_by n op s ≡ Some h → (z : Shown V) → kind_of z ≡ kind_of s
         → Forgets op q h z
     forgets (Get k) (OfMap m) h q e z kind = map_forgets (Get k) q _ h e (λ l none. entry_forgets k _ q l none) z kind
     forgets (Put k v) (OfMap m) h q e z kind = map_forgets (Put k v) q _ h e (λ l none. entry_forgets k _ q l none) z kind
@@ -89,12 +90,12 @@ module _ {V : Type 0} where
     forgets (Count i) (OfBag m) h q e z kind = bag_forgets (Count i) q _ h e (λ l none. count_forgets i _ q l none) z kind
     forgets (Add i) (OfBag m) h q e z kind = bag_forgets (Add i) q _ h e (λ l none. count_forgets i _ q l none) z kind
     forgets (Take i) (OfBag m) h q e z kind = bag_forgets (Take i) q _ h e (λ l none. count_forgets i _ q l none) z kind
-    forgets op (OfMap y) h q e z kind = absurd (none_some h e)
-    forgets op (OfBag y) h q e z kind = absurd (none_some h e)
-    forgets (Get i) (OfPq y) h q e z kind = absurd (none_some h e)
-    forgets op (OfPq y) h q e z kind = absurd (none_some h e)
-    forgets (Get i) (OfQueue y) h q e z kind = absurd (none_some h e)
-    forgets op (OfQueue y) h q e z kind = absurd (none_some h e)
+    forgets op (OfMap y) h q e z kind = absurd (none-some h e)
+    forgets op (OfBag y) h q e z kind = absurd (none-some h e)
+    forgets (Get i) (OfPq y) h q e z kind = absurd (none-some h e)
+    forgets op (OfPq y) h q e z kind = absurd (none-some h e)
+    forgets (Get i) (OfQueue y) h q e z kind = absurd (none-some h e)
+    forgets op (OfQueue y) h q e z kind = absurd (none-some h e)
 
   -- the pieces of a memo are those that it has by its keys
   pub as_piece : (z : Shown V) (m : MemoView V) (q : Piece) → memo_piece z m q ≡ piece_by z m.entries m.copies m.total q

@@ -12,7 +12,7 @@ use Rattle.seq_model.specs.declared.event.Notice.TheVariants.{Refused}
 use Rattle.seq_model.specs.declared.refusal.Refusal.TheVariants as refusal
 use Rattle.tx_machine.specs.Boosted.{Boosted, PutGate, changes, copied, gated, is_actor, is_committing, is_open}
 use Rattle.replay_log.specs.Base.{Shown}
-use Rattle.replay_log.specs.Contents.{Answered, Asked, block_of, content, first_of, is_plain}
+use Rattle.replay_log.specs.Contents.{CallWithOutcome, CollectionCall, block_of, content, first_of, is_plain}
 use Rattle.replay_log.specs.Pieces.{piece_at}
 use Rattle.replay_log.specs.Worlds.{World, Seat, Stage, Open, Copying, After, acted, actor_of, at_stage, differs, has_room, is_stale}
 use Rattle.replay_log.specs.Worlds.{opened, outcome_at, outcome_now, run, seated, step_at, with_editions, with_piece}
@@ -25,8 +25,8 @@ use Rattle.actor_parts.specs.declared.judged.Judged.TheVariants.{All, Next, Stal
 use Rattle.actor_parts.specs.Judged.{comes_to, judged, judged_one, left_after}
 use Rattle.actor_parts.specs.Shows.{put_back}
 use Rattle.actor_parts.proofs.ShowsLemmas.{copies_for_call}
-use Rattle.actor_parts.specs.Copied.{CopiesGoOn, CopiesReached}
-use Rattle.actor_parts.specs.Loading.{AreRead, IsDoomed}
+use Rattle.actor_parts.specs.CopyAtGate.{CopiesGoOn, CopiesReached}
+use Rattle.actor_parts.specs.LoadInWorld.{AreRead, IsDoomed}
 use Rattle.actor_parts.proofs.ComesLemmas.{all_read, allowed, doomed_left, left_in, passed_read, unwritten}
 
 -- ---- a copy that is not stale
@@ -58,12 +58,12 @@ module _ {V : Type 0} where
       let now = copied (content w.words w.blocks) s (s.words.actors a).calls (s.shadows a) k which in
       let shadows = cond (is_open (s.words.actors a).place) (put s.shadows a now) s.shadows in
       cond_both (is_actor a (s.gates k) && not (is_committing (s.words.actors a).place)) (gated s (put s.gates k None) shadows) s
-      (λ (t : Boosted (Shown V) (Answered V)). (t.shadows a).outcomes ≡ old)
+      (λ (t : Boosted (Shown V) (CallWithOutcome V)). (t.shadows a).outcomes ≡ old)
       (λ _. cond_both (is_open (s.words.actors a).place) (put s.shadows a now) s.shadows
       (λ (f : ℕ → Copy V). (f a).outcomes ≡ old) (λ _. ap (λ (z : Copy V). z.outcomes) (put-same s.shadows a now)) (λ _. refl))
       (λ _. refl)
 
-  module _ (w : World V) (a : ℕ) (asked : Asked V) (k : Linked w) (st : (w.seats a).stage ≡ Copying asked) where
+  module _ (w : World V) (a : ℕ) (asked : CollectionCall V) (k : Linked w) (st : (w.seats a).stage ≡ Copying asked) where
     abbrev y : Actor
     y = actor_of w a
 
@@ -73,7 +73,7 @@ module _ {V : Type 0} where
     abbrev x : Seat V
     x = with_piece (w.seats a) asked.collection (piece_at w.blocks asked)
 
-    abbrev o : Answered V
+    abbrev o : CallWithOutcome V
     o = outcome_at u a asked
 
     abbrev reads : List ℕ
@@ -82,7 +82,7 @@ module _ {V : Type 0} where
     abbrev es : Entries
     es = with_editions w.boosted.editions reads
 
-    abbrev room : Answered V → Bool
+    abbrev room : CallWithOutcome V → Bool
     room p = has_room y ((content w.words w.blocks).reads p) ((content w.words w.blocks).writes p)
 
     ok : StageOk w.words w.blocks (w.seats a) y (w.boosted.shadows a) (Copying asked) y.place
@@ -122,7 +122,7 @@ module _ {V : Type 0} where
       accepts = λ fits all.
           let is : judged y.reads es ≡ All = ap (λ (q : Actor). judged q.reads es) (sym now) ∙ all in (
             allowed u a x o (left_after y.reads es) (linked All fits is tt) ok.2.0
-                (subst (λ (os : List (Answered V)). Told (on_held x.calls) os) (sym (put_outcomes w a asked.collection _)) ok.1.tx.1.held),
+                (subst (λ (os : List (CallWithOutcome V)). Told (on_held x.calls) os) (sym (put_outcomes w a asked.collection _)) ok.1.tx.1.held),
             subst (λ (q : Actor). AreRead q.calls es) (sym now) (all_read w.words w.blocks y es ok.1.kept plain is),
           );
       reads = λ l fits next.

@@ -5,7 +5,7 @@ use Rattle.tx_sets.specs.Entries.{locations}
 use Rattle.tx_machine.specs.Actor.{Store}
 use Rattle.tx_machine.specs.Requests.{AskStore}
 use Rattle.tx_machine.specs.World as machine
-use Rattle.tx_machine.specs.World.{Outcome, GoesOn, Commits, Aborts}
+use Rattle.tx_machine.specs.World.{StepEnd, GoesOn, Commits, Aborts}
 use Rattle.seq_model.specs.declared.held.Held.{Held}
 use Rattle.seq_model.specs.declared.event.Event.{Event}
 use Rattle.tx_machine.specs.Content.{has}
@@ -30,7 +30,7 @@ or_not_false false = refl
 none_left : (g : ℕ → Bool) (k j : ℕ) → g j ≡ has (k ∷ []) j → without_gate g k j ≡ has [] j
 none_left g k j h = elim (eqb j k) as (λ b. g j ≡ cond b true false → cond b false (g j) ≡ false) [ true ↦ λ e. refl | false ↦ λ e. e ] h
 
-recorded_gates : {X Out : Type 0} (s : Boosted X Out) (os : List Out) (o : Outcome) → (recorded s os o).gates ≡ s.gates
+recorded_gates : {X Out : Type 0} (s : Boosted X Out) (os : List Out) (o : StepEnd) → (recorded s os o).gates ≡ s.gates
 recorded_gates s os GoesOn = refl
 recorded_gates s os (Commits r) = refl
 recorded_gates s os (Aborts e) = refl
@@ -45,7 +45,7 @@ module _ {V : Type 0} where
       let s = w.boosted in
       let y = actor_of w a in
       recorded_gates (record s { words = machine.step s.words a y y.place; shadows = shadows_after s a y.place }) (s.shadows a).outcomes
-      (machine.outcome a y y.place)
+      (machine.step_end a y y.place)
 
   store_gates : (w : World V) (a : ℕ) → (acted w (asks a AskStore ∷ [])).boosted.gates ≡ w.boosted.gates
   store_gates w a =

@@ -7,35 +7,35 @@ pub mod RangeLemmas
 mod RequestLemmas
 mod StepLemmas
 mod GuardedLemmas
-pub mod CopiesLemmas
-mod CopyingLemmas
+pub mod PrivateCopyLemmas
+mod CopyByPartsLemmas
 mod FirstLemmas
 pub mod FootprintLemmas
-pub mod KeepsLemmas
+pub mod CopyInWorldLemmas
 pub mod OutcomeLemmas
 mod WriteLemmas
-pub mod KeptLemmas
+pub mod CopyListLemmas
 pub mod AlikeLemmas
 pub mod LogLemmas
 pub mod CallingLemmas
 mod ComesLemmas
-pub mod LoadingLemmas
+pub mod LoadInWorldLemmas
 pub mod GoingLemmas
-mod StillLemmas
-mod StayingLemmas
-mod SteppedLemmas
-mod HomedLemmas
+mod ShadowAfterActionLemmas
+mod ShadowAfterEventLemmas
+mod ShadowAfterStepLemmas
+mod LeftToReadLemmas
 pub mod OwnLemmas
 mod EventsLemmas
-pub mod CopiedLemmas
+pub mod CopyAtGateLemmas
 mod CopyJudgedLemmas
-pub mod TakenLemmas
+pub mod AfterGateLemmas
 mod BegunLemmas
 pub mod ReadLemmas
 pub mod PiecesLemmas
 mod ForgottenLemmas
 mod SizesLemmas
-pub mod TakingLemmas
+pub mod TakeBackLemmas
 mod PutBackLemmas
 pub mod RoomLemmas
 pub mod WeighedLemmas

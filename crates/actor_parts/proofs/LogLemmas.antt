@@ -13,19 +13,19 @@ use Rattle.seq_model.specs.declared.event.Event.{Event}
 use Rattle.replay_log.specs.declared.base.Base.{Base}
 use Rattle.replay_log.specs.Base.{Shown, editions_of, locations_of, shown_of, stripes_of}
 use Rattle.replay_log.specs.Collections.{Suit}
-use Rattle.replay_log.specs.Contents.{Answered, Block, HaveStripes, block_of, first_of, size}
+use Rattle.replay_log.specs.Contents.{CallWithOutcome, Block, HaveStripes, block_of, first_of, size}
 use Rattle.replay_log.specs.Worlds.{World, opened, run}
 use Rattle.replay_log.proofs.ContentLemmas.{home_is, not_plain, positive_at}
 use Rattle.replay_log.proofs.SerialLemmas.{editions_past}
 use Rattle.actor_laws.specs.Bases.{IsBaseOf, ShowsBase, log_locations, writes_on}
-use Rattle.actor_parts.specs.declared.copies.Copied.{Copied}
-use Rattle.actor_parts.specs.declared.copies.Copied.TheVariants.{Keys, Whole}
-use Rattle.actor_parts.specs.declared.copies.CopyOf.{CopyOf}
-use Rattle.actor_parts.specs.Copies.{IsOf, changes_in, locations_in}
-use Rattle.actor_parts.specs.Footprints.{IsPlaceOf}
-use Rattle.actor_parts.specs.Kept.{copy_of}
+use Rattle.actor_parts.specs.declared.copies.PrivateCopy.{PrivateCopy}
+use Rattle.actor_parts.specs.declared.copies.PrivateCopy.TheVariants.{Keys, Whole}
+use Rattle.actor_parts.specs.declared.copies.CopyOfCollection.{CopyOfCollection}
+use Rattle.actor_parts.specs.PrivateCopy.{IsOf, changes_in, locations_in}
+use Rattle.actor_parts.specs.Footprints.{IsPositionOf}
+use Rattle.actor_parts.specs.CopyList.{copy_of}
 use Rattle.actor_parts.proofs.FootprintLemmas.{all_of, sized, writes_within}
-use Rattle.actor_parts.proofs.KeptLemmas.{first_at}
+use Rattle.actor_parts.proofs.CopyListLemmas.{first_at}
 
 apart : (j k x : ℕ) → j ≢ k → x ≡ k → eqb j x ≡ false
 apart j k x other same = go (eqb j x) refl
@@ -35,13 +35,13 @@ apart j k x other same = go (eqb j x) refl
     go false e = e
 
 module _ {V : Type 0} where
-  pub log_is : (b : Block) (s : Shown V) (changes : List (Change V)) (locations : List ℕ) (c : Copied V) → IsOf b s changes locations c
+  pub log_is : (b : Block) (s : Shown V) (changes : List (Change V)) (locations : List ℕ) (c : PrivateCopy V) → IsOf b s changes locations c
       → (changes_in c ≡ changes) × (locations_in c ≡ locations)
   log_is b s changes locations (Keys m es) is = (is.2, is.3)
   log_is b s changes locations (Whole t) is = (is.2, is.3)
 
   -- each location is in the collection
-  pub log_below : (k : ℕ) (b : Block) (os : List (Answered V)) → 0 < b.stripes → (i : ℕ) → Contains (log_locations k b os) i → i < size b
+  pub log_below : (k : ℕ) (b : Block) (os : List (CallWithOutcome V)) → 0 < b.stripes → (i : ℕ) → Contains (log_locations k b os) i → i < size b
   log_below k b [] pos i (j, lt, e) = absurd (omega (arith, lt))
   log_below k b (o ∷ os) pos i h =
       ⊎_elim
@@ -59,14 +59,14 @@ module _ {V : Type 0} where
   wide b base is =
       (λ j. size (record { kind = sym is.kind j; stripes = sym is.stripes j })) ∙ sized (stripes_of base) (shown_of base)
 
-  pub log_within : (k : ℕ) (b : Block) (os : List (Answered V)) (base : Base V) → 0 < b.stripes → IsBaseOf b base
+  pub log_within : (k : ℕ) (b : Block) (os : List (CallWithOutcome V)) (base : Base V) → 0 < b.stripes → IsBaseOf b base
       → All (λ i. i < locations_of (stripes_of base) (shown_of base)) (log_locations k b os)
   log_within k b os base pos is =
       all_of (λ i. i < locations_of (stripes_of base) (shown_of base)) (log_locations k b os) (λ i h.
       subst (λ (m : ℕ). i < m) (wide b base is) (log_below k b os pos i h))
 
   pub log_editions : (blocks : List Block) (clock : ℕ) (values : List ℕ) (held : List (Held V)) (events : List (Event V)) (k : ℕ)
-      (b : Block) (os : List (Answered V)) (base : Base V)
+      (b : Block) (os : List (CallWithOutcome V)) (base : Base V)
       → HaveStripes blocks → Suit blocks held → block_of blocks k ≡ Some b →
       let w : World V = run (opened blocks clock values held) events in
       ShowsBase (length values) blocks w k base
@@ -87,23 +87,23 @@ module _ {V : Type 0} where
       subst (λ (e : ℕ). e ≤ w.boosted.words.clock) same few)
 
   -- ---- one copy is taken off
-  pub others_stand : (cs : List (CopyOf V)) (i k : ℕ) (c : CopyOf V) → slice_get cs i ≡ Some c → c.collection ≡ k
+  pub others_stand : (cs : List (CopyOfCollection V)) (i k : ℕ) (c : CopyOfCollection V) → slice_get cs i ≡ Some c → c.collection ≡ k
       → (j : ℕ) → j ≢ k → copy_of (take i cs ++ drop (i + 1) cs) j ≡ copy_of cs j
   others_stand [] i k c at same j other = let h : ⊥ = cc in absurd h
   others_stand (d ∷ cs) zero k c at same j other =
       let e : d ≡ c = cc in
       sym (cond-false (eqb j d.collection) (Some d.copied) (copy_of cs j)
-      (apart j k d.collection other (ap (λ (z : CopyOf V). z.collection) e ∙ same)))
+      (apart j k d.collection other (ap (λ (z : CopyOfCollection V). z.collection) e ∙ same)))
   others_stand (d ∷ cs) (suc i) k c at same j other =
       let more : suc i + 1 ≡ suc (i + 1) = omega arith in
       ap (λ (n : ℕ). copy_of (take (suc i) (d ∷ cs) ++ drop n (d ∷ cs)) j) more
-      ∙ ap (λ (x : Option (Copied V)). cond (eqb j d.collection) (Some d.copied) x) (others_stand cs i k c at same j other)
+      ∙ ap (λ (x : Option (PrivateCopy V)). cond (eqb j d.collection) (Some d.copied) x) (others_stand cs i k c at same j other)
 
   -- what stands at its place
-  pub found_at : (cs : List (CopyOf V)) (i k : ℕ) (c : CopyOf V) (p : Option ℕ) → p ≡ Some i → IsPlaceOf cs k p → c ≡ get_or cs i c
+  pub found_at : (cs : List (CopyOfCollection V)) (i k : ℕ) (c : CopyOfCollection V) (p : Option ℕ) → p ≡ Some i → IsPositionOf cs k p → c ≡ get_or cs i c
       → (slice_get cs i ≡ Some c) × (c.collection ≡ k) × (copy_of cs k ≡ Some c.copied)
   found_at cs i k c p is at e =
-      let h : IsPlaceOf cs k (Some i) = subst (IsPlaceOf cs k) is at in
+      let h : IsPositionOf cs k (Some i) = subst (IsPositionOf cs k) is at in
       let got : slice_get cs i ≡ Some c = slice_get_read cs (length cs) i c refl h.0 e in
       let same : c.collection ≡ k = h.2 c got in
       (got, same, first_at cs i k c got (sym same) h.1)

@@ -3,6 +3,7 @@
 use Rattle.std.proofs.Common.{◌≡◌, ℕ, Bool, true, false, true≢false, cond, [], Option, Some, None, refl, sym, ap}
 use Rattle.std.specs.Ordering.{nat_cmp}
 use Rattle.std.specs.FinMap.{FinMap}
+use Rattle.std.proofs.lemmas.Option.{none-some}
 use Rattle.seq_model.specs.declared.call.Op.{Op}
 use Rattle.seq_model.specs.declared.call.Op.TheVariants.{Get, Put, Remove, Len, Count, Add, Take, Least, Insert, TakeLeast, Enqueue}
 use Rattle.seq_model.specs.declared.call.Op.TheVariants.{Dequeue, Peek}
@@ -11,7 +12,6 @@ use Rattle.seq_model.specs.Counts.{Multiset}
 use Rattle.conflict.specs.declared.outcome.Note.{Note}
 use Rattle.conflict.specs.declared.outcome.Outcome.{Outcome}
 use Rattle.conflict.specs.Footprints.{map_writes, multiset_writes, priority_queue_writes, queue_writes}
-use Rattle.conflict.specs.Places.{none_some}
 use Rattle.base_map.specs.Conflicts as map
 use Rattle.base_bag.specs.Conflicts as bag
 use Rattle.base_pq.specs.Conflicts as pq
@@ -19,9 +19,9 @@ use Rattle.base_queue.specs.Conflicts as queue
 use Rattle.replay_log.specs.Base.{Shown, OfMap, OfBag, OfPq, OfQueue, outcome_of, shown_of, writes_of}
 use Rattle.replay_log.specs.Worlds.{is_change}
 use Rattle.shadow.specs.Memo.{MemoView, answer_with}
-use Rattle.actor_parts.specs.declared.copies.Copied.{Copied}
-use Rattle.actor_parts.specs.declared.copies.Copied.TheVariants.{Keys, Whole}
-use Rattle.actor_parts.specs.Copies.{answer_of}
+use Rattle.actor_parts.specs.declared.copies.PrivateCopy.{PrivateCopy}
+use Rattle.actor_parts.specs.declared.copies.PrivateCopy.TheVariants.{Keys, Whole}
+use Rattle.actor_parts.specs.PrivateCopy.{answer_of}
 
 module _ {V : Type 0} where
   same_op : (op : Op V) (p r : Outcome V) → Some p ≡ Some r → p.op ≡ op → r.op ≡ op
@@ -40,26 +40,26 @@ module _ {V : Type 0} where
   map_op (Put k v) m r e = same_op (Put k v) _ r e refl
   map_op (Remove k) m r e = same_op (Remove k) _ r e refl
   map_op Len m r e = same_op Len _ r e refl
-  map_op _ m r e = absurd (none_some r e)
+  map_op _ m r e = absurd (none-some r e)
 
   bag_op : (op : Op V) (m : Multiset) (r : Outcome V) → bag.outcome_of op m ≡ Some r → r.op ≡ op
   bag_op (Count x) m r e = same_op (Count x) _ r e refl
   bag_op (Add x) m r e = same_op (Add x) _ r e refl
   bag_op (Take x) m r e = same_op (Take x) _ r e refl
-  bag_op _ m r e = absurd (none_some r e)
+  bag_op _ m r e = absurd (none-some r e)
 
   pq_op : (op : Op V) (s : pq.Shown) (r : Outcome V) → pq.outcome_of op s ≡ Some r → r.op ≡ op
   pq_op Least s r e = same_op Least _ r e refl
   pq_op (Insert x) s r e = same_op (Insert x) _ r e (either_op (Insert x) _ _ _ refl refl)
   pq_op TakeLeast s r e = same_op TakeLeast _ r e (least_op s.least s.elements)
-  pq_op _ s r e = absurd (none_some r e)
+  pq_op _ s r e = absurd (none-some r e)
 
   queue_op : (op : Op V) (s : queue.Shown) (r : Outcome V) → queue.outcome_of op s ≡ Some r → r.op ≡ op
   queue_op (Enqueue x) s r e = same_op (Enqueue x) _ r e (either_op (Enqueue x) _ _ _ refl refl)
   queue_op Dequeue s r e = same_op Dequeue _ r e refl
   queue_op Peek s r e = same_op Peek _ r e refl
   queue_op Len s r e = same_op Len _ r e refl
-  queue_op _ s r e = absurd (none_some r e)
+  queue_op _ s r e = absurd (none-some r e)
 
   pub outcome_op : (s : Shown V) (op : Op V) (r : Outcome V) → outcome_of op s ≡ Some r → r.op ≡ op
   outcome_op (OfMap m) op r e = map_op op m r e
@@ -73,12 +73,12 @@ module _ {V : Type 0} where
   memo_op (OfMap b) m (Put k v) r e = same_op (Put k v) _ r e refl
   memo_op (OfMap b) m (Remove k) r e = same_op (Remove k) _ r e refl
   memo_op (OfMap b) m Len r e = same_op Len _ r e refl
-  memo_op (OfMap b) m _ r e = absurd (none_some r e)
+  memo_op (OfMap b) m _ r e = absurd (none-some r e)
   memo_op (OfBag b) m op r e = bag_op op m.copies r e
-  memo_op (OfPq b) m op r e = absurd (none_some r e)
-  memo_op (OfQueue b) m op r e = absurd (none_some r e)
+  memo_op (OfPq b) m op r e = absurd (none-some r e)
+  memo_op (OfQueue b) m op r e = absurd (none-some r e)
 
-  pub answered_op : (c : Copied V) (op : Op V) (r : Outcome V) → answer_of c op ≡ Some r → r.op ≡ op
+  pub answered_op : (c : PrivateCopy V) (op : Op V) (r : Outcome V) → answer_of c op ≡ Some r → r.op ≡ op
   answered_op (Keys m es) op r e = memo_op (shown_of m.blank) m op r e
   answered_op (Whole t) op r e = outcome_op (shown_of t.base) op r e
 

@@ -9,7 +9,7 @@ use Rattle.tx_machine.specs.World.{World as Words, put}
 use Rattle.tx_machine.proofs.Sets.{put-same}
 use Rattle.tx_machine.specs.Boosted.{Boosted, Shadow as Part, copied, gated, is_actor, is_committing, is_copied, is_open, longer}
 use Rattle.replay_log.specs.Base.{Shown}
-use Rattle.replay_log.specs.Contents.{Answered, Asked, Block, HaveStripes, block_of, content, first_of, home_of, size}
+use Rattle.replay_log.specs.Contents.{CallWithOutcome, CollectionCall, Block, HaveStripes, block_of, content, first_of, home_of, size}
 use Rattle.replay_log.specs.Pieces.{covers_at}
 use Rattle.replay_log.specs.Worlds.{World}
 use Rattle.replay_log.proofs.ContentLemmas.{first_above, home_is}
@@ -17,13 +17,13 @@ use Rattle.replay_log.proofs.SetLemmas.{put_words}
 use Rattle.actor_laws.specs.Bases.{changes_on, log_changes, log_locations, writes_on}
 use Rattle.actor_laws.proofs.Bases.{more_changes, more_locations}
 use Rattle.actor_parts.specs.Shows.{put_back}
-use Rattle.actor_parts.specs.declared.copies.Copied.{Copied}
-use Rattle.actor_parts.specs.Copied.{IsReadOf}
-use Rattle.actor_parts.specs.Copies.{IsCopied}
-use Rattle.actor_parts.specs.Keeps.{IsOwnCopy}
+use Rattle.actor_parts.specs.declared.copies.PrivateCopy.{PrivateCopy}
+use Rattle.actor_parts.specs.CopyAtGate.{IsReadOf}
+use Rattle.actor_parts.specs.PrivateCopy.{IsCopied}
+use Rattle.actor_parts.specs.CopyInWorld.{IsOwnCopy}
 use Rattle.actor_parts.specs.Owns.{IsOwn, IsUncalled}
-use Rattle.actor_parts.specs.Staying.{ReadsStay}
-use Rattle.actor_parts.proofs.CopiesLemmas.{same_log}
+use Rattle.actor_parts.specs.CopiesAfterEvent.{ReadsStay}
+use Rattle.actor_parts.proofs.PrivateCopyLemmas.{same_log}
 use Rattle.actor_parts.proofs.ReadLemmas.{reads_same}
 
 no_third : (p q r s : Bool) → r ≡ false → (p && (q && (r && s))) ≡ false
@@ -33,14 +33,14 @@ no_third false q r s e = refl
 
 module _ {V : Type 0} where
   -- z has at the block of collection k, from location f on, what x has there, and the same log
-  pub record AlikeAt (b : Block) (f k : ℕ) (x z : Part (Shown V) (Answered V)) : Type 0 where
+  pub record AlikeAt (b : Block) (f k : ℕ) (x z : Part (Shown V) (CallWithOutcome V)) : Type 0 where
     pub copied : (i : ℕ) → i < size b → z.copied (f + i) ≡ x.copied (f + i)
     pub parts : (i : ℕ) → i < size b → z.parts (f + i) ≡ x.parts (f + i)
     pub editions : (i : ℕ) → i < size b → z.editions (f + i) ≡ x.editions (f + i)
     pub changes : log_changes k b z.outcomes ≡ log_changes k b x.outcomes
     pub locations : log_locations k b z.outcomes ≡ log_locations k b x.outcomes
 
-  alike : (b : Block) (f k : ℕ) (x : Part (Shown V) (Answered V)) → AlikeAt b f k x x
+  alike : (b : Block) (f k : ℕ) (x : Part (Shown V) (CallWithOutcome V)) → AlikeAt b f k x x
   alike b f k x = record {
     copied = λ i lt. refl;
     parts = λ i lt. refl;
@@ -49,7 +49,7 @@ module _ {V : Type 0} where
     locations = refl;
   }
 
-  copied_alike : (b : Block) (f k : ℕ) (x z : Part (Shown V) (Answered V)) (c : Copied V) → AlikeAt b f k x z → IsCopied b f k x c
+  copied_alike : (b : Block) (f k : ℕ) (x z : Part (Shown V) (CallWithOutcome V)) (c : PrivateCopy V) → AlikeAt b f k x z → IsCopied b f k x c
       → IsCopied b f k z c
   copied_alike b f k x z c same is = (
     (
@@ -61,7 +61,7 @@ module _ {V : Type 0} where
     λ i e lt there. (let q = is.1 i e lt there in (same.copied i lt ∙ q.0, same.editions i lt ∙ q.1)),
   )
 
-  uncalled_alike : (b : Block) (f k : ℕ) (x z : Part (Shown V) (Answered V)) → AlikeAt b f k x z → IsUncalled b f k x → IsUncalled b f k z
+  uncalled_alike : (b : Block) (f k : ℕ) (x z : Part (Shown V) (CallWithOutcome V)) → AlikeAt b f k x z → IsUncalled b f k x → IsUncalled b f k z
   uncalled_alike b f k x z same is = (
     (is.0.0, (is.0.1.0, λ i lt. same.parts i lt ∙ is.0.1.1 i lt)),
     same.changes ∙ is.1,
@@ -75,7 +75,7 @@ module _ {V : Type 0} where
     first : first_of v.words v.blocks k ≡ f
     first = λ i. first_of (words i) (blocks i) k
 
-    own_at : (c : Option (Copied V))
+    own_at : (c : Option (PrivateCopy V))
         → ((b : Block) → block_of w.blocks k ≡ Some b → AlikeAt b f k (w.boosted.shadows a) (v.boosted.shadows a))
         → IsOwn w a k c → IsOwn v a k c
     own_at (Some c) same is =
@@ -96,7 +96,7 @@ module _ {V : Type 0} where
         (uncalled_alike b f k (w.boosted.shadows a) (v.boosted.shadows a) (same b here) (is b here)))
 
   -- ---- where the shadow is the same, or an outcome has joined it
-  pub own_same : (w v : World V) (a k : ℕ) (c : Option (Copied V)) → v.words ≡ w.words → v.blocks ≡ w.blocks
+  pub own_same : (w v : World V) (a k : ℕ) (c : Option (PrivateCopy V)) → v.words ≡ w.words → v.blocks ≡ w.blocks
       → v.boosted.shadows a ≡ w.boosted.shadows a → IsOwn w a k c → IsOwn v a k c
   own_same w v a k c words blocks shadow is =
       own_at w v a k words blocks c
@@ -105,7 +105,7 @@ module _ {V : Type 0} where
       subst (λ z. AlikeAt b f k (w.boosted.shadows a) z) (sym shadow) (alike b f k (w.boosted.shadows a))))
       is
 
-  joined_alike : (b : Block) (f k : ℕ) (x : Part (Shown V) (Answered V)) (o : Answered V) → o.asked.collection ≢ k
+  joined_alike : (b : Block) (f k : ℕ) (x : Part (Shown V) (CallWithOutcome V)) (o : CallWithOutcome V) → o.asked.collection ≢ k
       → AlikeAt b f k x (longer x o)
   joined_alike b f k x o other =
       let none = ne_eqb o.asked.collection k other in record {
@@ -120,7 +120,7 @@ module _ {V : Type 0} where
             ∙ append-nil (log_locations k b x.outcomes));
       }
 
-  pub own_joined : (w v : World V) (a k : ℕ) (o : Answered V) (c : Option (Copied V)) → v.words ≡ w.words → v.blocks ≡ w.blocks
+  pub own_joined : (w v : World V) (a k : ℕ) (o : CallWithOutcome V) (c : Option (PrivateCopy V)) → v.words ≡ w.words → v.blocks ≡ w.blocks
       → v.boosted.shadows a ≡ longer (w.boosted.shadows a) o → o.asked.collection ≢ k → IsOwn w a k c → IsOwn v a k c
   own_joined w v a k o c words blocks shadow other is =
       own_at w v a k words blocks c
@@ -130,17 +130,17 @@ module _ {V : Type 0} where
       is
 
   -- ---- what was read
-  pub reads_stay : (w v : World V) (a k : ℕ) (c : Option (Copied V)) → ReadsStay w v a → IsReadOf w a k c → IsReadOf v a k c
+  pub reads_stay : (w v : World V) (a k : ℕ) (c : Option (PrivateCopy V)) → ReadsStay w v a → IsReadOf w a k c → IsReadOf v a k c
   reads_stay w v a k c stays is =
       reads_same w v a k c stays.words stays.blocks
       (λ i. stays.reads (first_of w.words w.blocks k + i) (let above = first_above w.words w.blocks k in omega (arith, above))) is
 
   -- ---- a gate that is put back
-  module _ (w : World V) (a : ℕ) (asked : Asked V) where
-    abbrev s : Boosted (Shown V) (Answered V)
+  module _ (w : World V) (a : ℕ) (asked : CollectionCall V) where
+    abbrev s : Boosted (Shown V) (CallWithOutcome V)
     s = w.boosted
 
-    abbrev x : Part (Shown V) (Answered V)
+    abbrev x : Part (Shown V) (CallWithOutcome V)
     x = s.shadows a
 
     abbrev which : ℕ → Bool
@@ -149,7 +149,7 @@ module _ {V : Type 0} where
     abbrev taken : ℕ → Bool
     taken l = is_copied (content {V = V} w.words w.blocks) (s.words.actors a).calls asked.collection which l
 
-    abbrev now : Part (Shown V) (Answered V)
+    abbrev now : Part (Shown V) (CallWithOutcome V)
     now = copied (content w.words w.blocks) s (s.words.actors a).calls x asked.collection which
 
     module _ (k : ℕ) (b : Block) (there : block_of w.blocks k ≡ Some b) (other : k ≢ asked.collection) where
@@ -174,16 +174,16 @@ module _ {V : Type 0} where
       back_alike =
           cond_both (is_actor a (s.gates asked.collection) && not (is_committing (s.words.actors a).place))
           (gated s (put s.gates asked.collection None) (cond (is_open (s.words.actors a).place) (put s.shadows a now) s.shadows)) s
-          (λ (t : Boosted (Shown V) (Answered V)). AlikeAt b at k x (t.shadows a))
+          (λ (t : Boosted (Shown V) (CallWithOutcome V)). AlikeAt b at k x (t.shadows a))
           (λ _. cond_both (is_open (s.words.actors a).place) (put s.shadows a now) s.shadows
-          (λ (g : ℕ → Part (Shown V) (Answered V)). AlikeAt b at k x (g a))
+          (λ (g : ℕ → Part (Shown V) (CallWithOutcome V)). AlikeAt b at k x (g a))
           (λ _. subst (AlikeAt b at k x) (sym (put-same s.shadows a now)) now_alike) (λ _. alike b at k x))
           (λ _. alike b at k x)
 
-    pub own_back : (k : ℕ) (c : Option (Copied V)) → k ≢ asked.collection → IsOwn w a k c → IsOwn (put_back a w asked) a k c
+    pub own_back : (k : ℕ) (c : Option (PrivateCopy V)) → k ≢ asked.collection → IsOwn w a k c → IsOwn (put_back a w asked) a k c
     own_back k c other is = own_at w (put_back a w asked) a k refl refl c (λ b there. back_alike k b there other) is
 
-    pub reads_back : (k : ℕ) (c : Option (Copied V)) → IsReadOf w a k c → IsReadOf (put_back a w asked) a k c
+    pub reads_back : (k : ℕ) (c : Option (PrivateCopy V)) → IsReadOf w a k c → IsReadOf (put_back a w asked) a k c
     reads_back k c is =
         reads_same w (put_back a w asked) a k c refl refl
         (λ i. ap (λ (t : Words). first_read (t.actors a).calls (first_of w.words w.blocks k + i))

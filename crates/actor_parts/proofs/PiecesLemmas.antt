@@ -6,28 +6,29 @@ use Rattle.std.proofs.lemmas.Bool.{cond-false, cond-true}
 use Rattle.std.specs.Cmp.{nat_cmp_total}
 use Rattle.std.specs.Ordering.{nat_cmp, eq_by_cmp}
 use Rattle.std.specs.FinMap.{FinMap, empty, get, get-empty, get-insert, insert, len}
+use Rattle.std.proofs.lemmas.Option.{none-some, same_Some}
 use Rattle.seq_model.specs.declared.call.Op.{Op}
 use Rattle.seq_model.specs.declared.call.Op.TheVariants.{Get, Put, Remove, Len, Count, Add, Take}
 use Rattle.seq_model.specs.Counts.{Multiset}
-use Rattle.conflict.specs.Places.{key_itself, none_some, same_key, some_same}
+use Rattle.conflict.specs.Places.{key_itself, same_key}
 use Rattle.replay_log.specs.declared.base.Base.{Base}
 use Rattle.replay_log.specs.declared.touch.Touch.{Touch}
-use Rattle.replay_log.specs.declared.touch.Touched.{Touched}
+use Rattle.replay_log.specs.declared.touch.TouchedKey.{TouchedKey}
 use Rattle.replay_log.specs.Base.{Shown, OfMap, OfBag, OfPq, OfQueue, shown_of, stripes_of}
 use Rattle.replay_log.specs.Parts.{Kind, MapKind, BagKind, PqKind, QueueKind, kind_of}
 use Rattle.replay_log.specs.Pieces as pieces
 use Rattle.replay_log.specs.Pieces.{Piece, is_piece, piece_of}
 use Rattle.replay_log.specs.Touches.{summed_by}
 use Rattle.shadow.specs.Memo.{MemoView, has_key, with_count, with_entry, with_key, with_number, with_total}
-use Rattle.actor_parts.specs.declared.copies.Copied.{Copied}
-use Rattle.actor_parts.specs.declared.copies.Copied.TheVariants.{Keys, Whole}
-use Rattle.actor_parts.specs.declared.copies.Found.{Found}
-use Rattle.actor_parts.specs.declared.copies.Found.TheVariants as found
-use Rattle.actor_parts.specs.Copies.{IsFound, IsLearnt, has_piece, is_copied_whole}
+use Rattle.actor_parts.specs.declared.copies.PrivateCopy.{PrivateCopy}
+use Rattle.actor_parts.specs.declared.copies.PrivateCopy.TheVariants.{Keys, Whole}
+use Rattle.actor_parts.specs.declared.copies.BaseExcerpt.{BaseExcerpt}
+use Rattle.actor_parts.specs.declared.copies.BaseExcerpt.TheVariants as found
+use Rattle.actor_parts.specs.PrivateCopy.{IsFound, IsLearnt, has_piece, is_copied_whole}
 use Rattle.actor_parts.specs.First.{IsFirst}
 use Rattle.actor_parts.proofs.FirstLemmas.{kind_touched}
 use Rattle.actor_parts.proofs.ForgottenLemmas.{as_piece, piece_by}
-use Rattle.actor_parts.proofs.TakenLemmas.{at_bag, at_map}
+use Rattle.actor_parts.proofs.AfterGateLemmas.{at_bag, at_map}
 
 -- the keys that there are with one more
 with_has : {A : Type 0} (known : FinMap nat_cmp A) (k j : ℕ) (a : A) → has_key (with_key known k a) j ≡ cond (k == j) true (has_key known j)
@@ -57,20 +58,20 @@ either false = refl
 
 module _ {V : Type 0} where
   module _ (n : ℕ) (es : FinMap nat_cmp (Option V)) (cs : FinMap nat_cmp ℕ) (total : Option ℕ) where
-    abbrev Takes : Op V → Piece → Touched V → Shown V → Type 0
+    abbrev Takes : Op V → Piece → TouchedKey V → Shown V → Type 0
     Takes op q h z =
         piece_by z (with_entry h es) (with_count h cs) (with_total h total) q
         ≡ cond (is_piece (piece_of (kind_of z) op) q) true (piece_by z es cs total q)
 
-    map_takes : (op : Op V) (q : Piece) (g h : Touched V) → Some g ≡ Some h → ((m : FinMap nat_cmp V) → Takes op q g (OfMap m))
+    map_takes : (op : Op V) (q : Piece) (g h : TouchedKey V) → Some g ≡ Some h → ((m : FinMap nat_cmp V) → Takes op q g (OfMap m))
         → (z : Shown V) → kind_of z ≡ MapKind → Takes op q h z
     map_takes op q g h e each z kind =
-        at_map (Takes op q h) (λ m. subst (λ t. Takes op q t (OfMap m)) (some_same g h e) (each m)) z kind
+        at_map (Takes op q h) (λ m. subst (λ t. Takes op q t (OfMap m)) (same_Some g h e) (each m)) z kind
 
-    bag_takes : (op : Op V) (q : Piece) (g h : Touched V) → Some g ≡ Some h → ((m : Multiset) → Takes op q g (OfBag m))
+    bag_takes : (op : Op V) (q : Piece) (g h : TouchedKey V) → Some g ≡ Some h → ((m : Multiset) → Takes op q g (OfBag m))
         → (z : Shown V) → kind_of z ≡ BagKind → Takes op q h z
     bag_takes op q g h e each z kind =
-        at_bag (Takes op q h) (λ m. subst (λ t. Takes op q t (OfBag m)) (some_same g h e) (each m)) z kind
+        at_bag (Takes op q h) (λ m. subst (λ t. Takes op q t (OfBag m)) (same_Some g h e) (each m)) z kind
 
     entry_takes : (k : ℕ) (v : Option V) (q : Piece) (m : FinMap nat_cmp V)
         → piece_by (OfMap m) (with_key es k v) cs total q ≡ cond (is_piece (pieces.Entry k) q) true (piece_by (OfMap m) es cs total q)
@@ -94,7 +95,7 @@ module _ {V : Type 0} where
     len_takes k pieces.Counts m = some_total k total
     len_takes k pieces.Whole m = refl
 
-    takes : (op : Op V) (s : Shown V) (h : Touched V) (q : Piece) → summed_by n op s ≡ Some h → (z : Shown V) → kind_of z ≡ kind_of s
+    takes : (op : Op V) (s : Shown V) (h : TouchedKey V) (q : Piece) → summed_by n op s ≡ Some h → (z : Shown V) → kind_of z ≡ kind_of s
         → Takes op q h z
     takes (Get k) (OfMap m) h q e z kind = map_takes (Get k) q _ h e (λ l. entry_takes k _ q l) z kind
     takes (Put k v) (OfMap m) h q e z kind = map_takes (Put k v) q _ h e (λ l. entry_takes k _ q l) z kind
@@ -103,15 +104,15 @@ module _ {V : Type 0} where
     takes (Count i) (OfBag m) h q e z kind = bag_takes (Count i) q _ h e (λ l. count_takes i _ q l) z kind
     takes (Add i) (OfBag m) h q e z kind = bag_takes (Add i) q _ h e (λ l. count_takes i _ q l) z kind
     takes (Take i) (OfBag m) h q e z kind = bag_takes (Take i) q _ h e (λ l. count_takes i _ q l) z kind
-    takes op (OfMap y) h q e z kind = absurd (none_some h e)
-    takes op (OfBag y) h q e z kind = absurd (none_some h e)
-    takes (Get i) (OfPq y) h q e z kind = absurd (none_some h e)
-    takes op (OfPq y) h q e z kind = absurd (none_some h e)
-    takes (Get i) (OfQueue y) h q e z kind = absurd (none_some h e)
-    takes op (OfQueue y) h q e z kind = absurd (none_some h e)
+    takes op (OfMap y) h q e z kind = absurd (none-some h e)
+    takes op (OfBag y) h q e z kind = absurd (none-some h e)
+    takes (Get i) (OfPq y) h q e z kind = absurd (none-some h e)
+    takes op (OfPq y) h q e z kind = absurd (none-some h e)
+    takes (Get i) (OfQueue y) h q e z kind = absurd (none-some h e)
+    takes op (OfQueue y) h q e z kind = absurd (none-some h e)
 
   -- a memo that has learnt what the call touches
-  pub learnt_pieces : (n : ℕ) (op : Op V) (s : Shown V) (t : Touch V) (m : MemoView V) (es : _) (d : Copied V) (q : Piece)
+  pub learnt_pieces : (n : ℕ) (op : Op V) (s : Shown V) (t : Touch V) (m : MemoView V) (es : _) (d : PrivateCopy V) (q : Piece)
       → summed_by n op s ≡ Some t.held → kind_of (shown_of m.blank) ≡ kind_of s → IsLearnt t (Keys m es) d
       → has_piece d q ≡ cond (is_piece (piece_of (kind_of s) op) q) true (has_piece (Keys m es) q)
   learnt_pieces n op s t m es (Keys l fs) q touched kind now =
@@ -138,7 +139,7 @@ module _ {V : Type 0} where
   whole_piece QueueKind op e = refl
 
   -- the first copy has the call's piece alone
-  pub first_pieces : (base : Base V) (op : Op V) (x : Found V) (d : Copied V) (q : Piece) → IsFound base op x
+  pub first_pieces : (base : Base V) (op : Op V) (x : BaseExcerpt V) (d : PrivateCopy V) (q : Piece) → IsFound base op x
       → IsFirst (stripes_of base) x d → has_piece d q ≡ cond (is_piece (piece_of (kind_of (shown_of base)) op) q) true false
   first_pieces base op (found.Keys t) d q here first =
       let m = first.memo in

@@ -4,20 +4,20 @@
 -- with another edition, and of a location that has been read with two editions there is none.
 use Rattle.std.proofs.Common.{◌≡◌, ◌⊎◌, ℕ, ◌+◌, Bool, true, false, true≢false, cond, List, [], ◌∷◌, Option, Some, None, inl, inr, sym, ap}
 use Rattle.std.proofs.Common.{subst, ◌∙◌}
+use Rattle.std.proofs.lemmas.Option.{same_Some}
 use Rattle.tx_sets.specs.Entries.{Entries}
 use Rattle.tx_machine.specs.Actor.{Actor, Call}
 use Rattle.tx_machine.specs.Opacity.{first_read}
 use Rattle.tx_machine.specs.World.{World as Words}
-use Rattle.conflict.specs.Table.{Room}
+use Rattle.conflict.specs.RoomMap.{Room}
 use Rattle.conflict.specs.declared.outcome.Outcome.{Outcome}
 use Rattle.tx_machine.specs.Boosted.{PutGate, Shadow as Part}
 use Rattle.replay_log.specs.declared.base.Base.{Base}
 use Rattle.replay_log.specs.Base.{Shown}
-use Rattle.replay_log.specs.Contents.{Answered, Asked, Block, block_of, content, first_of}
+use Rattle.replay_log.specs.Contents.{CallWithOutcome, CollectionCall, Block, block_of, content, first_of}
 use Rattle.replay_log.specs.Guards.{Allows, IsAllowed, step_action}
 use Rattle.replay_log.specs.Pieces.{covers_at}
 use Rattle.replay_log.specs.Worlds.{Copying, Stage, World, actor_of, opened, run}
-use Rattle.replay_log.proofs.ContentLemmas.{same_block}
 use Rattle.replay_log.proofs.EventLemmas.{opened_linked, run_linked}
 use Rattle.replay_log.proofs.GuardLemmas.{world_allows}
 use Rattle.replay_log.proofs.SeatLemmas.{Linked}
@@ -25,21 +25,21 @@ use Rattle.replay_log.proofs.SetLemmas.{put_words}
 use Rattle.actor_laws.specs.Bases.{IsBaseOf, ShowsBase, log_changes, log_locations}
 use Rattle.shadow.specs.Memo.{MemoView}
 use Rattle.actor_parts.specs.Shows.{put_back}
-use Rattle.actor_parts.specs.declared.copies.Copied.{Copied}
-use Rattle.actor_parts.specs.declared.copies.Copied.TheVariants.{Keys, Whole}
-use Rattle.actor_parts.specs.Copied.{IsReadBy, IsReadOf, taken_from}
-use Rattle.actor_parts.specs.Copies.{HasEditions, IsCopied, IsOf, ShowParts, answer_of, holds_of}
+use Rattle.actor_parts.specs.declared.copies.PrivateCopy.{PrivateCopy}
+use Rattle.actor_parts.specs.declared.copies.PrivateCopy.TheVariants.{Keys, Whole}
+use Rattle.actor_parts.specs.CopyAtGate.{IsReadBy, IsReadOf, taken_from}
+use Rattle.actor_parts.specs.PrivateCopy.{HasEditions, IsCopied, IsOf, ShowParts, answer_of, holds_of}
 use Rattle.actor_parts.specs.Footprints.{reads_in, with_known}
-use Rattle.actor_parts.specs.Keeps.{IsOwnCopy}
-use Rattle.actor_parts.specs.Loading.{AreRead, IsDoomed}
+use Rattle.actor_parts.specs.CopyInWorld.{IsOwnCopy}
+use Rattle.actor_parts.specs.LoadInWorld.{AreRead, IsDoomed}
 use Rattle.actor_parts.specs.Owns.{IsOwn, IsUncalled}
 use Rattle.actor_parts.specs.PutBack.{KeepsCopies, ReadsCopies}
-use Rattle.actor_parts.proofs.CopiedLemmas.{mixed, moved}
+use Rattle.actor_parts.proofs.CopyAtGateLemmas.{mixed, moved}
 use Rattle.actor_parts.proofs.OwnLemmas.{own_same, reads_back}
-use Rattle.actor_parts.proofs.TakenLemmas as taken
-use Rattle.actor_parts.proofs.TakenLemmas.{found_at, pos, shadow_now, takes}
+use Rattle.actor_parts.proofs.AfterGateLemmas as taken
+use Rattle.actor_parts.proofs.AfterGateLemmas.{found_at, pos, shadow_now, takes}
 
-module _ {V : Type 0} (w : World V) (a : ℕ) (b : Block) (asked : Asked V) (base : Base V) (k : Linked w)
+module _ {V : Type 0} (w : World V) (a : ℕ) (b : Block) (asked : CollectionCall V) (base : Base V) (k : Linked w)
     (st : (w.seats a).stage ≡ Copying asked) (block : block_of w.blocks asked.collection ≡ Some b) (of : IsBaseOf b base)
     (shows : ShowsBase w.words w.blocks w asked.collection base)
     (guard : Allows (content w.words w.blocks) w.boosted (PutGate a asked.collection (covers_at w.words w.blocks asked))) where
@@ -49,7 +49,7 @@ module _ {V : Type 0} (w : World V) (a : ℕ) (b : Block) (asked : Asked V) (bas
   abbrev f : ℕ
   f = first_of w.words w.blocks home
 
-  abbrev x : Part (Shown V) (Answered V)
+  abbrev x : Part (Shown V) (CallWithOutcome V)
   x = w.boosted.shadows a
 
   abbrev read : ℕ → Option ℕ
@@ -61,7 +61,7 @@ module _ {V : Type 0} (w : World V) (a : ℕ) (b : Block) (asked : Asked V) (bas
   abbrev copies : ℕ → Bool
   copies = taken.taken w a b asked base k st block of shows guard
 
-  abbrev now : Part (Shown V) (Answered V)
+  abbrev now : Part (Shown V) (CallWithOutcome V)
   now = taken_from copies w.boosted.parts w.boosted.editions x
 
   abbrev mixes : (s : Shown V) → ShowParts b f x.parts s → (u : Shown V) × ShowParts b f now.parts u
@@ -104,14 +104,14 @@ module _ {V : Type 0} (w : World V) (a : ℕ) (b : Block) (asked : Asked V) (bas
       let here : IsUncalled b f home now = ((shown.0, shown.1), none.1, none.2) in
       subst (λ q. IsUncalled b f home q) (sym (shadow_now w a b asked base k st block of shows guard)) here
 
-  own_kept : (c : Option (Copied V)) → IsOwn w a home c → IsReadOf w a home c → holds_of c asked.op ≡ false
+  own_kept : (c : Option (PrivateCopy V)) → IsOwn w a home c → IsReadOf w a home c → holds_of c asked.op ≡ false
       → IsOwn (put_back a w asked) a home c
   own_kept None own was_read unheld =
       λ d there. (
-      let same : b ≡ d = same_block b d (sym block ∙ there) in
+      let same : b ≡ d = same_Some b d (sym block ∙ there) in
       subst (λ (e : Block). IsUncalled e f home ((put_back a w asked).boosted.shadows a)) same (own_none (own b block)))
   own_kept (Some (Keys m es)) own was_read unheld =
-      let same : own.0 ≡ b = same_block own.0 b (sym own.1.block ∙ block) in
+      let same : own.0 ≡ b = same_Some own.0 b (sym own.1.block ∙ block) in
       (b, own_keys m es (subst (λ (e : Block). IsOwnCopy w a home e f (Keys m es)) same own.1) was_read)
   own_kept (Some (Whole s)) own was_read unheld = absurd (true≢false unheld)
 
@@ -120,10 +120,7 @@ not_doomed : (cs ds : List Call) (es : Entries) → ((l e : ℕ) → first_read 
     → IsDoomed cs es → ⊥
 not_doomed cs ds [] more all h = h
 not_doomed cs ds (d ∷ es) more all (inl h) =
-    h.2 (one h.0 d.1 (sym (more d.0 h.0 h.1) ∙ all.0))
-  where
-    one : (u v : ℕ) → Some u ≡ Some v → u ≡ v
-    one u v e = cc
+    h.2 (same_Some h.0 d.1 (sym (more d.0 h.0 h.1) ∙ all.0))
 not_doomed cs ds (d ∷ es) more all (inr h) = not_doomed cs ds es more all.1 h
 
 module _ {V : Type 0} where

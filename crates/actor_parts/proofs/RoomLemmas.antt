@@ -5,7 +5,7 @@ use Rattle.std.proofs.Common.{sym, ap, subst, arith}
 use Rattle.std.specs.Prelude.{option_map}
 use Rattle.std.specs.Ordering.{nat_cmp}
 use Rattle.std.specs.FinMap.{FinMap}
-use Rattle.std.proofs.lemmas.Bool.{leb-true, le-leb}
+use Rattle.std.proofs.lemmas.Bool.{leb-true, le-leb, and_parts}
 use Rattle.std.proofs.lemmas.List.FromFn.{length-range_with_len}
 use Rattle.tx_sets.specs.Entries.{Entries, lookup}
 use Rattle.tx_machine.specs.Actor.{Actor}
@@ -25,7 +25,6 @@ use Rattle.replay_log.specs.declared.base.Base.{Base}
 use Rattle.replay_log.specs.Base.{Shown, OfMap, OfBag, OfPq, OfQueue, outcome_of, reads_of, shown_of, stripes_of, writes_of}
 use Rattle.replay_log.specs.Contents.{shifted}
 use Rattle.replay_log.specs.Worlds as worlds
-use Rattle.replay_log.proofs.CallLemmas.{both_true}
 use Rattle.replay_log.proofs.CountLemmas.{filter_shorter, length-shifted}
 use Rattle.actor_parts.specs.Room.{surely_fits, takes_more}
 use Rattle.actor_parts.specs.Sizes.{HasAtMost, base_reads, base_writes, is_on_key}
@@ -45,7 +44,7 @@ surely_room x n m rs ws sure few_reads few_writes = by x.declared sure
         → (b || (worlds.fits x.reads rs && worlds.fits x.writes ws)) ≡ true
     by true sure = refl
     by false sure =
-        let both = both_true (takes_more x.reads n) (takes_more x.writes m) sure in
+        let both = and_parts (takes_more x.reads n) (takes_more x.writes m) sure in
         λ j. few_fit x.reads rs n both.0 few_reads j && few_fit x.writes ws m both.1 few_writes j
 
 -- so the locations of a collection that begins at f

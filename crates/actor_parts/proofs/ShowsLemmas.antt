@@ -13,7 +13,7 @@ use Rattle.seq_model.specs.declared.event.Notice.TheVariants.{Refused}
 use Rattle.seq_model.specs.declared.refusal.Refusal.TheVariants as refusal
 use Rattle.replay_log.specs.Worlds.{World, Seat, After, at_stage, acted, asks, actor_of, seated, loads, has_room, with_editions, with_piece}
 use Rattle.replay_log.specs.Worlds.{outcome_at, outcome_now, is_stale, Open}
-use Rattle.replay_log.specs.Contents.{Answered}
+use Rattle.replay_log.specs.Contents.{CallWithOutcome}
 use Rattle.actor_parts.specs.Shows.{cancelled, ending, GivesUp, AsksStores, put_back, CopiesForCall, ReadsNext}
 use Rattle.actor_parts.specs.Judged.{judged, left_after, comes_to}
 use Rattle.actor_parts.proofs.JudgedLemmas.{is_judged}
@@ -76,7 +76,7 @@ module _ {V : Type 0} where
       let o = outcome_at u a asked in
       let k : actor_of u a ≡ y = ap (λ (t : machine.World). t.actors a) (same_words w.boosted _ _ _) ∙ s.1 in
       let e : u.boosted.editions ≡ w.boosted.editions = same_editions w.boosted _ _ _ in
-      let sized : Actor → (ℕ → ℕ) → Answered V = λ q f. cond (is_stale q.reads (with_editions f (c.reads o))) (outcome_now u asked) o in
+      let sized : Actor → (ℕ → ℕ) → CallWithOutcome V = λ q f. cond (is_stale q.reads (with_editions f (c.reads o))) (outcome_now u asked) o in
       let now = sized (actor_of u a) u.boosted.editions in
       let p = with_piece x asked.collection (piece_at w.blocks asked) in (
         (

@@ -6,25 +6,24 @@ use Rattle.std.proofs.Common.{◌≡◌, ℕ, Bool, true, false, true≢false, [
 use Rattle.std.specs.Prelude.{is_some}
 use Rattle.std.specs.FinMap.{FinMap, empty, get-empty}
 use Rattle.std.specs.Ordering.{nat_cmp}
+use Rattle.std.proofs.lemmas.Option.{none-some, same_Some}
 use Rattle.seq_model.specs.Entries.{inserts}
 use Rattle.seq_model.specs.Counts.{Multiset}
 use Rattle.seq_model.specs.declared.call.Op.{Op}
 use Rattle.seq_model.specs.declared.call.Op.TheVariants.{Get, Put, Remove, Len, Count, Add, Take}
-use Rattle.conflict.specs.Places.{none_some}
-use Rattle.conflict.specs.Table.{Room}
+use Rattle.conflict.specs.RoomMap.{Room}
 use Rattle.conflict.specs.declared.outcome.Outcome.{Outcome}
 use Rattle.tx_machine.specs.Boosted.{PutGate}
 use Rattle.replay_log.specs.declared.base.Base.{Base}
 use Rattle.replay_log.specs.declared.touch.Touch.{Touch}
-use Rattle.replay_log.specs.declared.touch.Touched.{Touched}
+use Rattle.replay_log.specs.declared.touch.TouchedKey.{TouchedKey}
 use Rattle.replay_log.specs.Base.{Shown, OfMap, OfBag, OfPq, OfQueue, editions_of, outcome_of, shown_of, stripes_of}
-use Rattle.replay_log.specs.Contents.{Asked, Block, block_of, content}
+use Rattle.replay_log.specs.Contents.{CollectionCall, Block, block_of, content}
 use Rattle.replay_log.specs.Guards.{Allows, IsAllowed, step_action}
 use Rattle.replay_log.specs.Parts.{MapKind, BagKind, PqKind, QueueKind, kind_of}
 use Rattle.replay_log.specs.Pieces.{covers_at}
-use Rattle.replay_log.specs.Touches.{editions_at, summed_by, touched_places}
+use Rattle.replay_log.specs.Touches.{editions_at, summed_by, touched_locations}
 use Rattle.replay_log.specs.Worlds.{Copying, Stage, World, opened, run}
-use Rattle.replay_log.proofs.ContentLemmas.{same_block}
 use Rattle.replay_log.proofs.EventLemmas.{opened_linked, run_linked}
 use Rattle.replay_log.proofs.GuardLemmas.{world_allows}
 use Rattle.replay_log.proofs.SeatLemmas.{Linked}
@@ -32,16 +31,16 @@ use Rattle.actor_laws.specs.Bases.{IsBaseOf, ShowsBase, log_changes, log_locatio
 use Rattle.shadow.specs.Memo.{IsCopyBy, MemoView, holds_with, with_count, with_entry, with_total}
 use Rattle.shadow.specs.Shadow.{ShadowView}
 use Rattle.shadow.proofs.CopyLemmas.{new_copy_bag, new_copy_map}
-use Rattle.actor_parts.specs.declared.copies.Copied.{Copied}
-use Rattle.actor_parts.specs.declared.copies.Copied.TheVariants.{Keys, Whole}
-use Rattle.actor_parts.specs.declared.copies.Found.TheVariants as found
-use Rattle.actor_parts.specs.Copied.{IsReadBy, IsReadOf}
-use Rattle.actor_parts.specs.Copies.{IsFound, IsOf, holds_of, is_copied_whole}
-use Rattle.actor_parts.specs.Keeps.{IsOwnCopy}
+use Rattle.actor_parts.specs.declared.copies.PrivateCopy.{PrivateCopy}
+use Rattle.actor_parts.specs.declared.copies.PrivateCopy.TheVariants.{Keys, Whole}
+use Rattle.actor_parts.specs.declared.copies.BaseExcerpt.TheVariants as found
+use Rattle.actor_parts.specs.CopyAtGate.{IsReadBy, IsReadOf}
+use Rattle.actor_parts.specs.PrivateCopy.{IsFound, IsOf, holds_of, is_copied_whole}
+use Rattle.actor_parts.specs.CopyInWorld.{IsOwnCopy}
 use Rattle.actor_parts.specs.Owns.{IsOwn, IsUncalled}
 use Rattle.actor_parts.specs.Sizes.{SizesAs, SizesCopies}
-use Rattle.actor_parts.proofs.CopiedLemmas.{blank_editions, blank_knows}
-use Rattle.actor_parts.proofs.TakenLemmas.{base_room, copies_for, f, no_memo, read}
+use Rattle.actor_parts.proofs.CopyAtGateLemmas.{blank_editions, blank_knows}
+use Rattle.actor_parts.proofs.AfterGateLemmas.{base_room, copies_for, f, no_memo, read}
 
 abbrev no_editions : Room ℕ
 no_editions = record { contents = empty; room = 0 }
@@ -84,29 +83,29 @@ module _ {V : Type 0} where
 
   -- ---- what a call touches
   map_touches : (n : ℕ) (op : Op V) (m : FinMap nat_cmp V) (o : Outcome V) → outcome_of op (OfMap m) ≡ Some o
-      → (h : Touched V) × (summed_by n op (OfMap m) ≡ Some h)
+      → (h : TouchedKey V) × (summed_by n op (OfMap m) ≡ Some h)
   map_touches n (Get k) m o e = (_, refl)
   map_touches n (Put k v) m o e = (_, refl)
   map_touches n (Remove k) m o e = (_, refl)
   map_touches n Len m o e = (_, refl)
-  map_touches n _ m o e = absurd (none_some o e)
+  map_touches n _ m o e = absurd (none-some o e)
 
   bag_touches : (n : ℕ) (op : Op V) (m : Multiset) (o : Outcome V) → outcome_of op (OfBag m) ≡ Some o
-      → (h : Touched V) × (summed_by n op (OfBag m) ≡ Some h)
+      → (h : TouchedKey V) × (summed_by n op (OfBag m) ≡ Some h)
   bag_touches n (Count i) m o e = (_, refl)
   bag_touches n (Add i) m o e = (_, refl)
   bag_touches n (Take i) m o e = (_, refl)
-  bag_touches n _ m o e = absurd (none_some o e)
+  bag_touches n _ m o e = absurd (none-some o e)
 
   touches : (n : ℕ) (op : Op V) (s : Shown V) (o : Outcome V) → is_copied_whole (kind_of s) ≡ false → outcome_of op s ≡ Some o
-      → (h : Touched V) × (summed_by n op s ≡ Some h)
+      → (h : TouchedKey V) × (summed_by n op s ≡ Some h)
   touches n op (OfMap m) o keys e = map_touches n op m o e
   touches n op (OfBag m) o keys e = bag_touches n op m o e
   touches n op (OfPq m) o keys e = absurd (true≢false keys)
   touches n op (OfQueue m) o keys e = absurd (true≢false keys)
 
   -- a memo that has learnt it
-  abbrev with_touch : Touch V → MemoView V → Room ℕ → Copied V
+  abbrev with_touch : Touch V → MemoView V → Room ℕ → PrivateCopy V
   with_touch t m es =
       Keys
       (record m { entries = with_entry t.held m.entries; copies = with_count t.held m.copies; total = with_total t.held m.total })
@@ -125,7 +124,7 @@ module _ {V : Type 0} where
     ready = None;
   }
 
-module _ {V : Type 0} (w : World V) (a : ℕ) (b : Block) (asked : Asked V) (base : Base V) (k : Linked w)
+module _ {V : Type 0} (w : World V) (a : ℕ) (b : Block) (asked : CollectionCall V) (base : Base V) (k : Linked w)
     (st : (w.seats a).stage ≡ Copying asked) (block : block_of w.blocks asked.collection ≡ Some b) (of : IsBaseOf b base)
     (shows : ShowsBase w.words w.blocks w asked.collection base)
     (guard : Allows (content w.words w.blocks) w.boosted (PutGate a asked.collection (covers_at w.words w.blocks asked)))
@@ -140,18 +139,18 @@ module _ {V : Type 0} (w : World V) (a : ℕ) (b : Block) (asked : Asked V) (bas
 
     whole_keys : (m : MemoView V) (es : Room ℕ) → IsOwn w a asked.collection (Some (Keys m es)) → SizesAs w a asked base o
     whole_keys m es own =
-        let same : own.0 ≡ b = same_block own.0 b (sym own.1.block ∙ block) in
+        let same : own.0 ≡ b = same_Some own.0 b (sym own.1.block ∙ block) in
         let is = own.1.copied.0.2 in
         absurd (no_memo (shown_of m.blank) own.1.copied.0.0 m.entries m.copies m.total m.grown m.shrunk m.changes is.4
         (ap is_copied_whole (is.0 ∙ (ap (λ (c : Block). c.kind) same ∙ sym of.kind)) ∙ kind))
 
   -- ---- single keys
   module _ (kind : is_copied_whole (kind_of (shown_of base)) ≡ false) where
-    abbrev there : (h : Touched V) × (summed_by (stripes_of base) asked.op (shown_of base) ≡ Some h)
+    abbrev there : (h : TouchedKey V) × (summed_by (stripes_of base) asked.op (shown_of base) ≡ Some h)
     there = touches (stripes_of base) asked.op (shown_of base) o kind is_o
 
     abbrev t : Touch V
-    t = record { held = there.0; editions = editions_at (touched_places (stripes_of base) there.0) (editions_of base) }
+    t = record { held = there.0; editions = editions_at (touched_locations (stripes_of base) there.0) (editions_of base) }
 
     here : IsFound base asked.op (found.Keys t)
     here = (there.1, refl)
@@ -182,18 +181,18 @@ module _ {V : Type 0} (w : World V) (a : ℕ) (b : Block) (asked : Asked V) (bas
         (log_changes asked.collection b outcomes) (log_locations asked.collection b outcomes) is.copied.0.2 refl refl was_read
         is.copied.1 is.knows (with_touch t m es) (refl, refl, refl, refl, refl, refl, refl, refl, refl) unheld o is_o
 
-  sizes : (c : Option (Copied V)) → IsOwn w a asked.collection c → IsReadOf w a asked.collection c → holds_of c asked.op ≡ false
+  sizes : (c : Option (PrivateCopy V)) → IsOwn w a asked.collection c → IsReadOf w a asked.collection c → holds_of c asked.op ≡ false
       → SizesAs w a asked base o
   sizes c own was_read unheld = by (is_copied_whole (kind_of (shown_of base))) refl c own was_read unheld
     where
-      by : (q : Bool) → is_copied_whole (kind_of (shown_of base)) ≡ q → (c : Option (Copied V)) → IsOwn w a asked.collection c
+      by : (q : Bool) → is_copied_whole (kind_of (shown_of base)) ≡ q → (c : Option (PrivateCopy V)) → IsOwn w a asked.collection c
           → IsReadOf w a asked.collection c → holds_of c asked.op ≡ false → SizesAs w a asked base o
       by q kind (Some (Whole s)) own was_read unheld = absurd (true≢false unheld)
       by true kind None own was_read unheld = whole_none kind own was_read
       by true kind (Some (Keys m es)) own was_read unheld = whole_keys kind m es own
       by false kind None own was_read unheld = keys_none kind (own b block)
       by false kind (Some (Keys m es)) own was_read unheld =
-          let same : own.0 ≡ b = same_block own.0 b (sym own.1.block ∙ block) in
+          let same : own.0 ≡ b = same_Some own.0 b (sym own.1.block ∙ block) in
           let at = f w a b asked base k st block of shows guard in
           keys_some kind m es (subst (λ (e : Block). IsOwnCopy w a asked.collection e at (Keys m es)) same own.1) was_read unheld
 

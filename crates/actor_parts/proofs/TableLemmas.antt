@@ -15,7 +15,7 @@ use Rattle.std.proofs.lemmas.Bool.{cases_eq, cond-true, cond-false}
 use Rattle.vlock_word.specs.LockWord.{unbits}
 use Rattle.vlock_word.proofs.LockWordLemmas.{unbits_bits}
 use Rattle.tx_machine.specs.World as machine
-use Rattle.tx_machine.specs.World.{Outcome, GoesOn, Commits, Aborts, outcome, put}
+use Rattle.tx_machine.specs.World.{StepEnd, GoesOn, Commits, Aborts, step_end, put}
 use Rattle.tx_machine.specs.Cells.{Cell, ClockCell, LockCell, ValueCell}
 use Rattle.tx_machine.proofs.Sets.{put-same, put-other}
 use Rattle.tx_machine.specs.Boosted.{Boosted, TakeGate, PutGate, is_actor, is_none, is_committing, recorded, shadows_after, gated}
@@ -27,25 +27,25 @@ use Rattle.step_core.specs.declared.actor.Actor.{Actor}
 use Rattle.step_core.proofs.Lists.{Answer, length_set}
 use Rattle.replay_log.specs.declared.base.Base.{Base}
 use Rattle.replay_log.specs.Base.{Shown}
-use Rattle.replay_log.specs.Contents.{Answered, Block, HaveStripes, block_of, content, home_of}
+use Rattle.replay_log.specs.Contents.{CallWithOutcome, Block, HaveStripes, block_of, content, home_of}
 use Rattle.replay_log.specs.Worlds.{happens, opened, run}
 use Rattle.replay_log.specs.Seats.{World, acted, actor_of, moves, word_notice}
 use Rattle.actor_laws.specs.Bases.{IsBaseOf, IsFolded, ShowsBase, log_changes, log_locations}
 use Rattle.actor_laws.specs.Gates.{GoesHome}
-use Rattle.actor_laws.specs.Spots.{Word, Gate, spot_at, spot_by}
+use Rattle.actor_laws.specs.StepTargets.{Word, Gate, spot_at, spot_by}
 use Rattle.actor_laws.specs.Steps.{OnlyOwn, ready_at}
 use Rattle.actor_laws.proofs.Alike.{alike_same}
 use Rattle.actor_laws.proofs.Bases as bases
 use Rattle.actor_laws.proofs.Guards.{home_allowed}
 use Rattle.actor_laws.proofs.Others.{others}
-use Rattle.actor_laws.proofs.Spots.{one_spot}
-use Rattle.actor_laws.proofs.Turned.{home_turned}
+use Rattle.actor_laws.proofs.StepTargets.{one_spot}
+use Rattle.actor_laws.proofs.StepResult.{home_turned}
 use Rattle.actor_parts.specs.Tables.{HasTable, holder}
 use Rattle.actor_parts.specs.declared.table.Table.{Table}
 
 -- taking note of what a step ends leaves the words, the gates and the bases
 module _ {X Out : Type 0} where
-  noted : (P : Boosted X Out → Type 0) (s : Boosted X Out) (os : List Out) (o : Outcome)
+  noted : (P : Boosted X Out → Type 0) (s : Boosted X Out) (os : List Out) (o : StepEnd)
       → ((t : Boosted X Out) → t.words ≡ s.words → t.gates ≡ s.gates → t.parts ≡ s.parts → t.editions ≡ s.editions → P t)
       → P (recorded s os o)
   noted P s os GoesOn by = by s refl refl refl refl
@@ -68,12 +68,12 @@ module _ {V : Type 0} where
   steps_words t u x y r on gs bs w a h e =
       let s = w.boosted in
       let st = on s.words a h.cells e in
-      let after : Boosted (Shown V) (Answered V) = record s {
+      let after : Boosted (Shown V) (CallWithOutcome V) = record s {
         words = machine.step s.words a (s.words.actors a) (s.words.actors a).place;
         shadows = shadows_after s a (s.words.actors a).place;
       } in
       noted (λ b. HasTable u (record w { boosted = b }) × (b.words.actors a ≡ words.actor_of y) × (r ≡ result_of (word_notice w a)))
-      after (s.shadows a).outcomes (outcome a (s.words.actors a) (s.words.actors a).place)
+      after (s.shadows a).outcomes (step_end a (s.words.actors a) (s.words.actors a).place)
       (λ b same gates parts editions. (
         record {
           cells = subst (AreCells u.cells) (sym same) st.0;
@@ -94,7 +94,7 @@ module _ {V : Type 0} where
       → is_committing (actor_of w a).place ≡ false
       → HasTable u (acted w (TakeGate a k ∷ [])) × (true ≡ is_none (w.boosted.gates k))
   takes_free t u k a cs bs gs inn some free w h quiet = (
-    subst (λ (b : Boosted (Shown V) (Answered V)). HasTable u (record w { boosted = b })) (sym turn)
+    subst (λ (b : Boosted (Shown V) (CallWithOutcome V)). HasTable u (record w { boosted = b })) (sym turn)
         (record {
           cells = subst (λ z. AreCells z w.boosted.words) (sym cs) h.cells;
           gates = λ j low. gate j (subst (λ z. j < length z) gs low);
@@ -127,7 +127,7 @@ module _ {V : Type 0} where
       → HasTable t w → is_committing (actor_of w a).place ≡ false
       → HasTable t (acted w (TakeGate a k ∷ [])) × (false ≡ is_none (w.boosted.gates k))
   takes_held t k a inn held w h quiet = (
-    subst (λ (b : Boosted (Shown V) (Answered V)). HasTable t (record w { boosted = b })) (sym turn)
+    subst (λ (b : Boosted (Shown V) (CallWithOutcome V)). HasTable t (record w { boosted = b })) (sym turn)
         (record { cells = h.cells; gates = h.gates; bases = h.bases }),
     sym taken,
   )
@@ -145,7 +145,7 @@ module _ {V : Type 0} where
       → k < length t.gates.items → (w : World V) (a : ℕ) (which : ℕ → Bool) → HasTable t w → is_actor a (w.boosted.gates k) ≡ true
       → is_committing (actor_of w a).place ≡ false → HasTable u (acted w (PutGate a k which ∷ []))
   puts_back t u k cs bs gs inn w a which h own quiet =
-      subst (λ (b : Boosted (Shown V) (Answered V)). HasTable u (record w { boosted = b })) (sym turn)
+      subst (λ (b : Boosted (Shown V) (CallWithOutcome V)). HasTable u (record w { boosted = b })) (sym turn)
       (record {
         cells = subst (λ z. AreCells z w.boosted.words) (sym cs) h.cells;
         gates = λ j low. gate j (subst (λ z. j < length z) gs low);

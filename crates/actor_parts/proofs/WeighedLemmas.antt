@@ -15,11 +15,11 @@ use Rattle.replay_log.specs.Contents.{Block}
 use Rattle.replay_log.specs.Parts.{kind_of}
 use Rattle.replay_log.specs.Worlds.{is_known}
 use Rattle.shadow.specs.Memo.{answer_with, holds_with}
-use Rattle.actor_parts.specs.declared.copies.Copied.{Copied}
-use Rattle.actor_parts.specs.declared.copies.Copied.TheVariants.{Keys, Whole}
-use Rattle.actor_parts.specs.Copies.{answer_of, holds_call}
-use Rattle.actor_parts.specs.Footprints.{base_in, places_in, reads_in}
-use Rattle.actor_parts.proofs.CopiedLemmas.{known_at}
+use Rattle.actor_parts.specs.declared.copies.PrivateCopy.{PrivateCopy}
+use Rattle.actor_parts.specs.declared.copies.PrivateCopy.TheVariants.{Keys, Whole}
+use Rattle.actor_parts.specs.PrivateCopy.{answer_of, holds_call}
+use Rattle.actor_parts.specs.Footprints.{base_in, location_count, reads_in}
+use Rattle.actor_parts.proofs.CopyAtGateLemmas.{known_at}
 use Rattle.actor_parts.proofs.FootprintLemmas.{all_alike, reads_below}
 
 pub only_memory : {A : Type 0} → (cause : Refusal) (o : Option A) → IsRefusal cause (o ≡ None) → IsSome o → (cause ≡ OutOfMemory → ⊥) → ⊥
@@ -28,8 +28,8 @@ only_memory OutOfMemory o refused some isnt = isnt refl
 only_memory _ o refused some isnt = refused
 
 module _ {V : Type 0} where
-  pub key_below : (c : Copied V) (o : Outcome V) (l : ℕ) → 0 < stripes_of (base_in c) → reads_in c o ≡ l ∷ [] → l < places_in c
-  key_below c o l pos e = all_alike (λ (i : ℕ). i < places_in c) (reads_in c o) (l ∷ []) e (reads_below c o pos) 0 l (omega arith)
+  pub key_below : (c : PrivateCopy V) (o : Outcome V) (l : ℕ) → 0 < stripes_of (base_in c) → reads_in c o ≡ l ∷ [] → l < location_count c
+  key_below c o l pos e = all_alike (λ (i : ℕ). i < location_count c) (reads_in c o) (l ∷ []) e (reads_below c o pos) 0 l (omega arith)
 
   keys_answer : (s : Shown V) (es : FinMap nat_cmp (Option V)) (cs : FinMap nat_cmp ℕ) (total : Option ℕ) (grown shrunk : ℕ) (op : Op V)
       → holds_with s es cs total op ≡ true → IsSome (answer_with s es cs total grown shrunk op)
@@ -43,7 +43,7 @@ module _ {V : Type 0} where
   keys_answer s es cs total grown shrunk op h = absurd (true≢false (sym h))
 
   -- a copy of a block answers what it holds
-  pub held_answers : (b : Block) (c : Copied V) (op : Op V) → 0 < b.stripes → kind_of (shown_of (base_in c)) ≡ b.kind
+  pub held_answers : (b : Block) (c : PrivateCopy V) (op : Op V) → 0 < b.stripes → kind_of (shown_of (base_in c)) ≡ b.kind
       → is_known (Some b) op ≡ true → holds_call c op ≡ true → IsSome (answer_of c op)
   held_answers b (Keys m es) op pos kind known holds =
       keys_answer (shown_of m.blank) m.entries m.copies m.total m.grown m.shrunk op holds

@@ -5,7 +5,7 @@ use Rattle.tx_machine.specs.Actor.{Actor}
 use Rattle.tx_machine.specs.Requests as word
 use Rattle.tx_machine.specs.Requests.{ask}
 use Rattle.tx_machine.specs.Boosted.{Accept, PutGate, copied, is_open, longer}
-use Rattle.replay_log.specs.Contents.{Asked, content}
+use Rattle.replay_log.specs.Contents.{CollectionCall, content}
 use Rattle.replay_log.specs.Guards.{Allows}
 use Rattle.replay_log.specs.Pieces.{covers_at}
 use Rattle.replay_log.specs.Worlds.{World, acted, actor_of, outcome_at}
@@ -18,7 +18,7 @@ written y editions (l ∷ ls) = written (ask y y.place (word.AskWrite l (edition
 
 abbrev pub Accepts : Type 0 → Type 0
 Accepts V =
-    (a : ℕ) (w : World V) (asked : Asked V) →
+    (a : ℕ) (w : World V) (asked : CollectionCall V) →
     let c = content w.words w.blocks in
     let x = w.boosted.shadows a in
     let o = outcome_at w a asked in
@@ -29,7 +29,7 @@ Accepts V =
 -- the store of a call's gate, at which the parts that it touches are copied, but for those that have been read
 abbrev pub PutsBack : Type 0 → Type 0
 PutsBack V =
-    (a : ℕ) (w : World V) (asked : Asked V) →
+    (a : ℕ) (w : World V) (asked : CollectionCall V) →
     let c = content w.words w.blocks in
     let which = covers_at w.words w.blocks asked in
     Allows c w.boosted (PutGate a asked.collection which) → is_open (actor_of w a).place ≡ true

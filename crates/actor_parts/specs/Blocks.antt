@@ -8,7 +8,7 @@ use Rattle.replay_log.specs.Parts as parts
 use Rattle.replay_log.specs.Worlds.{World, all_of, distinct}
 use Rattle.seq_model.specs.declared.kind.Kind.{Kind}
 use Rattle.seq_model.specs.declared.kind.Kind.TheVariants as kind
-use Rattle.actor_parts.specs.declared.blocks.Placed.{Placed}
+use Rattle.actor_parts.specs.declared.blocks.BlockSpan.{BlockSpan}
 use Rattle.actor_parts.specs.declared.blocks.TheConstants.{COLLECTION_LIMIT, TABLE_LIMIT}
 
 -- The number of plain words, and the block of each collection after them.
@@ -22,11 +22,11 @@ kind_of kind.Bag = parts.BagKind
 kind_of kind.Pq = parts.PqKind
 kind_of kind.Queue = parts.QueueKind
 
-abbrev pub block_of : Placed → Block
+abbrev pub block_of : BlockSpan → Block
 block_of p = record { kind = kind_of p.kind; stripes = p.stripes }
 
 -- each block begins where the one before it ends, and the first one at w
-abbrev pub AreEnds : ℕ → List Placed → Type 0
+abbrev pub AreEnds : ℕ → List BlockSpan → Type 0
 AreEnds w [] = Unit {0}
 AreEnds w (p ∷ ps) = (p.end ≡ w + size (block_of p)) × AreEnds p.end ps
 

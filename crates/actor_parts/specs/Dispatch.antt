@@ -11,7 +11,7 @@ use Rattle.step_core.specs.declared.answer.WordRefusal.{WordRefusal}
 use Rattle.step_core.specs.declared.answer.WordRefusal.TheVariants as stop
 use Rattle.step_core.specs.Answers.{result_of}
 use Rattle.tx_machine.specs.Boosted.{Action, TakeGate, PutGate, GoHome, every, is_given, is_none}
-use Rattle.replay_log.specs.Contents.{Asked, content}
+use Rattle.replay_log.specs.Contents.{CollectionCall, content}
 use Rattle.replay_log.specs.Guards.{step_action}
 use Rattle.replay_log.specs.Worlds as worlds
 use Rattle.replay_log.specs.Worlds.{World, Seat, Stage, After, acted, asks, moves, actor_of, word_notice, seated, recorded, no_one}
@@ -143,7 +143,7 @@ module _ {V : Type 0} where
   next_of stage = next.Word
 
   -- this is what the next step of a does
-  abbrev pub IsDue : ℕ → Next → Option (Action (Asked V)) → Type 0
+  abbrev pub IsDue : ℕ → Next → Option (Action (CollectionCall V)) → Type 0
   IsDue a next.Nothing None = Unit {0}
   IsDue a next.Word (Some e) = e ≡ moves a
   IsDue a (next.TryGate k) (Some e) = e ≡ TakeGate a k

@@ -5,7 +5,7 @@ use Rattle.tx_machine.specs.Requests as word
 use Rattle.seq_model.specs.declared.refusal.Refusal.TheVariants as refusal
 use Rattle.seq_model.specs.declared.event.Notice.TheVariants.{Quiet}
 use Rattle.tx_machine.specs.Boosted.{Accept}
-use Rattle.replay_log.specs.Contents.{Answered}
+use Rattle.replay_log.specs.Contents.{CallWithOutcome}
 use Rattle.replay_log.specs.Worlds.{World, Seat, After, Loading, at_stage, because, seated, acted, asks, actor_of, gives_up, replied}
 use Rattle.replay_log.specs.Worlds.{call_of, reply_of, loads}
 use Rattle.actor_parts.specs.declared.judged.Judged.{Judged}
@@ -31,7 +31,7 @@ left_after reads (d ∷ es) = left_one d es (left_after reads es) (lookup reads 
 
 -- what the call results in then, in a world whose actor a is the seat x
 module _ {V : Type 0} where
-  abbrev pub comes_to : World V → ℕ → Seat V → Answered V → Entries → Judged → After V
+  abbrev pub comes_to : World V → ℕ → Seat V → CallWithOutcome V → Entries → Judged → After V
   comes_to w a x o left All = replied (acted w (Accept a o.asked ∷ [])) a x (call_of o) (reply_of o)
   comes_to w a x o left (Next l) = (seated (acted w (asks a (word.AskRead l) ∷ [])) a (at_stage x (Loading o left)), Quiet)
   comes_to w a x o left (Stale l b v) = gives_up w a (because x (refusal.Stale l b v)) []
@@ -39,5 +39,5 @@ module _ {V : Type 0} where
 -- it is what the world makes of the call
 abbrev pub IsJudged : Type 0 → Type 0
 IsJudged V =
-    (w : World V) (a : ℕ) (x : Seat V) (o : Answered V) (es : Entries)
+    (w : World V) (a : ℕ) (x : Seat V) (o : CallWithOutcome V) (es : Entries)
     → loads w a x o es ≡ comes_to w a x o (left_after (actor_of w a).reads es) (judged (actor_of w a).reads es)

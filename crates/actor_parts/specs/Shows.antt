@@ -9,7 +9,7 @@ use Rattle.seq_model.specs.declared.event.Notice.{Notice}
 use Rattle.seq_model.specs.declared.event.Notice.TheVariants.{Quiet, Refused}
 use Rattle.seq_model.specs.declared.refusal.Refusal.TheVariants as refusal
 use Rattle.tx_machine.specs.Boosted.{PutGate, every, is_held}
-use Rattle.replay_log.specs.Contents.{Asked, content}
+use Rattle.replay_log.specs.Contents.{CollectionCall, content}
 use Rattle.replay_log.specs.Worlds.{World, Seat, After, Leaving, Cancelling, Loading, is_leaving, at_stage, acted, asks, moves, actor_of}
 use Rattle.replay_log.specs.Worlds.{word_notice, gives_up, recorded, stores, has_stored, has_room, with_editions, with_piece, outcome_at}
 use Rattle.replay_log.specs.Worlds.{outcome_now, is_stale, has_copied, seated, Open}
@@ -17,7 +17,7 @@ use Rattle.replay_log.specs.Pieces.{piece_at, covers_at}
 use Rattle.actor_parts.specs.Judged.{judged, left_after, comes_to}
 use Rattle.actor_parts.specs.declared.judged.Judged.{Judged}
 use Rattle.actor_parts.specs.declared.judged.Judged.TheVariants.{All, Next, Stale}
-use Rattle.replay_log.specs.Contents.{Answered}
+use Rattle.replay_log.specs.Contents.{CallWithOutcome}
 
 -- the word actor after a cancel and an abort
 abbrev pub cancelled : Actor → Actor
@@ -54,7 +54,7 @@ AsksStores V =
     (word_notice (acted w (asks a word.AskStore ∷ [])) a))
 
 -- The store of a call's gate: the world with what was copied. Its actor's seat and word actor stand, and so do the editions of the bases.
-abbrev pub put_back : {V : Type 0} → ℕ → World V → Asked V → World V
+abbrev pub put_back : {V : Type 0} → ℕ → World V → CollectionCall V → World V
 put_back a w asked = acted w (PutGate a asked.collection (covers_at w.words w.blocks asked) ∷ [])
 
 -- What a call results in there: its locations are judged with the editions of the base, and the piece counts as copied; one whose locations
@@ -62,7 +62,7 @@ put_back a w asked = acted w (PutGate a asked.collection (covers_at w.words w.bl
 -- the new copy.
 abbrev pub CopiesForCall : Type 0 → Type 0
 CopiesForCall V =
-    (a : ℕ) (x : Seat V) (y : Actor) (w : World V) (asked : Asked V) → Shows a x y w →
+    (a : ℕ) (x : Seat V) (y : Actor) (w : World V) (asked : CollectionCall V) → Shows a x y w →
     let u = put_back a w asked in
     let c = content w.words w.blocks in
     let o = outcome_at u a asked in
@@ -83,6 +83,6 @@ actor_after (Stale l b v) y = cancelled y
 -- a location that no set has is read next
 abbrev pub ReadsNext : Type 0 → Type 0
 ReadsNext V =
-    (a : ℕ) (x : Seat V) (y : Actor) (w : World V) (o : Answered V) (left : Entries) (l : ℕ)
+    (a : ℕ) (x : Seat V) (y : Actor) (w : World V) (o : CallWithOutcome V) (left : Entries) (l : ℕ)
     → y.place ≡ AtRest → lookup y.writes l ≡ None → lookup y.reads l ≡ None
     → Follows a x y (at_stage x (Loading o left)) (actor_after (Next l) y) Quiet w (comes_to w a x o left (Next l))

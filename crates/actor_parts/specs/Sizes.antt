@@ -9,13 +9,13 @@ use Rattle.seq_model.specs.declared.held.Held.{Held}
 use Rattle.conflict.specs.declared.outcome.Outcome.{Outcome}
 use Rattle.replay_log.specs.declared.base.Base.{Base}
 use Rattle.replay_log.specs.Base.{Shown, OfMap, OfBag, locations_of, outcome_of, reads_of, shown_of, stripes_of, writes_of}
-use Rattle.replay_log.specs.Contents.{Asked, Block, HaveStripes, block_of, content, first_of, shifted}
+use Rattle.replay_log.specs.Contents.{CollectionCall, Block, HaveStripes, block_of, content, first_of, shifted}
 use Rattle.replay_log.specs.Worlds.{Copying, World, actor_of, has_room, opened, outcome_at, run, sized_by}
 use Rattle.actor_laws.specs.Bases.{IsBaseOf, ShowsBase}
 use Rattle.actor_parts.specs.Shows.{put_back}
-use Rattle.actor_parts.specs.declared.copies.Copied.{Copied}
-use Rattle.actor_parts.specs.Copied.{IsReadOf}
-use Rattle.actor_parts.specs.Copies.{holds_of}
+use Rattle.actor_parts.specs.declared.copies.PrivateCopy.{PrivateCopy}
+use Rattle.actor_parts.specs.CopyAtGate.{IsReadOf}
+use Rattle.actor_parts.specs.PrivateCopy.{holds_of}
 use Rattle.actor_parts.specs.Owns.{IsOwn}
 
 module _ {V : Type 0} where
@@ -45,7 +45,7 @@ module _ {V : Type 0} where
 
   -- The outcome by which the definitions size a call of actor a, once its gate is put back, fits the sets where this outcome on the base
   -- does.
-  abbrev pub SizesAs : World V → (a : ℕ) → Asked V → Base V → Outcome V → Type 0
+  abbrev pub SizesAs : World V → (a : ℕ) → CollectionCall V → Base V → Outcome V → Type 0
   SizesAs w a asked base o =
       let u = put_back a w asked in
       let c = content w.words w.blocks in
@@ -59,7 +59,7 @@ module _ {V : Type 0} where
 abbrev pub SizesCopies : Type 0 → Type 0
 SizesCopies V =
     (blocks : List Block) (clock : ℕ) (values : List ℕ) (held : List (Held V)) (events : List (Event V)) (a : ℕ) (b : Block)
-    (asked : Asked V) (base : Base V) (c : Option (Copied V)) (o : Outcome V) → HaveStripes blocks →
+    (asked : CollectionCall V) (base : Base V) (c : Option (PrivateCopy V)) (o : Outcome V) → HaveStripes blocks →
     let w = run (opened blocks clock values held) events in
     (w.seats a).stage ≡ Copying asked → block_of w.blocks asked.collection ≡ Some b → IsBaseOf b base
     → ShowsBase w.words w.blocks w asked.collection base → IsOwn w a asked.collection c → IsReadOf w a asked.collection c

@@ -4,7 +4,7 @@ use Rattle.seq_model.specs.declared.call.Op.{Op}
 use Rattle.conflict.specs.declared.outcome.Outcome.{Outcome}
 use Rattle.replay_log.specs.declared.base.Base.{Base}
 use Rattle.replay_log.specs.declared.touch.Touch.{Touch}
-use Rattle.replay_log.specs.declared.touch.Touched.TheVariants as touched
+use Rattle.replay_log.specs.declared.touch.TouchedKey.TheVariants as touched
 use Rattle.replay_log.specs.Base.{OfMap, shown_of}
 use Rattle.replay_log.specs.Touches.{summed_by}
 use Rattle.std.specs.FinMap.{FinMap, get}
@@ -14,14 +14,14 @@ use Rattle.replay_log.specs.Parts.{kind_of}
 use Rattle.replay_log.specs.Worlds as worlds
 use Rattle.step_core.specs.Shown as words
 use Rattle.step_core.specs.declared.actor.Actor.{Actor}
-use Rattle.actor_parts.specs.declared.copies.Copied.{Copied}
-use Rattle.actor_parts.specs.declared.copies.CopyOf.{CopyOf}
-use Rattle.actor_parts.specs.declared.copies.Found.{Found}
-use Rattle.actor_parts.specs.Copied.{IsTaken}
-use Rattle.actor_parts.specs.Copies.{IsForgotten, IsFound, holds_of}
+use Rattle.actor_parts.specs.declared.copies.PrivateCopy.{PrivateCopy}
+use Rattle.actor_parts.specs.declared.copies.CopyOfCollection.{CopyOfCollection}
+use Rattle.actor_parts.specs.declared.copies.BaseExcerpt.{BaseExcerpt}
+use Rattle.actor_parts.specs.CopyAtGate.{IsTaken}
+use Rattle.actor_parts.specs.PrivateCopy.{IsForgotten, IsFound, holds_of}
 use Rattle.actor_parts.specs.Sizes.{base_reads, base_writes}
-use Rattle.actor_parts.specs.Footprints.{IsPlaceOf, base_in}
-use Rattle.actor_parts.specs.Kept.{AreKept, HaveSame, copy_of}
+use Rattle.actor_parts.specs.Footprints.{IsPositionOf, base_in}
+use Rattle.actor_parts.specs.CopyList.{AreKept, HaveSame, copy_of}
 
 module _ {V : Type 0} where
   -- whether the locations of a call on the base itself fit the sets of a transaction; the collection begins at location f
@@ -38,50 +38,50 @@ module _ {V : Type 0} where
   IsOnKey k op = (n : ℕ) (m : FinMap nat_cmp V) → summed_by n op (OfMap m) ≡ Some (touched.Entry k (get m k))
 
   -- the copy of a collection with this in place of what there was
-  abbrev pub copy_with : ℕ → Copied V → CopyOf V
+  abbrev pub copy_with : ℕ → PrivateCopy V → CopyOfCollection V
   copy_with k c = record { collection = k; copied = c }
 
   -- what was found is learnt
-  abbrev pub IsAdded : Found V → Copied V → Copied V → Type 0
+  abbrev pub IsAdded : BaseExcerpt V → PrivateCopy V → PrivateCopy V → Type 0
   IsAdded x c d = (n : ℕ) → IsTaken n x (Some c) d
 
   -- a first copy of what was found of collection k, in n stripes, joins the others
-  abbrev pub IsPushed : (n k : ℕ) → Found V → (before now : List (CopyOf V)) → Type 0
-  IsPushed n k x before now = (c : Copied V) × IsTaken n x None c × (now ≡ before ++ copy_with k c ∷ [])
+  abbrev pub IsPushed : (n k : ℕ) → BaseExcerpt V → (before now : List (CopyOfCollection V)) → Type 0
+  IsPushed n k x before now = (c : PrivateCopy V) × IsTaken n x None c × (now ≡ before ++ copy_with k c ∷ [])
 
   -- The copies with c for collection k, which stands at place i: in the place of what there was, or after the others.
-  abbrev pub IsPutAt : (k : ℕ) (c : Copied V) (i : ℕ) (before now : List (CopyOf V)) → Option (Copied V) → Type 0
+  abbrev pub IsPutAt : (k : ℕ) (c : PrivateCopy V) (i : ℕ) (before now : List (CopyOfCollection V)) → Option (PrivateCopy V) → Type 0
   IsPutAt k c i before now None = (i ≡ length before) × (now ≡ before ++ copy_with k c ∷ [])
-  IsPutAt k c i before now (Some d) = IsPlaceOf before k (Some i) × (now ≡ slice_set before i (copy_with k c))
+  IsPutAt k c i before now (Some d) = IsPositionOf before k (Some i) × (now ≡ slice_set before i (copy_with k c))
 
   -- The copy at place i forgot what the call touches, and the others are as they were.
-  pub record Forgets (i : ℕ) (op : Op V) (before now : List (CopyOf V)) : Type 0 where
-    pub copy : CopyOf V
-    pub copied : Copied V
+  pub record Forgets (i : ℕ) (op : Op V) (before now : List (CopyOfCollection V)) : Type 0 where
+    pub copy : CopyOfCollection V
+    pub copied : PrivateCopy V
     pub at : slice_get before i ≡ Some copy
     pub forgot : IsForgotten op copy.copied copied
     pub is : now ≡ slice_set before i (copy_with copy.collection copied)
 
   -- What is at place i forgets what the call touches where it is among the first n, and goes where it is not.
-  abbrev pub TakesBack : (n i : ℕ) (op : Op V) (before now : List (CopyOf V)) → Type 0
+  abbrev pub TakesBack : (n i : ℕ) (op : Op V) (before now : List (CopyOfCollection V)) → Type 0
   TakesBack n i op before now = (i < n → Forgets i op before now) × (n ≤ i → now ≡ take n before)
 
 -- What was found of collection k, in n stripes, is taken: there is a copy of it at place i.
-pub record IsTakenAt {V : Type 0} (n k : ℕ) (x : Found V) (i : ℕ) (before now : List (CopyOf V)) : Type 0 where
-  pub copy : Copied V
+pub record IsTakenAt {V : Type 0} (n k : ℕ) (x : BaseExcerpt V) (i : ℕ) (before now : List (CopyOfCollection V)) : Type 0 where
+  pub copy : PrivateCopy V
   pub taken : IsTaken n x (copy_of before k) copy
   pub put : IsPutAt k copy i before now (copy_of before k)
 
 -- What was taken for a call that is not made, was made ready, and is taken back leaves the pieces that there were.
 abbrev pub TakenBack : Type 0 → Type 0
 TakenBack V =
-    (n k i : ℕ) (op : Op V) (base : Base V) (x : Found V) (before now ready after : List (CopyOf V)) → IsFound base op x
-    → ((c : Copied V) → copy_of before k ≡ Some c → kind_of (shown_of (base_in c)) ≡ kind_of (shown_of base))
+    (n k i : ℕ) (op : Op V) (base : Base V) (x : BaseExcerpt V) (before now ready after : List (CopyOfCollection V)) → IsFound base op x
+    → ((c : PrivateCopy V) → copy_of before k ≡ Some c → kind_of (shown_of (base_in c)) ≡ kind_of (shown_of base))
     → holds_of (copy_of before k) op ≡ false → IsTakenAt n k x i before now → AreKept now ready
     → TakesBack (length before) i op ready after → HaveSame before after
 
 -- What the call touches of the base of collection k, in n stripes, is taken: there is a copy of it at place i.
-pub record IsTakenFrom {V : Type 0} (n k : ℕ) (base : Base V) (op : Op V) (i : ℕ) (before now : List (CopyOf V)) : Type 0 where
-  pub found : Found V
+pub record IsTakenFrom {V : Type 0} (n k : ℕ) (base : Base V) (op : Op V) (i : ℕ) (before now : List (CopyOfCollection V)) : Type 0 where
+  pub found : BaseExcerpt V
   pub is : IsFound base op found
   pub at : IsTakenAt n k found i before now

@@ -10,7 +10,7 @@ use Rattle.tx_machine.specs.Boosted.{is_none}
 use Rattle.replay_log.specs.Worlds.{new_in}
 use Rattle.step_core.specs.declared.actor.Actor.{Actor}
 use Rattle.step_core.specs.declared.actor.Place.TheVariants as place
-use Rattle.actor_parts.specs.declared.copies.Copied.{Copied}
+use Rattle.actor_parts.specs.declared.copies.PrivateCopy.{PrivateCopy}
 use Rattle.actor_parts.specs.Footprints.{known_edition}
 
 -- the word actor after these writes
@@ -19,7 +19,7 @@ written_as y [] = y
 written_as y (d ∷ ds) = written_as (ask y y.place (word.AskWrite d.0 d.1)) ds
 
 -- locations of a collection that begins at location f, each with the edition after the copied one
-abbrev pub with_next : {V : Type 0} → Copied V → (f : ℕ) → List ℕ → Entries
+abbrev pub with_next : {V : Type 0} → PrivateCopy V → (f : ℕ) → List ℕ → Entries
 with_next c f [] = []
 with_next c f (l ∷ ls) = (f + l, known_edition c l + 1) ∷ with_next c f ls
 

@@ -29,14 +29,14 @@ fn more_locations(kind: Kind) -> u64
 
 /// The block of a collection.
 #[derive(Clone, Copy)]
-pub struct Placed {
+pub struct BlockSpan {
     pub kind: Kind,
     pub stripes: u32,
     /// The location after its last one.
     pub end: u32,
 }
 
-impl Placed {
+impl BlockSpan {
     ghost use Rattle.std.specs.Prelude.{◌<◌, ◌^◌};
     ghost use Rattle.replay_log.specs.Contents.{size};
     ghost use Rattle.actor_parts.specs.Blocks.{block_of};
@@ -56,7 +56,7 @@ impl Placed {
 #[derive(Drop)]
 pub struct Blocks {
     words: u32,
-    placed: Vec<Placed>,
+    placed: Vec<BlockSpan>,
 }
 
 impl Model for Blocks {
@@ -147,7 +147,7 @@ impl Blocks {
             return Err(Refusal::TooLong);
         }
         let end = end as u32;
-        self.placed.push(Placed { kind, stripes, end })?;
+        self.placed.push(BlockSpan { kind, stripes, end })?;
         Ok(())
     }
 

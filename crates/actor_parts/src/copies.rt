@@ -4,8 +4,8 @@ ghost use Rattle.seq_model.specs.Calls.{IsRefusal};
 ghost use Rattle.seq_model.specs.Entries.{inserts};
 ghost use Rattle.replay_log.specs.Base.{IsPreparedFor, StaysPrepared, after, editions_of, locations_of, shown_of, stripes_of};
 ghost use Rattle.replay_log.specs.Log.{AreRaised};
-ghost use Rattle.actor_parts.specs.Copies.{IsAccepted, IsForgotten, IsFound, IsKept, IsLearnt, IsReady, answer_of, changes_in, holds_call};
-ghost use Rattle.actor_parts.specs.Copies.{locations_in};
+ghost use Rattle.actor_parts.specs.PrivateCopy.{IsAccepted, IsForgotten, IsFound, IsKept, IsLearnt, IsReady, answer_of, changes_in, holds_call};
+ghost use Rattle.actor_parts.specs.PrivateCopy.{locations_in};
 ghost use Rattle.actor_parts.specs.Taking.{key_touch};
 
 use crate::boxed::Boxed;
@@ -18,7 +18,7 @@ use std::alloc::Global;
 
 /// What a transaction has of one collection, with the changes of its own accepted calls. It moves as pointers.
 #[derive(Drop)]
-pub enum Copied<V> {
+pub enum PrivateCopy<V> {
     /// Of a map or a multiset what was touched, with the edition of each location that it was copied from.
     Keys(Boxed<Memo<V>>, Boxed<FewKeys<u64>>),
     /// Of a priority queue or a queue the whole.
@@ -27,19 +27,19 @@ pub enum Copied<V> {
 
 /// What a transaction has of this collection.
 #[derive(Drop)]
-pub struct CopyOf<V> {
+pub struct CopyOfCollection<V> {
     pub collection: u32,
-    pub copied: Copied<V>,
+    pub copied: PrivateCopy<V>,
 }
 
-impl<V: Value> Copied<V> {
+impl<V: Value> PrivateCopy<V> {
     /// Whether it has what the call touches. It takes no memory.
     pub fn holds(&self, op: &Op<V>) -> bool
         ensures { result ≡ holds_call self.now op.now }
     {
         match self {
-            Copied::Keys(memo, _) => memo.get().holds(op),
-            Copied::Whole(_) => true,
+            PrivateCopy::Keys(memo, _) => memo.get().holds(op),
+            PrivateCopy::Whole(_) => true,
         }
     }
 
@@ -51,8 +51,8 @@ impl<V: Value> Copied<V> {
         ensures refused { IfErr result (λ refusal. IsRefusal refusal (answer_of self.now op.now ≡ None)) }
     {
         match self {
-            Copied::Keys(memo, _) => memo.get().answer_into(op, outcome),
-            Copied::Whole(shadow) => {
+            PrivateCopy::Keys(memo, _) => memo.get().answer_into(op, outcome),
+            PrivateCopy::Whole(shadow) => {
                 *outcome = Some(shadow.get().answer(op)?);
                 Ok(())
             }
@@ -68,13 +68,13 @@ impl<V: Value> Copied<V> {
     {
         let Touch { editions, held } = touch;
         match self {
-            Copied::Keys(memo, known) => {
+            PrivateCopy::Keys(memo, known) => {
                 let known = known.get_mut();
                 known.reserve(editions.as_slice().len())?;
                 memo.get_mut().add_held(held)?;
                 keep_editions(known, editions.as_slice());
             }
-            Copied::Whole(_) => {}
+            PrivateCopy::Whole(_) => {}
         }
         Ok(editions)
     }
@@ -92,13 +92,13 @@ impl<V: Value> Copied<V> {
         ensures err { OnErr result (IsKept self.old self.new) }
     {
         match self {
-            Copied::Keys(memo, known) => {
+            PrivateCopy::Keys(memo, known) => {
                 let known = known.get_mut();
                 known.reserve(1)?;
                 memo.get_mut().add_entry(key, value)?;
                 known.insert_reserved(location as u64, edition);
             }
-            Copied::Whole(_) => {}
+            PrivateCopy::Whole(_) => {}
         }
         Ok(())
     }
@@ -109,8 +109,8 @@ impl<V: Value> Copied<V> {
         ensures { IsForgotten op.now self.old self.new }
     {
         match self {
-            Copied::Keys(memo, _) => memo.get_mut().forget(op),
-            Copied::Whole(_) => {}
+            PrivateCopy::Keys(memo, _) => memo.get_mut().forget(op),
+            PrivateCopy::Whole(_) => {}
         }
     }
 
@@ -120,8 +120,8 @@ impl<V: Value> Copied<V> {
         ensures kept { IsKept self.old self.new }
     {
         match self {
-            Copied::Keys(memo, _) => memo.get_mut().ready(outcome),
-            Copied::Whole(shadow) => shadow.get_mut().ready(outcome),
+            PrivateCopy::Keys(memo, _) => memo.get_mut().ready(outcome),
+            PrivateCopy::Whole(shadow) => shadow.get_mut().ready(outcome),
         }
     }
 
@@ -134,8 +134,8 @@ impl<V: Value> Copied<V> {
         ensures reply { outcome.new.reply ≡ outcome.old.reply }
     {
         match self {
-            Copied::Keys(memo, _) => memo.get_mut().accept_in_place(outcome),
-            Copied::Whole(shadow) => shadow.get_mut().accept_in_place(outcome),
+            PrivateCopy::Keys(memo, _) => memo.get_mut().accept_in_place(outcome),
+            PrivateCopy::Whole(shadow) => shadow.get_mut().accept_in_place(outcome),
         }
     }
 
@@ -144,8 +144,8 @@ impl<V: Value> Copied<V> {
         ensures { result.now ≡ changes_in self.now }
     {
         match self {
-            Copied::Keys(memo, _) => memo.get().changes(),
-            Copied::Whole(shadow) => shadow.get().changes(),
+            PrivateCopy::Keys(memo, _) => memo.get().changes(),
+            PrivateCopy::Whole(shadow) => shadow.get().changes(),
         }
     }
 
@@ -160,8 +160,8 @@ impl<V: Value> Copied<V> {
         ensures editions { AreRaised (locations_in self.old) (editions_of base.old) (editions_of base.new) }
     {
         match self {
-            Copied::Keys(memo, _) => memo.get_mut().fold(base),
-            Copied::Whole(shadow) => shadow.get_mut().fold(base),
+            PrivateCopy::Keys(memo, _) => memo.get_mut().fold(base),
+            PrivateCopy::Whole(shadow) => shadow.get_mut().fold(base),
         }
     }
 
@@ -190,7 +190,7 @@ fn keep_editions(known: &mut FewKeys<u64>, editions: &[(u32, u64)])
 
 /// What a call touches of a collection, as its base holds it.
 #[derive(Drop)]
-pub enum Found<V> {
+pub enum BaseExcerpt<V> {
     Keys(Touch<V>),
     /// The copy in this shadow. The calls that it has are unused.
     Whole(Boxed<Shadow<V>>),
@@ -203,11 +203,11 @@ pub fn find<V: Value>(
     alloc: Global,
     base: &Base<V>,
     op: &Op<V>,
-) -> Result<Found<V>, Refusal>
+) -> Result<BaseExcerpt<V>, Refusal>
     ensures { IfOk result (λ found. IsFound base.now op.now found) }
 {
     Ok(match base {
-        Base::Map(_) | Base::Bag(_) => Found::Keys(spares.touch(base, op)?),
-        Base::Pq(_) | Base::Queue(_) => Found::Whole(spares.whole(alloc, base)?),
+        Base::Map(_) | Base::Bag(_) => BaseExcerpt::Keys(spares.touch(base, op)?),
+        Base::Pq(_) | Base::Queue(_) => BaseExcerpt::Whole(spares.whole(alloc, base)?),
     })
 }

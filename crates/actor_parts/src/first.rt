@@ -1,21 +1,21 @@
 //! The first copy of a collection, by what was found of it for a call.
 ghost use Rattle.std.specs.Prelude.{◌≡◌, IfOk};
-ghost use Rattle.actor_parts.specs.declared.copies.Found.TheVariants as found;
+ghost use Rattle.actor_parts.specs.declared.copies.BaseExcerpt.TheVariants as found;
 ghost use Rattle.actor_parts.specs.First.{IsFirst, IsFirstTouch, memo_kind};
 ghost use Rattle.actor_parts.specs.Taking.{key_touch};
 
-use crate::copies::{Copied, Found};
+use crate::copies::{BaseExcerpt, PrivateCopy};
 use crate::spares::Spares;
-use replay_log::{Touch, Touched};
+use replay_log::{Touch, TouchedKey};
 use seq_model::{Refusal, Value};
 use shadow::MemoKind;
 use std::alloc::Global;
 
 /// The kind of the collection that was touched.
-fn memo_kind<V>(held: &Touched<V>) -> MemoKind
+fn memo_kind<V>(held: &TouchedKey<V>) -> MemoKind
     ensures { result ≡ memo_kind held.now }
 {
-    if let Touched::Copies(_, _) = held {
+    if let TouchedKey::Copies(_, _) = held {
         return MemoKind::Bag;
     }
     MemoKind::Map
@@ -26,11 +26,11 @@ fn first_touch<V: Value>(
     alloc: Global,
     stripes: u32,
     touch: Touch<V>,
-) -> Result<Copied<V>, Refusal>
+) -> Result<PrivateCopy<V>, Refusal>
     ensures { IfOk result (λ copied. IsFirstTouch stripes touch copied) }
 {
     let blank = spares.blank(alloc, stripes, memo_kind(&touch.held))?;
-    let mut copied = Copied::Keys(blank.memo, blank.editions);
+    let mut copied = PrivateCopy::Keys(blank.memo, blank.editions);
     let editions = copied.learn(touch)?;
     spares.keep_editions(editions);
     Ok(copied)
@@ -45,11 +45,11 @@ pub(crate) fn first_key<V: Value>(
     value: Option<V>,
     location: u32,
     edition: u64,
-) -> Result<Copied<V>, Refusal>
+) -> Result<PrivateCopy<V>, Refusal>
     ensures { IfOk result (λ copied. IsFirstTouch stripes (key_touch key value location edition) copied) }
 {
     let blank = spares.blank(alloc, stripes, MemoKind::Map)?;
-    let mut copied = Copied::Keys(blank.memo, blank.editions);
+    let mut copied = PrivateCopy::Keys(blank.memo, blank.editions);
     copied.learn_key(key, value, location, edition)?;
     Ok(copied)
 }
@@ -60,16 +60,16 @@ pub fn first_copy<V: Value>(
     spares: &mut Spares<V>,
     alloc: Global,
     stripes: u32,
-    found: Found<V>,
-) -> Result<Copied<V>, Refusal>
+    found: BaseExcerpt<V>,
+) -> Result<PrivateCopy<V>, Refusal>
     ensures { IfOk result (λ copied. IsFirst stripes found copied) }
 {
     match found {
-        Found::Keys(touch) => first_touch(spares, alloc, stripes, touch),
-        Found::Whole(shadow) => {
+        BaseExcerpt::Keys(touch) => first_touch(spares, alloc, stripes, touch),
+        BaseExcerpt::Whole(shadow) => {
             let mut shadow = shadow;
             shadow.get_mut().renew(spares.log(alloc));
-            Ok(Copied::Whole(shadow))
+            Ok(PrivateCopy::Whole(shadow))
         }
     }
 }

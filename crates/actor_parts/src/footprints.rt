@@ -2,19 +2,19 @@
 ghost use Rattle.std.specs.Prelude.{◌≡◌, ◌+◌, ◌<◌, ◌≤◌, ◌^◌, [], ◌∷◌, All, IfOk, IfSome, OnOk};
 ghost use Rattle.conflict.specs.Footprints.{all_below};
 ghost use Rattle.replay_log.specs.Base.{reads_of, shown_of, stripes_of};
-ghost use Rattle.shadow.specs.KeyPlace.{written_there};
-ghost use Rattle.actor_parts.specs.Footprints.{IsPlaceOf, known_edition, places_in, reads_in, with_known, writes_in};
+ghost use Rattle.shadow.specs.KeyLocation.{written_there};
+ghost use Rattle.actor_parts.specs.Footprints.{IsPositionOf, known_edition, location_count, reads_in, with_known, writes_in};
 
-use crate::copies::{Copied, CopyOf};
+use crate::copies::{CopyOfCollection, PrivateCopy};
 use conflict::{LocSet, Outcome};
 use replay_log::Base;
 use seq_model::{Memory, Op, Reply, Value};
-use shadow::KeyPlace;
+use shadow::KeyLocation;
 use std::collections::VecDeque;
 
 /// Where the copy of a collection stands. A transaction touches few collections.
-pub fn place_of<V>(copies: &[CopyOf<V>], collection: u32) -> Option<usize>
-    ensures { IsPlaceOf copies.now collection result }
+pub fn position_of<V>(copies: &[CopyOfCollection<V>], collection: u32) -> Option<usize>
+    ensures { IsPositionOf copies.now collection result }
 {
     let mut i = 0;
     while i < copies.len() {
@@ -45,14 +45,14 @@ pub(crate) fn all_read<V: Value>(base: &Base<V>, outcome: &Outcome<V>) -> Option
     }
 }
 
-impl<V: Value> Copied<V> {
+impl<V: Value> PrivateCopy<V> {
     /// The locations that an outcome reads. `Memory` where an allocation fails; up to eight locations take none.
     pub fn reads(&self, outcome: &Outcome<V>) -> Result<LocSet, Memory>
         ensures { IfOk result (λ set. set ≡ reads_in self.now outcome.now) }
     {
         match self {
-            Copied::Keys(memo, _) => memo.get().reads(outcome),
-            Copied::Whole(shadow) => shadow.get().base().reads(outcome),
+            PrivateCopy::Keys(memo, _) => memo.get().reads(outcome),
+            PrivateCopy::Whole(shadow) => shadow.get().base().reads(outcome),
         }
     }
 
@@ -61,8 +61,8 @@ impl<V: Value> Copied<V> {
         ensures { IfSome result (λ count. reads_in self.now outcome.now ≡ all_below count) }
     {
         match self {
-            Copied::Keys(memo, _) => memo.get().all_read(outcome),
-            Copied::Whole(shadow) => all_read(shadow.get().base(), outcome),
+            PrivateCopy::Keys(memo, _) => memo.get().all_read(outcome),
+            PrivateCopy::Whole(shadow) => all_read(shadow.get().base(), outcome),
         }
     }
 
@@ -71,35 +71,35 @@ impl<V: Value> Copied<V> {
         ensures { IfOk result (λ set. set ≡ writes_in self.now outcome.now) }
     {
         match self {
-            Copied::Keys(memo, _) => memo.get().writes(outcome),
-            Copied::Whole(shadow) => shadow.get().base().writes(outcome),
+            PrivateCopy::Keys(memo, _) => memo.get().writes(outcome),
+            PrivateCopy::Whole(shadow) => shadow.get().base().writes(outcome),
         }
     }
 
     /// The location of the key of an outcome, which is all that it reads, and whether it writes there; none for an outcome on no key of a
     /// map or a multiset.
-    pub(crate) fn key_place(&self, outcome: &Outcome<V>) -> Option<KeyPlace>
+    pub(crate) fn key_location(&self, outcome: &Outcome<V>) -> Option<KeyLocation>
         ensures reads { IfSome result (λ at. reads_in self.now outcome.now ≡ at.location ∷ []) }
         ensures writes { IfSome result (λ at. writes_in self.now outcome.now ≡ written_there at) }
     {
         match self {
-            Copied::Keys(memo, _) => memo.get().key_place(outcome),
-            Copied::Whole(_) => None,
+            PrivateCopy::Keys(memo, _) => memo.get().key_location(outcome),
+            PrivateCopy::Whole(_) => None,
         }
     }
 
     /// The edition with which a location was copied.
     #[inline(always)]
     pub fn edition(&self, location: u32) -> u64
-        requires { location < places_in self.now }
+        requires { location < location_count self.now }
         ensures { result ≡ known_edition self.now location }
     {
         match self {
-            Copied::Keys(_, editions) => match editions.get().get(location as u64) {
+            PrivateCopy::Keys(_, editions) => match editions.get().get(location as u64) {
                 Some(edition) => *edition,
                 None => 0,
             },
-            Copied::Whole(shadow) => shadow.get().base().edition(location),
+            PrivateCopy::Whole(shadow) => shadow.get().base().edition(location),
         }
     }
 }
@@ -108,11 +108,11 @@ impl<V: Value> Copied<V> {
 /// held.
 pub(crate) fn with_known<V: Value>(
     left: &mut VecDeque<(u32, u64)>,
-    copied: &Copied<V>,
+    copied: &PrivateCopy<V>,
     first: u32,
     locations: &LocSet,
 ) -> Result<(), Memory>
-    requires within { All (λ location. location < places_in copied.now) locations.now }
+    requires within { All (λ location. location < location_count copied.now) locations.now }
     requires range { All (λ location. first + location < 2 ^ 32) locations.now }
     ensures { OnOk result (left.new.items ≡ with_known copied.now first locations.now) }
 {
@@ -126,11 +126,11 @@ pub(crate) fn with_known<V: Value>(
 /// The first `count` locations likewise.
 pub(crate) fn with_known_below<V: Value>(
     left: &mut VecDeque<(u32, u64)>,
-    copied: &Copied<V>,
+    copied: &PrivateCopy<V>,
     first: u32,
     count: u32,
 ) -> Result<(), Memory>
-    requires within { count ≤ places_in copied.now }
+    requires within { count ≤ location_count copied.now }
     requires range { first + count ≤ 2 ^ 32 }
     ensures { OnOk result (left.new.items ≡ with_known copied.now first (all_below count)) }
 {

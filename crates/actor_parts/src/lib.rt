@@ -43,11 +43,14 @@ pub use auditing::audit_records;
 pub use blocks::{Blocks, COLLECTION_LIMIT, TABLE_LIMIT};
 pub use boxed::Boxed;
 pub use calls::{has_room, has_room_below};
-pub use copied::{copied_as_worlds, copied_forgets, copied_takes, copies_go_on, copies_put_back};
-pub use copies::{Copied, CopyOf, Found, find};
+pub use copied::{
+    copies_go_on, copies_put_back, excerpts_as_worlds, forgetting_leaves_pieces,
+    taking_adds_a_piece,
+};
+pub use copies::{BaseExcerpt, CopyOfCollection, PrivateCopy, find};
 pub use ending::{abort, cancel, release};
 pub use first::first_copy;
-pub use footprints::place_of;
+pub use footprints::position_of;
 pub use homes::written_homes;
 pub use judged::{Judged, go_on, judge};
 pub use known::{is_change, is_known};

@@ -23,7 +23,7 @@ pub enum Next {
     PutGate(u32),
 }
 
-/// The one at this place, where there is one.
+/// The one at this position, where there is one.
 pub fn at_place(homes: &VecDeque<u32>, i: usize) -> Option<u32>
     ensures { result ≡ first (drop i homes.now.items) }
 {

@@ -1,28 +1,28 @@
 //! A put on a key of a map that a transaction has: it is accepted without an outcome, which would be a copy of the call.
 ghost use Rattle.std.specs.Prelude.{◌≡◌, [], ◌∷◌, IfOk, IfSome, OnErr, OnOk, true};
 ghost use Rattle.shadow.specs.Memo.{put_of};
-ghost use Rattle.actor_parts.specs.Copies.{IsAccepted, IsKept, holds_call};
+ghost use Rattle.actor_parts.specs.PrivateCopy.{IsAccepted, IsKept, holds_call};
 ghost use Rattle.actor_parts.specs.Footprints.{writes_in};
 ghost use Rattle.actor_parts.specs.Puts.{IsPutAt, put_on};
 
-use crate::copies::Copied;
+use crate::copies::PrivateCopy;
 use seq_model::{Memory, Reply, Value};
 
-impl<V: Value> Copied<V> {
+impl<V: Value> PrivateCopy<V> {
     /// Of a map's key its location, and the edition with which that was copied, if it was.
     #[inline(always)]
     pub fn entry_edition(&self, key: u64) -> Option<(u32, u64)>
         ensures { IfSome result (λ at. (value : V) → holds_call self.now (put_of key value) ≡ true → IsPutAt self.now key value at) }
     {
         match self {
-            Copied::Keys(memo, editions) => {
+            PrivateCopy::Keys(memo, editions) => {
                 let location = memo.get().entry_location(key);
                 match editions.get().get(location as u64) {
                     Some(edition) => Some((location, *edition)),
                     None => None,
                 }
             }
-            Copied::Whole(_) => None,
+            PrivateCopy::Whole(_) => None,
         }
     }
 
@@ -42,8 +42,8 @@ impl<V: Value> Copied<V> {
         ensures err { OnErr result (IsKept self.old self.new) }
     {
         match self {
-            Copied::Keys(memo, _) => memo.get_mut().put_entry(key, value, location),
-            Copied::Whole(_) => Err(Memory),
+            PrivateCopy::Keys(memo, _) => memo.get_mut().put_entry(key, value, location),
+            PrivateCopy::Whole(_) => Err(Memory),
         }
     }
 }

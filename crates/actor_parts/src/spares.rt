@@ -2,12 +2,12 @@
 ghost use Rattle.std.specs.Prelude.{◌≡◌, ◌<◌, [], IfOk, IfSome, Some, length};
 ghost use Rattle.std.specs.FinMap as map;
 ghost use Rattle.replay_log.specs.Base.{editions_of, shown_of, stripes_of};
-ghost use Rattle.replay_log.specs.Touches.{editions_at, summed_by, touched_places};
-ghost use Rattle.actor_parts.specs.Copies.{changes_in, locations_in};
+ghost use Rattle.replay_log.specs.Touches.{editions_at, summed_by, touched_locations};
+ghost use Rattle.actor_parts.specs.PrivateCopy.{changes_in, locations_in};
 ghost use Rattle.actor_parts.specs.First.{IsBlank};
 
 use crate::boxed::Boxed;
-use crate::copies::{Copied, CopyOf};
+use crate::copies::{CopyOfCollection, PrivateCopy};
 use conflict::FewKeys;
 use replay_log::{Base, LocationEditions, Log, Touch};
 use seq_model::{Memory, Op, Refusal, Value};
@@ -94,18 +94,18 @@ impl<V: Drop> Spares<V> {
     }
 
     /// The log of what a transaction had of a collection. The other memory is kept. It is not refused.
-    pub fn log_of(&mut self, copied: Copied<V>) -> Log<V>
+    pub fn log_of(&mut self, copied: PrivateCopy<V>) -> Log<V>
         ensures changes { result.changes ≡ changes_in copied }
         ensures locations { result.locations ≡ locations_in copied }
     {
         match copied {
-            Copied::Keys(memo, editions) => {
+            PrivateCopy::Keys(memo, editions) => {
                 let mut memo = memo;
                 let log = memo.get_mut().take_log();
                 self.keep(memo, editions);
                 log
             }
-            Copied::Whole(shadow) => {
+            PrivateCopy::Whole(shadow) => {
                 let mut shadow = shadow;
                 let log = shadow.get_mut().take_log();
                 self.keep_whole(shadow);
@@ -141,22 +141,22 @@ impl<V: Drop> Spares<V> {
     }
 
     /// Keeps the memory of what a transaction had of a collection, which goes. It is not refused.
-    pub fn keep_copied(&mut self, copied: Copied<V>) {
+    pub fn keep_copied(&mut self, copied: PrivateCopy<V>) {
         match copied {
-            Copied::Keys(memo, editions) => {
+            PrivateCopy::Keys(memo, editions) => {
                 let mut memo = memo;
                 memo.get_mut().clear();
                 self.keep(memo, editions);
             }
-            Copied::Whole(shadow) => {
-                let log = self.log_of(Copied::Whole(shadow));
+            PrivateCopy::Whole(shadow) => {
+                let log = self.log_of(PrivateCopy::Whole(shadow));
                 self.keep_log(log);
             }
         }
     }
 
     /// What a transaction had of collections goes, and its memory is kept. It is not refused.
-    pub fn clear(&mut self, copies: &mut Vec<CopyOf<V>>)
+    pub fn clear(&mut self, copies: &mut Vec<CopyOfCollection<V>>)
         ensures { copies.new.items ≡ [] }
     {
         while let Some(copy) = copies.pop() {
@@ -222,7 +222,7 @@ impl<V: Value> Spares<V> {
     /// What the call touches of a map or a multiset, in kept memory where there is some. Another call is refused as NoSuch.
     pub(crate) fn touch(&mut self, base: &Base<V>, op: &Op<V>) -> Result<Touch<V>, Refusal>
         ensures editions { IfOk result (λ touch. touch.editions
-            ≡ editions_at (touched_places (stripes_of base.now) touch.held) (editions_of base.now)) }
+            ≡ editions_at (touched_locations (stripes_of base.now) touch.held) (editions_of base.now)) }
         ensures held { IfOk result (λ touch. summed_by (stripes_of base.now) op.now (shown_of base.now) ≡ Some touch.held) }
     {
         base.touch_summed(op, &mut self.editions)

@@ -1,14 +1,14 @@
 //! What remains a transaction's own as events follow.
 ghost use Rattle.std.specs.Prelude.{◌≡◌, ◌≢◌, ℕ, Option};
 ghost use Rattle.seq_model.specs.declared.event.Event.{Event};
-ghost use Rattle.replay_log.specs.Contents.{Answered, Asked};
+ghost use Rattle.replay_log.specs.Contents.{CallWithOutcome, CollectionCall};
 ghost use Rattle.replay_log.specs.WorldProgress.{whose};
 ghost use Rattle.replay_log.specs.Worlds.{World, actor_of, happens};
 ghost use Rattle.actor_parts.specs.Shows.{put_back};
-ghost use Rattle.actor_parts.specs.declared.copies.Copied.{Copied};
-ghost use Rattle.actor_parts.specs.Copied.{IsReadOf};
+ghost use Rattle.actor_parts.specs.declared.copies.PrivateCopy.{PrivateCopy};
+ghost use Rattle.actor_parts.specs.CopyAtGate.{IsReadOf};
 ghost use Rattle.actor_parts.specs.Owns.{IsOwn};
-ghost use Rattle.actor_parts.specs.Staying.{EventsStay, Joins, Stays};
+ghost use Rattle.actor_parts.specs.CopiesAfterEvent.{EventsStay, Joins, Stays};
 
 use seq_model::Value;
 
@@ -23,11 +23,11 @@ pub fn copies_stay<V: Value>()
         let v = (happens w e).0 in
         (v.seats a ≡ w.seats a) × (actor_of v a ≡ actor_of w a) × Stays w v a }
     ensures events { EventsStay V }
-    ensures stays { (w v : World V) (a k : ℕ) (c : Option (Copied V)) → Stays w v a →
+    ensures stays { (w v : World V) (a k : ℕ) (c : Option (PrivateCopy V)) → Stays w v a →
         (IsOwn w a k c → IsOwn v a k c) × (IsReadOf w a k c → IsReadOf v a k c) }
-    ensures joins { (w v : World V) (a k : ℕ) (o : Answered V) (c : Option (Copied V)) → Joins w v a o →
+    ensures joins { (w v : World V) (a k : ℕ) (o : CallWithOutcome V) (c : Option (PrivateCopy V)) → Joins w v a o →
         (o.asked.collection ≢ k → IsOwn w a k c → IsOwn v a k c) × (IsReadOf w a k c → IsReadOf v a k c) }
-    ensures back { (w : World V) (a k : ℕ) (asked : Asked V) (c : Option (Copied V)) →
+    ensures back { (w : World V) (a k : ℕ) (asked : CollectionCall V) (c : Option (PrivateCopy V)) →
         (k ≢ asked.collection → IsOwn w a k c → IsOwn (put_back a w asked) a k c)
         × (IsReadOf w a k c → IsReadOf (put_back a w asked) a k c) }
 {}

@@ -3,19 +3,19 @@
 ghost use Rattle.std.specs.Prelude.{◌≡◌, ◌+◌, ◌<◌, ◌≤◌, ◌^◌, IfOk, IfSome, OnErr, OnOk, Some, false, length, slice_index};
 ghost use Rattle.std.specs.FinMap.{get};
 ghost use Rattle.std.specs.Vec.{vec_capacity, vec_len};
-ghost use Rattle.conflict.specs.Footprints.{key_place};
+ghost use Rattle.conflict.specs.Footprints.{key_location};
 ghost use Rattle.conflict.specs.declared.outcome.Outcome.{Outcome};
 ghost use Rattle.replay_log.specs.Base.{locations_of, outcome_of, shown_of, stripes_of};
-ghost use Rattle.actor_parts.specs.Copies.{IsKept};
-ghost use Rattle.actor_parts.specs.Kept.{HaveSame};
+ghost use Rattle.actor_parts.specs.PrivateCopy.{IsKept};
+ghost use Rattle.actor_parts.specs.CopyList.{HaveSame};
 ghost use Rattle.actor_parts.specs.Sizes.{HasAtMost, is_on_key};
 ghost use Rattle.actor_parts.specs.Taking.{IsAdded, IsOnKey, IsPushed, IsTakenAt, IsTakenFrom, TakenBack, TakesBack, fits_base};
 ghost use Rattle.actor_parts.specs.Taking.{key_touch};
-ghost use Rattle.actor_parts.specs.declared.copies.Found.TheVariants.{Keys};
+ghost use Rattle.actor_parts.specs.declared.copies.BaseExcerpt.TheVariants.{Keys};
 
-use crate::copies::{Copied, CopyOf, Found, find};
+use crate::copies::{BaseExcerpt, CopyOfCollection, PrivateCopy, find};
 use crate::first::{first_copy, first_key};
-use crate::footprints::{all_read, place_of};
+use crate::footprints::{all_read, position_of};
 use crate::room::{has_room, has_room_below, surely_fits};
 use crate::spares::Spares;
 use base_map::MapBase;
@@ -110,25 +110,28 @@ fn fits_outcome<V: Value>(
 
 /// The copy has what was found besides. A whole collection that is copied already has all.
 fn add<V: Value>(
-    copied: &mut Copied<V>,
+    copied: &mut PrivateCopy<V>,
     spares: &mut Spares<V>,
-    found: Found<V>,
+    found: BaseExcerpt<V>,
 ) -> Result<(), Memory>
     ensures ok { OnOk result (IsAdded found copied.old copied.new) }
     ensures err { OnErr result (IsKept copied.old copied.new) }
 {
     match found {
-        Found::Keys(touch) => {
+        BaseExcerpt::Keys(touch) => {
             let editions = copied.learn(touch)?;
             spares.keep_editions(editions);
         }
-        Found::Whole(_) => {}
+        BaseExcerpt::Whole(_) => {}
     }
     Ok(())
 }
 
 // Room for one copy more, and to keep its memory once it goes.
-fn make_room<V: Drop>(copies: &mut Vec<CopyOf<V>>, spares: &mut Spares<V>) -> Result<(), Memory>
+fn make_room<V: Drop>(
+    copies: &mut Vec<CopyOfCollection<V>>,
+    spares: &mut Spares<V>,
+) -> Result<(), Memory>
     ensures items { copies.new.items ≡ copies.old.items }
     ensures ok { OnOk result (vec_len copies.new < vec_capacity copies.new) }
 {
@@ -139,12 +142,12 @@ fn make_room<V: Drop>(copies: &mut Vec<CopyOf<V>>, spares: &mut Spares<V>) -> Re
 
 #[inline(never)]
 fn push_first<V: Value>(
-    copies: &mut Vec<CopyOf<V>>,
+    copies: &mut Vec<CopyOfCollection<V>>,
     spares: &mut Spares<V>,
     alloc: Global,
     stripes: u32,
     collection: u32,
-    found: Found<V>,
+    found: BaseExcerpt<V>,
 ) -> Result<(), Memory>
     ensures ok { OnOk result (IsPushed stripes collection found copies.old.items copies.new.items) }
     ensures err { OnErr result (copies.new.items ≡ copies.old.items) }
@@ -152,7 +155,7 @@ fn push_first<V: Value>(
     make_room(copies, spares)?;
     match first_copy(spares, alloc, stripes, found) {
         Ok(copied) => {
-            copies.push_reserved(CopyOf { collection, copied });
+            copies.push_reserved(CopyOfCollection { collection, copied });
             Ok(())
         }
         Err(_) => Err(Memory),
@@ -162,17 +165,17 @@ fn push_first<V: Value>(
 /// What was found of the collection for a call is taken: where there is a copy of it that learns it, and else a first copy. Returns where
 /// that stands. `Memory`, where an allocation fails, leaves the pieces that there were.
 pub fn take<V: Value>(
-    copies: &mut Vec<CopyOf<V>>,
+    copies: &mut Vec<CopyOfCollection<V>>,
     spares: &mut Spares<V>,
     alloc: Global,
     stripes: u32,
     collection: u32,
-    found: Found<V>,
+    found: BaseExcerpt<V>,
 ) -> Result<usize, Memory>
     ensures ok { IfOk result (λ place. IsTakenAt stripes collection found place copies.old.items copies.new.items) }
     ensures err { OnErr result (HaveSame copies.old.items copies.new.items) }
 {
-    match place_of(copies, collection) {
+    match position_of(copies, collection) {
         Some(place) => {
             match add(&mut copies[place].copied, spares, found) {
                 Ok(()) => Ok(place),
@@ -189,7 +192,7 @@ pub fn take<V: Value>(
 
 #[inline(never)]
 fn push_key<V: Value>(
-    copies: &mut Vec<CopyOf<V>>,
+    copies: &mut Vec<CopyOfCollection<V>>,
     spares: &mut Spares<V>,
     alloc: Global,
     stripes: u32,
@@ -206,7 +209,7 @@ fn push_key<V: Value>(
     make_room(copies, spares)?;
     match first_key(spares, alloc, stripes, key, value, location, edition) {
         Ok(copied) => {
-            copies.push_reserved(CopyOf { collection, copied });
+            copies.push_reserved(CopyOfCollection { collection, copied });
             Ok(())
         }
         Err(_) => Err(Memory),
@@ -215,7 +218,7 @@ fn push_key<V: Value>(
 
 /// What the map has of the key is taken, as by `take`.
 fn take_key<V: Value>(
-    copies: &mut Vec<CopyOf<V>>,
+    copies: &mut Vec<CopyOfCollection<V>>,
     spares: &mut Spares<V>,
     alloc: Global,
     stripes: u32,
@@ -224,15 +227,15 @@ fn take_key<V: Value>(
     key: u64,
 ) -> Result<usize, Memory>
     ensures ok { IfOk result (λ place. IsTakenAt stripes collection
-        (Keys (key_touch key (get map.now.shown key) (key_place map.now.stripes key)
-        (slice_index map.now.editions (key_place map.now.stripes key))))
+        (Keys (key_touch key (get map.now.shown key) (key_location map.now.stripes key)
+        (slice_index map.now.editions (key_location map.now.stripes key))))
         place copies.old.items copies.new.items) }
     ensures err { OnErr result (HaveSame copies.old.items copies.new.items) }
 {
-    let location = map.place(key);
+    let location = map.location_of(key);
     let edition = map.edition(location);
     let value = map.entry(key)?;
-    match place_of(copies, collection) {
+    match position_of(copies, collection) {
         Some(place) => {
             copies[place]
                 .copied
@@ -250,7 +253,7 @@ fn take_key<V: Value>(
 }
 
 fn take_found<V: Value>(
-    copies: &mut Vec<CopyOf<V>>,
+    copies: &mut Vec<CopyOfCollection<V>>,
     spares: &mut Spares<V>,
     alloc: Global,
     stripes: u32,
@@ -283,7 +286,7 @@ fn map_key<V>(op: &Op<V>) -> Option<u64>
 /// What the call touches of the base is found and taken. `Memory`, where an allocation fails or the call is of another kind, leaves the
 /// pieces that there were.
 pub fn take_from<V: Value>(
-    copies: &mut Vec<CopyOf<V>>,
+    copies: &mut Vec<CopyOfCollection<V>>,
     spares: &mut Spares<V>,
     alloc: Global,
     stripes: u32,
@@ -306,9 +309,14 @@ pub fn take_from<V: Value>(
     }
 }
 
-/// What was taken for a call that is not made goes: the copy at this place forgets what the call touches, where it is one of the first
+/// What was taken for a call that is not made goes: the copy at this position forgets what the call touches, where it is one of the first
 /// `count` copies, and goes itself where it is not.
-pub fn take_back<V: Value>(copies: &mut Vec<CopyOf<V>>, count: usize, place: usize, op: &Op<V>)
+pub fn take_back<V: Value>(
+    copies: &mut Vec<CopyOfCollection<V>>,
+    count: usize,
+    place: usize,
+    op: &Op<V>,
+)
     requires { place < length copies.old.items }
     ensures { TakesBack count place op.now copies.old.items copies.new.items }
 {

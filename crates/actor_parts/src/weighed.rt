@@ -5,19 +5,19 @@ ghost use Rattle.replay_log.specs.Base.{stripes_of};
 ghost use Rattle.replay_log.specs.Contents.{shifted};
 ghost use Rattle.replay_log.specs.Worlds as worlds;
 ghost use Rattle.step_core.specs.Shown.{actor_of};
-ghost use Rattle.shadow.specs.KeyPlace.{written_there};
-ghost use Rattle.actor_parts.specs.Copies.{answer_of};
+ghost use Rattle.shadow.specs.KeyLocation.{written_there};
+ghost use Rattle.actor_parts.specs.PrivateCopy.{answer_of};
 ghost use Rattle.actor_parts.specs.Weighed.{IsWeighed};
-ghost use Rattle.actor_parts.specs.Footprints.{base_in, places_in, reads_in, with_known, writes_in};
+ghost use Rattle.actor_parts.specs.Footprints.{base_in, location_count, reads_in, with_known, writes_in};
 ghost use Rattle.actor_parts.specs.Writes.{with_next};
 
-use crate::copies::Copied;
+use crate::copies::PrivateCopy;
 use crate::footprints::{with_known, with_known_below};
 use crate::room::{has_room, has_room_below, surely_fits};
 use crate::writes::{Writes, with_next};
 use conflict::Outcome;
 use seq_model::{Memory, Op, Refusal, Value};
-use shadow::KeyPlace;
+use shadow::KeyLocation;
 use std::collections::VecDeque;
 use step_core::Actor;
 
@@ -25,11 +25,11 @@ use step_core::Actor;
 fn weigh_key<V: Value>(
     left: &mut VecDeque<(u32, u64)>,
     writes: &mut Writes,
-    copied: &Copied<V>,
+    copied: &PrivateCopy<V>,
     first: u32,
-    at: KeyPlace,
+    at: KeyLocation,
 ) -> Result<(), Memory>
-    requires place { at.location < places_in copied.now }
+    requires place { at.location < location_count copied.now }
     requires range { first + at.location < 2 ^ 32 }
     ensures left { OnOk result (left.new.items ≡ with_known copied.now first (at.location ∷ [])) }
     ensures writes { OnOk result (writes.new.items ≡ with_next copied.now first (written_there at)) }
@@ -53,12 +53,12 @@ fn weigh_sets<V: Value>(
     left: &mut VecDeque<(u32, u64)>,
     writes: &mut Writes,
     words: &Actor,
-    copied: &Copied<V>,
+    copied: &PrivateCopy<V>,
     first: u32,
     outcome: &Outcome<V>,
 ) -> Result<bool, Memory>
     requires stripes { 0 < stripes_of (base_in copied.now) }
-    requires range { first + places_in copied.now ≤ 2 ^ 32 }
+    requires range { first + location_count copied.now ≤ 2 ^ 32 }
     ensures { IfOk result (λ fits. IsWeighed (actor_of words.now) copied.now first outcome.now left.new.items writes.new.items fits) }
 {
     let read = copied.reads(outcome)?;
@@ -77,13 +77,13 @@ fn weigh_below<V: Value>(
     left: &mut VecDeque<(u32, u64)>,
     writes: &mut Writes,
     words: &Actor,
-    copied: &Copied<V>,
+    copied: &PrivateCopy<V>,
     first: u32,
     outcome: &Outcome<V>,
     count: u32,
 ) -> Result<bool, Memory>
     requires stripes { 0 < stripes_of (base_in copied.now) }
-    requires range { first + places_in copied.now ≤ 2 ^ 32 }
+    requires range { first + location_count copied.now ≤ 2 ^ 32 }
     requires reads { reads_in copied.now outcome.now ≡ all_below count }
     ensures { IfOk result (λ fits. IsWeighed (actor_of words.now) copied.now first outcome.now left.new.items writes.new.items fits) }
 {
@@ -101,16 +101,16 @@ fn weigh_outcome<V: Value>(
     left: &mut VecDeque<(u32, u64)>,
     writes: &mut Writes,
     words: &Actor,
-    copied: &Copied<V>,
+    copied: &PrivateCopy<V>,
     first: u32,
     outcome: &Outcome<V>,
 ) -> Result<bool, Memory>
     requires stripes { 0 < stripes_of (base_in copied.now) }
-    requires range { first + places_in copied.now ≤ 2 ^ 32 }
+    requires range { first + location_count copied.now ≤ 2 ^ 32 }
     ensures { IfOk result (λ fits. IsWeighed (actor_of words.now) copied.now first outcome.now left.new.items writes.new.items fits) }
 {
     if surely_fits(words, 1, 1) {
-        if let Some(at) = copied.key_place(outcome) {
+        if let Some(at) = copied.key_location(outcome) {
             weigh_key(left, writes, copied, first, at)?;
             return Ok(true);
         }
@@ -130,12 +130,12 @@ pub fn weigh<V: Value>(
     left: &mut VecDeque<(u32, u64)>,
     writes: &mut Writes,
     words: &Actor,
-    copied: &Copied<V>,
+    copied: &PrivateCopy<V>,
     first: u32,
     op: &Op<V>,
 ) -> Result<bool, Memory>
     requires stripes { 0 < stripes_of (base_in copied.now) }
-    requires range { first + places_in copied.now ≤ 2 ^ 32 }
+    requires range { first + location_count copied.now ≤ 2 ^ 32 }
     requires known { IsSome (answer_of copied.now op.now) }
     ensures outcome { IfOk result (λ fits. answer_of copied.now op.now ≡ outcome.new) }
     ensures weighed { IfOk result (λ fits. (o : Outcome V) × (outcome.new ≡ Some o)

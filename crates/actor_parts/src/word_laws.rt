@@ -29,7 +29,7 @@ pub fn asks_stores_as_worlds<V>()
 {}
 
 /// At the store of a call's gate the locations are judged with the editions of the base, in every world that shows the actor.
-pub fn copies_as_worlds<V>()
+pub fn judges_at_gate_as_worlds<V>()
     ensures { CopiesForCall V }
 {}
 

@@ -5,10 +5,10 @@ ghost use Rattle.tx_sets.specs.Entries.{IsRising, with_entry};
 ghost use Rattle.tx_machine.specs.Requests.{ask, AskWrite};
 ghost use Rattle.step_core.specs.Shown.{actor_of};
 ghost use Rattle.step_core.specs.declared.actor.Place.TheVariants as place;
-ghost use Rattle.actor_parts.specs.Footprints.{places_in};
+ghost use Rattle.actor_parts.specs.Footprints.{location_count};
 ghost use Rattle.actor_parts.specs.Writes.{MayWrite, has_space, with_next, written_as};
 
-use crate::copies::Copied;
+use crate::copies::PrivateCopy;
 use conflict::LocSet;
 use seq_model::{Memory, Value};
 use smallvec::SmallVec;
@@ -22,11 +22,11 @@ pub type Writes = SmallVec<(u32, u64), 2>;
 /// held. No memory holds the changes that lead to the last edition there is.
 pub(crate) fn with_next<V: Value>(
     writes: &mut Writes,
-    copied: &Copied<V>,
+    copied: &PrivateCopy<V>,
     first: u32,
     locations: &LocSet,
 ) -> Result<(), Memory>
-    requires within { All (λ location. location < places_in copied.now) locations.now }
+    requires within { All (λ location. location < location_count copied.now) locations.now }
     requires range { All (λ location. first + location < 2 ^ 32) locations.now }
     ensures { OnOk result (writes.new.items ≡ with_next copied.now first locations.now) }
 {

@@ -4,6 +4,7 @@ use Rattle.std.proofs.Common.{Contains, refl, sym, ap, subst, ◌∙◌, arith}
 use Rattle.std.proofs.Math.Nat.{mod-lt}
 use Rattle.std.specs.Cmp.{nat_cmp_total}
 use Rattle.std.specs.FinMap.{get, same_map, nat_cmp-IsAntisymmetric}
+use Rattle.std.proofs.lemmas.Option.{same_Some, none-some}
 use Rattle.seq_model.specs.declared.call.Op.{Op}
 use Rattle.seq_model.specs.declared.call.Op.TheVariants.{Count, Add, Take}
 use Rattle.seq_model.specs.declared.call.Reply.{Reply}
@@ -13,6 +14,7 @@ use Rattle.seq_model.specs.declared.held.Held.TheVariants.{Map, Bag, Pq, Queue}
 use Rattle.seq_model.specs.declared.limits.TheConstants.{COPY_LIMIT}
 use Rattle.seq_model.specs.Calls.{held_call}
 use Rattle.seq_model.specs.Counts.{Multiset, copies, with_copies}
+use Rattle.seq_model.proofs.LogicLemmas.{some-none}
 use Rattle.conflict.specs.declared.change.Change.TheVariants as change
 use Rattle.conflict.specs.declared.outcome.Outcome.{Outcome}
 use Rattle.conflict.specs.declared.outcome.Note.TheVariants.{Plain}
@@ -20,7 +22,7 @@ use Rattle.conflict.specs.Footprints.{multiset_reads, multiset_writes}
 use Rattle.conflict.specs.Rules.{FrameLaws, Commute, applied, LegalWhereReadsAgree, ChangesOnlyWrites, WritesWhereItChanges}
 use Rattle.conflict.specs.Rules.{OutcomesWriteWhereTheyChange, ChangesByPart, FollowsCall, AnswersItsKind, ViewsDecide}
 use Rattle.conflict.specs.Commute.{commute}
-use Rattle.conflict.specs.Places.{in_single, of_none, of_single, some_same, none_some, some_none}
+use Rattle.conflict.specs.Places.{in_single, of_none, of_single}
 use Rattle.conflict.specs.Multisets.{one_more, one_fewer, more, fewer, more_at, fewer_at, changed_by_element, unchanged_elsewhere}
 use Rattle.base_bag.specs.Conflicts.{outcome_of, changes_by, changes_of, view_of, rules}
 
@@ -56,10 +58,10 @@ module _ {V : Type 0} where
   taken x c = Some (record { op = Take x; reply = cond (c == 0) No Yes; note = Plain })
 
   op_of : (op : Op V) (s : Multiset) (o : Outcome V) → outcome_of op s ≡ Some o → op ≡ o.op
-  op_of (Count x) s o e = ap (λ y. y.op) (some_same _ _ e)
-  op_of (Add x) s o e = ap (λ y. y.op) (some_same _ _ e)
-  op_of (Take x) s o e = ap (λ y. y.op) (some_same _ _ e)
-  op_of _ s o e = absurd (none_some o e)
+  op_of (Count x) s o e = ap (λ y. y.op) (same_Some _ _ e)
+  op_of (Add x) s o e = ap (λ y. y.op) (same_Some _ _ e)
+  op_of (Take x) s o e = ap (λ y. y.op) (same_Some _ _ e)
+  op_of _ s o e = absurd (none-some o e)
 
   same_outcome : (n : ℕ) (op : Op V) (s t : Multiset) → ((l : ℕ) → Contains (multiset_reads n op) l → SamePart n l s t)
       → outcome_of op t ≡ outcome_of op s
@@ -118,38 +120,38 @@ module _ {V : Type 0} where
       ] refl
 
   at_state : (op : Op V) (m : Multiset) (o : Outcome V) → outcome_of op m ≡ Some o → Follows op m o
-  at_state (Count x) m o e = subst (Follows (Count x) m) (some_same _ _ e) (Bag m, (refl, refl))
-  at_state (Add x) m o e = subst (Follows (Add x) m) (some_same _ _ e) (add_follows x m)
-  at_state (Take x) m o e = subst (Follows (Take x) m) (some_same _ _ e) (take_follows x m)
-  at_state _ m o e = absurd (none_some o e)
+  at_state (Count x) m o e = subst (Follows (Count x) m) (same_Some _ _ e) (Bag m, (refl, refl))
+  at_state (Add x) m o e = subst (Follows (Add x) m) (same_Some _ _ e) (add_follows x m)
+  at_state (Take x) m o e = subst (Follows (Take x) m) (same_Some _ _ e) (take_follows x m)
+  at_state _ m o e = absurd (none-some o e)
 
   pub follows_call : FollowsCall (rules V)
   follows_call op (Bag m) s o within view e =
       let P : Multiset → Type 0 = λ s. outcome_of op s ≡ Some o
       → (after : Held V) × ((held_call op (Bag m) ≡ Some (o.reply, after))
       × (view_of after ≡ Some (applied (rules V) (changes_of o) s))) in
-      subst P (some_same _ _ view) (at_state op m o) e
-  follows_call op (Map m) s o within view e = absurd (none_some s view)
-  follows_call op (Pq m) s o within view e = absurd (none_some s view)
-  follows_call op (Queue head items) s o within view e = absurd (none_some s view)
+      subst P (same_Some _ _ view) (at_state op m o) e
+  follows_call op (Map m) s o within view e = absurd (none-some s view)
+  follows_call op (Pq m) s o within view e = absurd (none-some s view)
+  follows_call op (Queue head items) s o within view e = absurd (none-some s view)
 
   answers : (op : Op V) (m s : Multiset) → outcome_of op s ≡ None → held_call op (Bag m) ≡ None
-  answers (Count x) m s e = absurd (some_none _ e)
-  answers (Add x) m s e = absurd (some_none _ e)
-  answers (Take x) m s e = absurd (some_none _ e)
+  answers (Count x) m s e = absurd (some-none _ e)
+  answers (Add x) m s e = absurd (some-none _ e)
+  answers (Take x) m s e = absurd (some-none _ e)
   answers _ m s e = refl
 
   pub answers_its_kind : AnswersItsKind (rules V)
   answers_its_kind op (Bag m) s view e = answers op m s e
-  answers_its_kind op (Map m) s view e = absurd (none_some s view)
-  answers_its_kind op (Pq m) s view e = absurd (none_some s view)
-  answers_its_kind op (Queue head items) s view e = absurd (none_some s view)
+  answers_its_kind op (Map m) s view e = absurd (none-some s view)
+  answers_its_kind op (Pq m) s view e = absurd (none-some s view)
+  answers_its_kind op (Queue head items) s view e = absurd (none-some s view)
 
   pub views_decide : ViewsDecide (rules V)
-  views_decide (Bag m) s view = ap (λ x. Bag x) (sym (some_same _ _ view))
-  views_decide (Map m) s view = absurd (none_some s view)
-  views_decide (Pq m) s view = absurd (none_some s view)
-  views_decide (Queue head items) s view = absurd (none_some s view)
+  views_decide (Bag m) s view = ap (λ x. Bag x) (sym (same_Some _ _ view))
+  views_decide (Map m) s view = absurd (none-some s view)
+  views_decide (Pq m) s view = absurd (none-some s view)
+  views_decide (Queue head items) s view = absurd (none-some s view)
 
   -- ---- locations
   written_read : (n l : ℕ) (op : Op V) (r : Reply V) → Contains (multiset_writes n op r) l → Contains (multiset_reads n op) l
@@ -173,12 +175,12 @@ module _ {V : Type 0} where
   take_written n x _ = (refl, refl)
 
   pub outcomes_write_where_they_change : OutcomesWriteWhereTheyChange (rules V)
-  outcomes_write_where_they_change n (Count x) s o e = subst (λ y. WritesWhereItChanges (rules V) n y) (some_same _ _ e) (refl, refl)
+  outcomes_write_where_they_change n (Count x) s o e = subst (λ y. WritesWhereItChanges (rules V) n y) (same_Some _ _ e) (refl, refl)
   outcomes_write_where_they_change n (Add x) s o e =
-      subst (λ y. WritesWhereItChanges (rules V) n y) (some_same _ _ e) (add_written n x (cond (nat_lt (copies s x) COPY_LIMIT) Done Full))
+      subst (λ y. WritesWhereItChanges (rules V) n y) (same_Some _ _ e) (add_written n x (cond (nat_lt (copies s x) COPY_LIMIT) Done Full))
   outcomes_write_where_they_change n (Take x) s o e =
-      subst (λ y. WritesWhereItChanges (rules V) n y) (some_same _ _ e) (take_written n x (cond (copies s x == 0) No Yes))
-  outcomes_write_where_they_change n _ s o e = absurd (none_some o e)
+      subst (λ y. WritesWhereItChanges (rules V) n y) (same_Some _ _ e) (take_written n x (cond (copies s x == 0) No Yes))
+  outcomes_write_where_they_change n _ s o e = absurd (none-some o e)
 
   pub laws : FrameLaws (rules V)
   laws = record {

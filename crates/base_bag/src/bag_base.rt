@@ -5,13 +5,13 @@ ghost use Rattle.std.specs.Vec.{vec_capacity};
 ghost use Rattle.seq_model.specs.Calls.{IsRefusal, IsWithinLimits};
 ghost use Rattle.seq_model.specs.Counts.{HasFewCopies, copies};
 ghost use Rattle.conflict.specs.Rules.{applied};
-ghost use Rattle.conflict.specs.Footprints.{key_place};
+ghost use Rattle.conflict.specs.Footprints.{key_location};
 ghost use Rattle.conflict.specs.Editions.{raised};
 ghost use Rattle.conflict.specs.Refusals.{IsTooLong, IsNoSuchOrTooLong, IsStripeCount};
 ghost use Rattle.base_bag.specs.Conflicts.{rules, view_of, outcome_of, reads_of, writes_of, changes_of};
 
 use crate::elements::Elements;
-use crate::footprints::{change_in, place_in, reads_in, writes_in};
+use crate::footprints::{change_in, location_in, reads_in, writes_in};
 use conflict::{Change, Changes, Conflict, Editions, LocSet, Note, Outcome, is_stripe_count};
 use seq_model::{COPY_LIMIT, Counts, Held, Memory, Op, Refusal, Reply, Value};
 use std::alloc::Global;
@@ -172,11 +172,11 @@ impl BagBase {
     }
 
     /// The location of the element.
-    pub fn place(&self, element: u64) -> u32
-        ensures location { result ≡ key_place self.now.stripes element }
+    pub fn location_of(&self, element: u64) -> u32
+        ensures location { result ≡ key_location self.now.stripes element }
         ensures within { result < self.now.stripes }
     {
-        place_in(self.stripes, element)
+        location_in(self.stripes, element)
     }
 
     /// The locations that the outcome reads. They are never refused.

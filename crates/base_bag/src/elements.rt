@@ -4,7 +4,7 @@ ghost use Rattle.std.specs.FinMap.{empty};
 ghost use Rattle.seq_model.specs.Counts.{copies, with_copies};
 ghost use Rattle.base_bag.specs.Conflicts.{change_multiset};
 
-use conflict::{Change, Table};
+use conflict::{Change, RoomMap};
 use seq_model::{COPY_LIMIT, Counts, Memory, counts_of};
 use std::alloc::Global;
 use std::marker::Model;
@@ -12,7 +12,7 @@ use std::marker::Model;
 /// A multiset with room for more elements.
 #[derive(Drop)]
 pub struct Elements {
-    table: Table<u64>,
+    table: RoomMap<u64>,
 }
 
 impl Model for Elements {
@@ -38,7 +38,7 @@ impl Elements {
         ensures { result.shown ≡ empty }
     {
         Elements {
-            table: Table::new(alloc),
+            table: RoomMap::new(alloc),
         }
     }
 
@@ -46,7 +46,7 @@ impl Elements {
     pub fn of_counts(alloc: Global, counts: Counts) -> Result<Elements, Memory>
         ensures { IfOk result (λ elements. elements.shown ≡ counts) }
     {
-        let table = Table::of_entries(alloc, counts.into_entries())?;
+        let table = RoomMap::of_entries(alloc, counts.into_entries())?;
         Ok(Elements { table })
     }
 

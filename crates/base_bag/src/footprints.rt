@@ -1,6 +1,6 @@
 //! What an outcome of a multiset reads, writes and changes. It takes the number of stripes, and no multiset.
 ghost use Rattle.std.specs.Prelude.{◌≡◌, ◌<◌, IsOk, IfOk, option_to_list};
-ghost use Rattle.conflict.specs.Footprints.{key_place};
+ghost use Rattle.conflict.specs.Footprints.{key_location};
 ghost use Rattle.base_bag.specs.Conflicts.{changes_of, reads_of, writes_of};
 
 use conflict::{Change, LocSet, Outcome};
@@ -8,9 +8,9 @@ use seq_model::{Memory, Op, Reply};
 use std::alloc::Global;
 
 /// The location of the element.
-pub fn place_in(stripes: u32, element: u64) -> u32
+pub fn location_in(stripes: u32, element: u64) -> u32
     requires { 0 < stripes }
-    ensures location { result ≡ key_place stripes element }
+    ensures location { result ≡ key_location stripes element }
     ensures within { result < stripes }
 {
     (element % stripes as u64) as u32
@@ -24,7 +24,7 @@ pub fn reads_in<V>(alloc: Global, stripes: u32, outcome: &Outcome<V>) -> Result<
 {
     Ok(match &outcome.op {
         Op::Count(element) | Op::Add(element) | Op::Take(element) => {
-            LocSet::single(alloc, place_in(stripes, *element))
+            LocSet::single(alloc, location_in(stripes, *element))
         }
         _ => LocSet::empty(alloc),
     })
@@ -38,7 +38,7 @@ pub fn writes_in<V>(alloc: Global, stripes: u32, outcome: &Outcome<V>) -> Result
 {
     Ok(match (&outcome.op, &outcome.reply) {
         (Op::Add(element), Reply::Done) | (Op::Take(element), Reply::Yes) => {
-            LocSet::single(alloc, place_in(stripes, *element))
+            LocSet::single(alloc, location_in(stripes, *element))
         }
         _ => LocSet::empty(alloc),
     })

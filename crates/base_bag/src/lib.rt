@@ -12,4 +12,4 @@ mod footprints;
 pub mod laws;
 
 pub use bag_base::BagBase;
-pub use footprints::{change_in, place_in, reads_in, writes_in};
+pub use footprints::{change_in, location_in, reads_in, writes_in};

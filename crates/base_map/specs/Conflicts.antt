@@ -13,7 +13,7 @@ use Rattle.conflict.specs.declared.change.Change.{Change}
 use Rattle.conflict.specs.declared.change.Change.TheVariants as change
 use Rattle.conflict.specs.declared.outcome.Outcome.{Outcome}
 use Rattle.conflict.specs.declared.outcome.Note.TheVariants.{Plain}
-use Rattle.conflict.specs.Footprints.{map_reads, map_writes, key_place}
+use Rattle.conflict.specs.Footprints.{map_reads, map_writes, key_location}
 use Rattle.conflict.specs.Rules.{Rules}
 
 -- what the call answers on these contents
@@ -56,7 +56,7 @@ rules V = record {
   changes = changes_of;
   change = change_map;
   look = map.get;
-  place = key_place;
+  location = key_location;
   view_of = view_of;
   held_of = λ m. Map m;
 }

@@ -5,6 +5,7 @@ use Rattle.std.proofs.Math.Nat.{mod-lt}
 use Rattle.std.specs.Cmp.{nat_cmp_total}
 use Rattle.std.specs.Ordering.{nat_cmp, eq_by_cmp}
 use Rattle.std.specs.FinMap.{FinMap, get, insert, remove, get-insert, get-remove, same_map, nat_cmp-IsAntisymmetric}
+use Rattle.std.proofs.lemmas.Option.{none-some, same_Some}
 use Rattle.seq_model.specs.declared.call.Op.{Op}
 use Rattle.seq_model.specs.declared.call.Op.TheVariants.{Get, Put, Remove, Len}
 use Rattle.seq_model.specs.declared.call.Reply.{Reply}
@@ -18,17 +19,15 @@ use Rattle.conflict.specs.Footprints.{map_reads, map_writes}
 use Rattle.conflict.specs.Rules.{FrameLaws, Commute, applied, LegalWhereReadsAgree, ChangesOnlyWrites, WritesWhereItChanges}
 use Rattle.conflict.specs.Rules.{OutcomesWriteWhereTheyChange, ChangesByPart, FollowsCall, AnswersItsKind, PartsDecide, ViewsDecide}
 use Rattle.conflict.specs.Commute.{commute}
-use Rattle.conflict.specs.Places.{in_single, of_none, of_single, in_range, of_range, same_key, some_same, none_some, some_none}
+use Rattle.conflict.specs.Places.{in_single, of_none, of_single, in_range, of_range, same_key}
 use Rattle.seq_model.specs.declared.held.Held.{Held}
 use Rattle.seq_model.specs.declared.held.Held.TheVariants.{Map, Bag, Pq, Queue}
+use Rattle.seq_model.proofs.LogicLemmas.{some-none}
 
 -- what a mapped option came from
 from_map : {A B : Type 0} (f : A → B) (o : Option A) (x : B) → option_map f o ≡ Some x → (r : A) × ((o ≡ Some r) × (f r ≡ x))
-from_map f None x e = absurd (none_some x e)
-  where
-    none_some : {C : Type 0} (x : C) → None ≡ Some x → ⊥
-    none_some x e = cc
-from_map f (Some r) x e = (r, (refl, some_same _ _ e))
+from_map f None x e = absurd (none-some x e)
+from_map f (Some r) x e = (r, (refl, same_Some _ _ e))
 
 -- what a call on a map answers and leaves
 abbrev Answer : Type 0 → Type 0
@@ -120,16 +119,13 @@ module _ {V : Type 0} where
   after_remove s k (Some v) is = refl
 
   after : (op : Op V) (s : FinMap nat_cmp V) (r : Answer V) → map_call op s ≡ Some r → r.1 ≡ applied (rules V) (changes_by op r.0) s
-  after (Get k) s r e = sym (ap (λ x. x.1) (some_same _ _ e))
-  after (Put k v) s r e = sym (ap (λ x. x.1) (some_same _ _ e))
+  after (Get k) s r e = sym (ap (λ x. x.1) (same_Some _ _ e))
+  after (Put k v) s r e = sym (ap (λ x. x.1) (same_Some _ _ e))
   after (Remove k) s r e =
       let P : Answer V → Type 0 = λ x. x.1 ≡ applied (rules V) (changes_by (Remove k) x.0) s in
-      subst P (some_same _ _ e) (after_remove s k (get s k) refl)
-  after Len s r e = sym (ap (λ x. x.1) (some_same _ _ e))
-  after _ s r e = absurd (none_some r e)
-    where
-      none_some : (x : Answer V) → None ≡ Some x → ⊥
-      none_some x e = cc
+      subst P (same_Some _ _ e) (after_remove s k (get s k) refl)
+  after Len s r e = sym (ap (λ x. x.1) (same_Some _ _ e))
+  after _ s r e = absurd (none-some r e)
 
   follows_map : (op : Op V) (s : FinMap nat_cmp V) (o : Outcome V) → outcome_of op s ≡ Some o
       → map_call op s ≡ Some (o.reply, applied (rules V) (changes_of o) s)
@@ -141,40 +137,37 @@ module _ {V : Type 0} where
       (after op s r l.1.0) in
       subst P l.1.1 (l.1.0 ∙ both)
 
-  none_held : (s : FinMap nat_cmp V) → None ≡ Some s → ⊥
-  none_held s e = cc
-
   pub follows_call : FollowsCall (rules V)
   follows_call op (Map m) s o within view e =
       let P : FinMap nat_cmp V → Type 0 = λ s. outcome_of op s ≡ Some o
       → (after : Held V) × ((held_call op (Map m) ≡ Some (o.reply, after))
       × (view_of after ≡ Some (applied (rules V) (changes_of o) s))) in
-      subst P (some_same _ _ view) (λ legal. (
+      subst P (same_Some _ _ view) (λ legal. (
         Map (applied (rules V) (changes_of o) m),
         (ap (option_map (λ r. (r.0, Map r.1))) (follows_map op m o legal), refl),
       )) e
-  follows_call op (Bag m) s o within view e = absurd (none_held s view)
-  follows_call op (Pq m) s o within view e = absurd (none_held s view)
-  follows_call op (Queue head items) s o within view e = absurd (none_held s view)
+  follows_call op (Bag m) s o within view e = absurd (none-some s view)
+  follows_call op (Pq m) s o within view e = absurd (none-some s view)
+  follows_call op (Queue head items) s o within view e = absurd (none-some s view)
 
   answers : (op : Op V) (m s : FinMap nat_cmp V) → outcome_of op s ≡ None → held_call op (Map m) ≡ None
-  answers (Get k) m s e = absurd (some_none _ e)
-  answers (Put k v) m s e = absurd (some_none _ e)
-  answers (Remove k) m s e = absurd (some_none _ e)
-  answers Len m s e = absurd (some_none _ e)
+  answers (Get k) m s e = absurd (some-none _ e)
+  answers (Put k v) m s e = absurd (some-none _ e)
+  answers (Remove k) m s e = absurd (some-none _ e)
+  answers Len m s e = absurd (some-none _ e)
   answers _ m s e = refl
 
   pub answers_its_kind : AnswersItsKind (rules V)
   answers_its_kind op (Map m) s view e = answers op m s e
-  answers_its_kind op (Bag m) s view e = absurd (none_held s view)
-  answers_its_kind op (Pq m) s view e = absurd (none_held s view)
-  answers_its_kind op (Queue head items) s view e = absurd (none_held s view)
+  answers_its_kind op (Bag m) s view e = absurd (none-some s view)
+  answers_its_kind op (Pq m) s view e = absurd (none-some s view)
+  answers_its_kind op (Queue head items) s view e = absurd (none-some s view)
 
   pub views_decide : ViewsDecide (rules V)
-  views_decide (Map m) s view = ap (λ x. Map x) (sym (some_same _ _ view))
-  views_decide (Bag m) s view = absurd (none_held s view)
-  views_decide (Pq m) s view = absurd (none_held s view)
-  views_decide (Queue head items) s view = absurd (none_held s view)
+  views_decide (Map m) s view = ap (λ x. Map x) (sym (same_Some _ _ view))
+  views_decide (Bag m) s view = absurd (none-some s view)
+  views_decide (Pq m) s view = absurd (none-some s view)
+  views_decide (Queue head items) s view = absurd (none-some s view)
 
   pub parts_decide : PartsDecide (rules V)
   parts_decide s t same = same_map nat_cmp_total nat_cmp-IsAntisymmetric _ _ same
@@ -202,7 +195,7 @@ module _ {V : Type 0} where
   call_written n (Put k v) s r e = (refl, refl)
   call_written n (Remove k) s r e = remove_written n k r.0
   call_written n Len s r e = (refl, refl)
-  call_written n _ s r e = absurd (none_some r e)
+  call_written n _ s r e = absurd (none-some r e)
 
   pub outcomes_write_where_they_change : OutcomesWriteWhereTheyChange (rules V)
   outcomes_write_where_they_change n op s o e =

@@ -1,6 +1,6 @@
 //! What an outcome of a map reads, writes and changes. It takes the number of stripes, and no map.
 ghost use Rattle.std.specs.Prelude.{◌≡◌, ◌<◌, ◌≤◌, [], IsOk, IfOk, length, option_to_list};
-ghost use Rattle.conflict.specs.Footprints.{key_place};
+ghost use Rattle.conflict.specs.Footprints.{key_location};
 ghost use Rattle.base_map.specs.Conflicts.{changes_of, reads_of, writes_of};
 
 use conflict::{Change, LocSet, Outcome};
@@ -8,9 +8,9 @@ use seq_model::{Memory, Op, Reply, Value};
 use std::alloc::Global;
 
 /// The location of the key.
-pub fn place_in(stripes: u32, key: u64) -> u32
+pub fn location_in(stripes: u32, key: u64) -> u32
     requires { 0 < stripes }
-    ensures location { result ≡ key_place stripes key }
+    ensures location { result ≡ key_location stripes key }
     ensures within { result < stripes }
 {
     (key % stripes as u64) as u32
@@ -24,7 +24,7 @@ pub fn reads_in<V>(alloc: Global, stripes: u32, outcome: &Outcome<V>) -> Result<
 {
     match &outcome.op {
         Op::Get(key) | Op::Put(key, _) | Op::Remove(key) => {
-            Ok(LocSet::single(alloc, place_in(stripes, *key)))
+            Ok(LocSet::single(alloc, location_in(stripes, *key)))
         }
         Op::Len => LocSet::all_below(alloc, stripes),
         _ => Ok(LocSet::empty(alloc)),
@@ -39,7 +39,7 @@ pub fn writes_in<V>(alloc: Global, stripes: u32, outcome: &Outcome<V>) -> Result
 {
     Ok(match (&outcome.op, &outcome.reply) {
         (Op::Put(key, _), _) | (Op::Remove(key), Reply::Value(_)) => {
-            LocSet::single(alloc, place_in(stripes, *key))
+            LocSet::single(alloc, location_in(stripes, *key))
         }
         _ => LocSet::empty(alloc),
     })

@@ -10,5 +10,5 @@ mod footprints;
 pub mod laws;
 mod map_base;
 
-pub use footprints::{change_in, place_in, reads_in, writes_in};
+pub use footprints::{change_in, location_in, reads_in, writes_in};
 pub use map_base::MapBase;

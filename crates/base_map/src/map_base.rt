@@ -6,14 +6,14 @@ ghost use Rattle.std.specs.FinMap as map;
 ghost use Rattle.seq_model.specs.Calls.{IsRefusal, value_reply};
 ghost use Rattle.conflict.specs.Rules.{applied};
 ghost use Rattle.conflict.specs.Counts.{stripe_counts};
-ghost use Rattle.conflict.specs.Footprints.{key_place};
+ghost use Rattle.conflict.specs.Footprints.{key_location};
 ghost use Rattle.conflict.specs.Editions.{raised};
 ghost use Rattle.conflict.specs.Refusals.{IsTooLong, IsNoSuchOrTooLong, IsStripeCount};
 ghost use Rattle.base_map.specs.Conflicts.{rules, view_of, outcome_of, reads_of, writes_of, changes_of};
 
-use crate::footprints::{change_in, place_in, reads_in, writes_in};
+use crate::footprints::{change_in, location_in, reads_in, writes_in};
 use conflict::{
-    Change, Changes, Conflict, Editions, LocSet, Note, Outcome, Table, is_stripe_count,
+    Change, Changes, Conflict, Editions, LocSet, Note, Outcome, RoomMap, is_stripe_count,
 };
 use seq_model::{Entries, Held, Items, Memory, Op, Refusal, Reply, Value};
 use std::alloc::Global;
@@ -21,7 +21,7 @@ use std::marker::Model;
 
 /// A map in stripes, with an edition for each.
 pub struct MapBase<V> {
-    table: Table<V>,
+    table: RoomMap<V>,
     stripes: u32,
     editions: Editions,
 }
@@ -72,7 +72,7 @@ impl<V: Value> MapBase<V> {
         }
         let editions = Editions::new(alloc, stripes)?;
         Ok(MapBase {
-            table: Table::new(alloc),
+            table: RoomMap::new(alloc),
             stripes,
             editions,
         })
@@ -105,7 +105,7 @@ impl<V: Value> MapBase<V> {
             return Err(Refusal::TooLong);
         }
         let editions = Editions::new(alloc, stripes)?;
-        let table = Table::of_entries(alloc, entries)?;
+        let table = RoomMap::of_entries(alloc, entries)?;
         Ok(MapBase {
             table,
             stripes,
@@ -184,11 +184,11 @@ impl<V: Value> MapBase<V> {
     }
 
     /// The location of the key.
-    pub fn place(&self, key: u64) -> u32
-        ensures location { result ≡ key_place self.now.stripes key }
+    pub fn location_of(&self, key: u64) -> u32
+        ensures location { result ≡ key_location self.now.stripes key }
         ensures within { result < self.now.stripes }
     {
-        place_in(self.stripes, key)
+        location_in(self.stripes, key)
     }
 
     /// The locations that the outcome reads. Up to eight are never refused.
@@ -284,7 +284,7 @@ impl<V: Value> MapBase<V> {
     }
 }
 
-fn apply_changes<V: Drop>(table: &mut Table<V>, changes: &mut Vec<Change<V>>)
+fn apply_changes<V: Drop>(table: &mut RoomMap<V>, changes: &mut Vec<Change<V>>)
     requires { length changes.old.items ≤ table.old.room }
     ensures contents { table.new.contents ≡ applied (rules V) changes.old.items table.old.contents }
     ensures room { table.old.room ≤ table.new.room + length changes.old.items }

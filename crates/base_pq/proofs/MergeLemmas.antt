@@ -14,7 +14,7 @@ use Rattle.std.specs.List.{remove}
 use Rattle.std.specs.FinMap.Entries.{by_order, below_all}
 use Rattle.std.proofs.Common.{not}
 use Rattle.std.proofs.lemmas.List.Elements.{All-head, All-tail, All-cons, All-nil, All-append}
-use Rattle.seq_model.specs.Entries.{IsPlaceOf, IsRising, rank, has_key}
+use Rattle.seq_model.specs.Entries.{IsPositionOf, IsRising, rank, has_key}
 use Rattle.seq_model.proofs.EntryLemmas.{below_at, both_true, by_cases, greater_of, less_of, remove_there, without, without_below}
 use Rattle.base_pq.specs.Laid.{laid_by, through, with_number}
 
@@ -117,7 +117,7 @@ near_rank (suc n) k (e ∷ es) within low =
     (λ gt. (ap suc rest.0, rest.1))
 
 pub near_place : (n k : ℕ) (es : List (ℕ × ℕ)) (r : Result ℕ ℕ) → n < length es → ((d : ℕ × ℕ) → k < (get_or es n d).0)
-    → IsPlaceOf k (take n es) r → IsPlaceOf k es r
+    → IsPositionOf k (take n es) r → IsPositionOf k es r
 near_place n k es (Ok i) within low p =
     let same = near_rank n k es within low in
     (omega (arith, p.0, within, length-take-le n es (omega (arith, within))), sym same.0 ∙ p.1, sym same.1 ∙ p.2)
@@ -158,7 +158,7 @@ first_gone (suc n) [] = let more : suc n + 1 ≡ suc (n + 1) = omega arith in ap
 first_gone (suc n) (e ∷ es) = let more : suc n + 1 ≡ suc (n + 1) = omega arith in first_gone n es ∙ ap (λ k. drop k (e ∷ es)) (sym more)
 
 -- a search among the entries from n on that found the first
-pub first_out : (n x : ℕ) (es : List (ℕ × ℕ)) → IsRising es → IsPlaceOf x (entries (from_sorted {R = nat_cmp} (drop n es))) (Ok 0)
+pub first_out : (n x : ℕ) (es : List (ℕ × ℕ)) → IsRising es → IsPositionOf x (entries (from_sorted {R = nat_cmp} (drop n es))) (Ok 0)
     → from_sorted {R = nat_cmp} (drop (n + 1) es) ≡ map_remove (from_sorted (drop n es)) x
 first_out n x es s p =
     ap from_sorted (sym (first_gone n es)) ∙ remove_there (drop n es) (rising_drop n es s) _ refl x 0 p

@@ -9,9 +9,10 @@ use Rattle.std.proofs.Common.{drop, take, is_err, IsOk, OnOk, Result, Ok, Err, O
 use Rattle.std.proofs.lemmas.Bool.Decides.{nat_tests}
 use Rattle.std.proofs.lemmas.List.{get_or-set_same, get_or-set_other}
 use Rattle.std.proofs.lemmas.List.Sums.{get_or-le-sum_by, sum_by-cons, sum_by-drop_more, sum_by-set, sum_by-take-le, sum_by_more}
+use Rattle.std.proofs.lemmas.Option.{none-some, same_Some}
 use Rattle.conflict.specs.declared.change.Change.{Change}
 use Rattle.conflict.specs.declared.change.Change.TheVariants as change
-use Rattle.conflict.specs.Places.{mod_below, none_some, some_same}
+use Rattle.conflict.specs.Places.{mod_below}
 use Rattle.base_pq.specs.Room.{HasRoom, LeavesRoom, fallen, falling, room_taken, some_room, stripe_of}
 
 pub ok_of : {T E P : Type 0} (r : Result T E) → is_err r ≡ false → OnOk r P → P
@@ -83,9 +84,9 @@ sum_more xs at inside = let all = sum_by-set (λ x. x) xs at (get_or xs at 0 + 1
 module _ {V : Type 0} where
   -- ---- changes
   pub stripe_inside : (n j : ℕ) (c : Change V) → 0 < n → stripe_of n c ≡ Some j → j < n
-  stripe_inside n j (change.Add x) pos e = subst (λ i. i < n) (some_same _ _ e) (mod_below x n pos)
-  stripe_inside n j (change.Take x) pos e = subst (λ i. i < n) (some_same _ _ e) (mod_below x n pos)
-  stripe_inside n j c pos e = absurd (none_some j e)
+  stripe_inside n j (change.Add x) pos e = subst (λ i. i < n) (same_Some _ _ e) (mod_below x n pos)
+  stripe_inside n j (change.Take x) pos e = subst (λ i. i < n) (same_Some _ _ e) (mod_below x n pos)
+  stripe_inside n j c pos e = absurd (none-some j e)
 
   pub room_of_one : (n j : ℕ) (room : List ℕ) (c : Change V) → HasRoom n room (c ∷ []) → stripe_of n c ≡ Some j → j < n
       → 0 < get_or room j 0

@@ -4,7 +4,7 @@ ghost use Rattle.std.specs.FinMap as map;
 ghost use Rattle.seq_model.specs.Entries.{IsRising, rank};
 ghost use Rattle.base_pq.specs.Laid.{laid_by, through, with_number};
 
-use crate::sorted::place_of;
+use crate::sorted::position_of;
 use seq_model::Memory;
 use std::alloc::Global;
 
@@ -61,7 +61,7 @@ fn parted(list: &[(u64, u64)], element: u64) -> (usize, usize)
     ensures used { result.1 ≡ through element list.now }
     ensures within { (result.0 ≤ length list.now) × (result.1 ≤ length list.now) }
 {
-    match place_of(list, element) {
+    match position_of(list, element) {
         Ok(at) => (at, at + 1),
         Err(at) => (at, at),
     }

@@ -4,7 +4,7 @@ ghost use Rattle.std.specs.FinMap as map;
 ghost use Rattle.seq_model.specs.Entries.{IsRising};
 
 use crate::shared::Shared;
-use crate::sorted::place_of;
+use crate::sorted::position_of;
 use seq_model::Memory;
 use std::alloc::Global;
 use std::marker::Model;
@@ -77,7 +77,7 @@ impl Rest {
         ensures { result ≡ map.get self.now element }
     {
         let list = self.as_slice();
-        match place_of(list, element) {
+        match position_of(list, element) {
             Ok(at) => Some(list[at].1),
             Err(_) => None,
         }
@@ -88,7 +88,7 @@ impl Rest {
         ensures { self.new ≡ if result then map.remove self.old element else self.old }
     {
         let total = self.shared.len();
-        match place_of(self.as_slice(), element) {
+        match position_of(self.as_slice(), element) {
             Ok(0) => {
                 self.gone += 1;
                 true

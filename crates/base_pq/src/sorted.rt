@@ -1,7 +1,7 @@
 //! Numbers of copies by element, in order, with room for more.
 ghost use Rattle.std.specs.Prelude.{◌≡◌, ◌+◌, ◌^◌, ◌<◌, ◌≤◌, OnOk, OnErr, IsOk, IfOk, length};
 ghost use Rattle.std.specs.FinMap as map;
-ghost use Rattle.seq_model.specs.Entries.{IsPlaceOf, IsRising};
+ghost use Rattle.seq_model.specs.Entries.{IsPositionOf, IsRising};
 
 use seq_model::Memory;
 use std::alloc::Global;
@@ -139,17 +139,17 @@ impl Sorted {
     }
 
     fn search(&self, element: u64) -> Result<usize, usize>
-        ensures { IsPlaceOf element (map.entries self.now.elements) result }
+        ensures { IsPositionOf element (map.entries self.now.elements) result }
     {
-        place_of(self.items.as_slice(), element)
+        position_of(self.items.as_slice(), element)
     }
 }
 
 /// Where the element is in the list, which rises, or (`Err`) where it would go. Most are asked for near the front, so that part is searched
 /// first: a list may be far larger than a cache.
-pub fn place_of(list: &[(u64, u64)], element: u64) -> Result<usize, usize>
+pub fn position_of(list: &[(u64, u64)], element: u64) -> Result<usize, usize>
     requires { IsRising list.now }
-    ensures { IsPlaceOf element list.now result }
+    ensures { IsPositionOf element list.now result }
 {
     if list.len() > NEAR && element < list[NEAR].0 {
         return place_by_halves(&list[..NEAR], element);
@@ -159,7 +159,7 @@ pub fn place_of(list: &[(u64, u64)], element: u64) -> Result<usize, usize>
 
 fn place_by_halves(list: &[(u64, u64)], element: u64) -> Result<usize, usize>
     requires { IsRising list.now }
-    ensures { IsPlaceOf element list.now result }
+    ensures { IsPositionOf element list.now result }
 {
     list.binary_search_by_key(&element, |entry| entry.0)
 }

@@ -17,7 +17,7 @@ use Rattle.conflict.specs.declared.change.Change.TheVariants as change
 use Rattle.conflict.specs.declared.outcome.Outcome.{Outcome}
 use Rattle.conflict.specs.declared.outcome.Note.{Note}
 use Rattle.conflict.specs.declared.outcome.Note.TheVariants.{Plain, Index}
-use Rattle.conflict.specs.Footprints.{queue_reads, queue_writes, head_place, tail_place, cell_place}
+use Rattle.conflict.specs.Footprints.{queue_reads, queue_writes, head_location, tail_location, cell_location}
 use Rattle.conflict.specs.Rules.{Rules}
 
 -- the items by their indexes, the index of the first one, and the index that the next one gets
@@ -70,10 +70,10 @@ look s zero = Some s.head
 look s (suc zero) = Some s.tail
 look s (suc (suc index)) = get s.cells index
 
-abbrev pub place : ℕ → ℕ → ℕ
-place n zero = head_place
-place n (suc zero) = tail_place
-place n (suc (suc index)) = cell_place n index
+abbrev pub point_location : ℕ → ℕ → ℕ
+point_location n zero = head_location
+point_location n (suc zero) = tail_location
+point_location n (suc (suc index)) = cell_location n index
 
 -- items from this index on
 abbrev pub cells_from : ℕ → List ℕ → FinMap nat_cmp ℕ
@@ -96,7 +96,7 @@ rules V = record {
   changes = changes_of;
   change = change_shown;
   look = look;
-  place = place;
+  location = point_location;
   view_of = view_of;
   held_of = λ s. Queue s.head (values s.cells);
 }

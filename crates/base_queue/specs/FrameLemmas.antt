@@ -9,6 +9,7 @@ use Rattle.std.specs.FinMap.{FinMap, empty, entries, values, get, insert, remove
 use Rattle.std.specs.FinMap.{get-remove, len-entries, len-empty, nat_cmp-IsAntisymmetric}
 use Rattle.std.specs.FinMap.Entries.{by_order}
 use Rattle.std.proofs.lemmas.Bool.Decides.{nat_tests}
+use Rattle.std.proofs.lemmas.Option.{same_Some, none-some}
 use Rattle.seq_model.specs.declared.call.Op.{Op}
 use Rattle.seq_model.specs.declared.call.Op.TheVariants.{Enqueue, Dequeue, Peek, Len}
 use Rattle.seq_model.specs.declared.call.Reply.{Reply}
@@ -17,6 +18,7 @@ use Rattle.seq_model.specs.declared.held.Held.{Held}
 use Rattle.seq_model.specs.declared.held.Held.TheVariants.{Map, Bag, Pq, Queue}
 use Rattle.seq_model.specs.declared.limits.TheConstants.{INDEX_LIMIT}
 use Rattle.seq_model.specs.Calls.{found_reply, held_call}
+use Rattle.seq_model.proofs.LogicLemmas.{some-none}
 use Rattle.conflict.specs.declared.change.Change.TheVariants as change
 use Rattle.conflict.specs.declared.outcome.Outcome.{Outcome}
 use Rattle.conflict.specs.declared.outcome.Note.{Note}
@@ -26,9 +28,8 @@ use Rattle.conflict.specs.Rules.{OutcomesWriteWhereTheyChange, ChangesByPart, Fo
 use Rattle.conflict.specs.Rules.{ReadsLocations, ViewsDecide}
 use Rattle.conflict.specs.Commute.{commute}
 use Rattle.conflict.specs.Places.{in_single, first_of_two, second_of_two, of_none, of_single, of_two, mod_below, same_key, key_itself}
-use Rattle.conflict.specs.Places.{some_same, none_some, some_none}
-use Rattle.conflict.specs.Footprints.{queue_reads, queue_writes, cell_place}
-use Rattle.base_queue.specs.Conflicts.{Shown, outcome_of, reads_of, changes_by, changes_of, look, place, cells_from, queue_view, view_of}
+use Rattle.conflict.specs.Footprints.{queue_reads, queue_writes, cell_location}
+use Rattle.base_queue.specs.Conflicts.{Shown, outcome_of, reads_of, changes_by, changes_of, look, point_location, cells_from, queue_view, view_of}
 use Rattle.base_queue.specs.Conflicts.{rules}
 
 -- ---- cells
@@ -108,40 +109,40 @@ cell_values h items = ap (map (λ (e : ℕ × ℕ). e.1)) (cell_entries h items)
 shown_decided : (s t : Shown) → ((q : ℕ) → look s q ≡ look t q) → s ≡ t
 shown_decided s t same =
     let cells : s.cells ≡ t.cells = same_map nat_cmp_total nat_cmp-IsAntisymmetric _ _ (λ q. same (suc (suc q))) in
-    let head : s.head ≡ t.head = some_same _ _ (same 0) in
-    let tail : s.tail ≡ t.tail = some_same _ _ (same 1) in
+    let head : s.head ≡ t.head = same_Some _ _ (same 0) in
+    let tail : s.tail ≡ t.tail = same_Some _ _ (same 1) in
     λ i. record { cells = cells i; head = head i; tail = tail i }
 
-place_below : (n q : ℕ) → 0 < n → place n q < suc (suc n)
+place_below : (n q : ℕ) → 0 < n → point_location n q < suc (suc n)
 place_below n zero pos = omega arith
 place_below n (suc zero) pos = omega arith
 place_below n (suc (suc index)) pos = let lt = mod_below index n pos in omega arith
 
 abbrev Same : ℕ → ℕ → Shown → Shown → Type 0
-Same n l s t = (q : ℕ) → place n q ≡ l → look s q ≡ look t q
+Same n l s t = (q : ℕ) → point_location n q ≡ l → look s q ≡ look t q
 
-other_cell : (n k q x : ℕ) → ¬ Contains (x ∷ cell_place n k ∷ []) (cell_place n q) → eq_by_cmp nat_cmp q k ≡ false
+other_cell : (n k q x : ℕ) → ¬ Contains (x ∷ cell_location n k ∷ []) (cell_location n q) → eq_by_cmp nat_cmp q k ≡ false
 other_cell n k q x un =
     elim (eq_by_cmp nat_cmp q k) as (λ b. eq_by_cmp nat_cmp q k ≡ b → b ≡ false) [
-      | true ↦ λ is. absurd (un (subst (λ y. Contains (x ∷ cell_place n k ∷ []) (cell_place n y)) (sym (same_key q k is))
-          (second_of_two x (cell_place n k))))
+      | true ↦ λ is. absurd (un (subst (λ y. Contains (x ∷ cell_location n k ∷ []) (cell_location n y)) (sym (same_key q k is))
+          (second_of_two x (cell_location n k))))
       | false ↦ λ is. refl
     ] refl
 
-enqueued : (n l t x : ℕ) (s : Shown) → ¬ Contains (1 ∷ cell_place n t ∷ []) l
+enqueued : (n l t x : ℕ) (s : Shown) → ¬ Contains (1 ∷ cell_location n t ∷ []) l
     → Same n l s (record { cells = insert s.cells t x; head = s.head; tail = t + 1 })
 enqueued n l t x s un zero on = refl
-enqueued n l t x s un (suc zero) on = absurd (un (subst (λ y. Contains (1 ∷ cell_place n t ∷ []) y) on (first_of_two 1 (cell_place n t))))
+enqueued n l t x s un (suc zero) on = absurd (un (subst (λ y. Contains (1 ∷ cell_location n t ∷ []) y) on (first_of_two 1 (cell_location n t))))
 enqueued n l t x s un (suc (suc q)) on =
-    let other = other_cell n t q 1 (subst (λ y. ¬ Contains (1 ∷ cell_place n t ∷ []) y) (sym on) un) in
+    let other = other_cell n t q 1 (subst (λ y. ¬ Contains (1 ∷ cell_location n t ∷ []) y) (sym on) un) in
     sym (get-insert nat_cmp_total s.cells t x q ∙ ap (λ b. cond b (Some x) (get s.cells q)) other)
 
-dequeued : (n l h : ℕ) (s : Shown) → ¬ Contains (0 ∷ cell_place n h ∷ []) l
+dequeued : (n l h : ℕ) (s : Shown) → ¬ Contains (0 ∷ cell_location n h ∷ []) l
     → Same n l s (record { cells = remove s.cells h; head = h + 1; tail = s.tail })
-dequeued n l h s un zero on = absurd (un (subst (λ y. Contains (0 ∷ cell_place n h ∷ []) y) on (first_of_two 0 (cell_place n h))))
+dequeued n l h s un zero on = absurd (un (subst (λ y. Contains (0 ∷ cell_location n h ∷ []) y) on (first_of_two 0 (cell_location n h))))
 dequeued n l h s un (suc zero) on = refl
 dequeued n l h s un (suc (suc q)) on =
-    let other = other_cell n h q 0 (subst (λ y. ¬ Contains (0 ∷ cell_place n h ∷ []) y) (sym on) un) in
+    let other = other_cell n h q 0 (subst (λ y. ¬ Contains (0 ∷ cell_location n h ∷ []) y) (sym on) un) in
     sym (get-remove nat_cmp_total s.cells h q ∙ ap (λ b. cond b None (get s.cells q)) other)
 
 enqueue_by_point : (t x q : ℕ) (s u : Shown) → look s q ≡ look u q
@@ -160,10 +161,10 @@ dequeue_by_point h (suc zero) s u same = same
 dequeue_by_point h (suc (suc q)) s u same =
     get-remove nat_cmp_total s.cells h q ∙ ap (cond (eq_by_cmp nat_cmp q h) None) same ∙ sym (get-remove nat_cmp_total u.cells h q)
 
-two_below : (n l x k : ℕ) → 0 < n → x < suc (suc n) → Contains (x ∷ cell_place n k ∷ []) l → l < suc (suc n)
+two_below : (n l x k : ℕ) → 0 < n → x < suc (suc n) → Contains (x ∷ cell_location n k ∷ []) l → l < suc (suc n)
 two_below n l x k pos lt c =
     let cell = mod_below k n pos in
-    elim (of_two x (cell_place n k) l c) as (λ _. l < suc (suc n)) [ inl is ↦ omega arith | inr is ↦ omega arith ]
+    elim (of_two x (cell_location n k) l c) as (λ _. l < suc (suc n)) [ inl is ↦ omega arith | inr is ↦ omega arith ]
 
 -- ---- what is written
 enqueue_written : (V : Type 0) (n x t : ℕ) (b : Bool) → WritesWhereItChanges (rules V) n
@@ -183,38 +184,38 @@ module _ {V : Type 0} where
       (record { op = Enqueue x; reply = Full; note = Plain })
 
   enqueue_reads : (n x : ℕ) (b : Bool) (t : ℕ) (o : Outcome V) → enqueue_by x b t ≡ o → Contains (reads_of n o) 1
-  enqueue_reads n x true t o is = subst (λ (y : Outcome V). Contains (reads_of n y) 1) is (first_of_two 1 (cell_place n t))
+  enqueue_reads n x true t o is = subst (λ (y : Outcome V). Contains (reads_of n y) 1) is (first_of_two 1 (cell_location n t))
   enqueue_reads n x false t o is = subst (λ (y : Outcome V). Contains (reads_of n y) 1) is (in_single 1)
 
   abbrev found_at : Op V → ℕ → Option ℕ → Outcome V
   found_at op h f = record { op = op; reply = found_reply f; note = Index h }
 
-  found_same : (n : ℕ) (op : Op V) (s t : Shown) → Agree (rules V) n (0 ∷ cell_place n s.head ∷ []) s t
+  found_same : (n : ℕ) (op : Op V) (s t : Shown) → Agree (rules V) n (0 ∷ cell_location n s.head ∷ []) s t
       → Some (found_at op t.head (get t.cells t.head)) ≡ Some (found_at op s.head (get s.cells s.head))
   found_same n op s t agree =
-      let head : t.head ≡ s.head = sym (some_same _ _ (agree 0 (first_of_two 0 (cell_place n s.head)) 0 refl)) in
+      let head : t.head ≡ s.head = sym (same_Some _ _ (agree 0 (first_of_two 0 (cell_location n s.head)) 0 refl)) in
       let cell : get t.cells t.head ≡ get s.cells s.head = ap (get t.cells) head
-      ∙ sym (agree (cell_place n s.head) (second_of_two 0 (cell_place n s.head)) (suc (suc s.head)) refl) in
+      ∙ sym (agree (cell_location n s.head) (second_of_two 0 (cell_location n s.head)) (suc (suc s.head)) refl) in
       λ i. Some (found_at op (head i) (cell i))
 
   pub legal_where_reads_agree : LegalWhereReadsAgree (rules V)
   legal_where_reads_agree n (Enqueue x) s t o pos e agree =
-      let reads : Contains (reads_of n o) 1 = enqueue_reads n x (nat_lt s.tail INDEX_LIMIT) s.tail o (some_same _ _ e) in
-      let tail : t.tail ≡ s.tail = sym (some_same _ _ (agree 1 reads 1 refl)) in
+      let reads : Contains (reads_of n o) 1 = enqueue_reads n x (nat_lt s.tail INDEX_LIMIT) s.tail o (same_Some _ _ e) in
+      let tail : t.tail ≡ s.tail = sym (same_Some _ _ (agree 1 reads 1 refl)) in
       ap (λ y. Some (enqueue_by x (nat_lt y INDEX_LIMIT) y)) tail ∙ e
   legal_where_reads_agree n Dequeue s t o pos e agree =
-      let is : found_at Dequeue s.head (get s.cells s.head) ≡ o = some_same _ _ e in
+      let is : found_at Dequeue s.head (get s.cells s.head) ≡ o = same_Some _ _ e in
       found_same n Dequeue s t (subst (λ (x : Outcome V). Agree (rules V) n (reads_of n x) s t) (sym is) agree) ∙ e
   legal_where_reads_agree n Peek s t o pos e agree =
-      let is : found_at Peek s.head (get s.cells s.head) ≡ o = some_same _ _ e in
+      let is : found_at Peek s.head (get s.cells s.head) ≡ o = same_Some _ _ e in
       found_same n Peek s t (subst (λ (x : Outcome V). Agree (rules V) n (reads_of n x) s t) (sym is) agree) ∙ e
   legal_where_reads_agree n Len s t o pos e agree =
-      let is : (record { op = Len; reply = Number (s.tail - s.head); note = Plain }) ≡ o = some_same _ _ e in
+      let is : (record { op = Len; reply = Number (s.tail - s.head); note = Plain }) ≡ o = same_Some _ _ e in
       let both : Agree (rules V) n (0 ∷ 1 ∷ []) s t = subst (λ (x : Outcome V). Agree (rules V) n (reads_of n x) s t) (sym is) agree in
-      let head : t.head ≡ s.head = sym (some_same _ _ (both 0 (first_of_two 0 1) 0 refl)) in
-      let tail : t.tail ≡ s.tail = sym (some_same _ _ (both 1 (second_of_two 0 1) 1 refl)) in
+      let head : t.head ≡ s.head = sym (same_Some _ _ (both 0 (first_of_two 0 1) 0 refl)) in
+      let tail : t.tail ≡ s.tail = sym (same_Some _ _ (both 1 (second_of_two 0 1) 1 refl)) in
       (λ i. Some (record { op = Len; reply = Number (tail i - head i); note = Plain })) ∙ e
-  legal_where_reads_agree n _ s t o pos e agree = absurd (none_some o e)
+  legal_where_reads_agree n _ s t o pos e agree = absurd (none-some o e)
 
   -- ---- writes
   only_writes : (n l : ℕ) (op : Op V) (r : Reply V) (w : Note) (s : Shown) → ¬ Contains (queue_writes n op r w) l
@@ -313,40 +314,40 @@ module _ {V : Type 0} where
 
   at_state : (op : Op V) (head : ℕ) (items : List ℕ) (o : Outcome V) → head + length items ≤ INDEX_LIMIT
       → outcome_of op (queue_view head items) ≡ Some o → Follows op head items o
-  at_state (Enqueue x) head items o within e = subst (Follows (Enqueue x) head items) (some_same _ _ e) (enqueue_follows x head items)
-  at_state Dequeue head items o within e = subst (Follows Dequeue head items) (some_same _ _ e) (dequeue_follows head items within)
-  at_state Peek head items o within e = subst (Follows Peek head items) (some_same _ _ e) (peek_follows head items)
-  at_state Len head items o within e = subst (Follows Len head items) (some_same _ _ e) (len_follows head items)
-  at_state _ head items o within e = absurd (none_some o e)
+  at_state (Enqueue x) head items o within e = subst (Follows (Enqueue x) head items) (same_Some _ _ e) (enqueue_follows x head items)
+  at_state Dequeue head items o within e = subst (Follows Dequeue head items) (same_Some _ _ e) (dequeue_follows head items within)
+  at_state Peek head items o within e = subst (Follows Peek head items) (same_Some _ _ e) (peek_follows head items)
+  at_state Len head items o within e = subst (Follows Len head items) (same_Some _ _ e) (len_follows head items)
+  at_state _ head items o within e = absurd (none-some o e)
 
   pub follows_call : FollowsCall (rules V)
   follows_call op (Queue head items) s o within view e =
       let P : Shown → Type 0 = λ s. outcome_of op s ≡ Some o → (after : Held V)
       × ((held_call op (Queue head items) ≡ Some (o.reply, after)) × (view_of after ≡ Some (applied (rules V) (changes_of o) s))) in
-      subst P (some_same _ _ view) (at_state op head items o within) e
-  follows_call op (Map m) s o within view e = absurd (none_some s view)
-  follows_call op (Bag m) s o within view e = absurd (none_some s view)
-  follows_call op (Pq m) s o within view e = absurd (none_some s view)
+      subst P (same_Some _ _ view) (at_state op head items o within) e
+  follows_call op (Map m) s o within view e = absurd (none-some s view)
+  follows_call op (Bag m) s o within view e = absurd (none-some s view)
+  follows_call op (Pq m) s o within view e = absurd (none-some s view)
 
   answers : (op : Op V) (head : ℕ) (items : List ℕ) (s : Shown) → outcome_of op s ≡ None → held_call op (Queue head items) ≡ None
-  answers (Enqueue x) head items s e = absurd (some_none _ e)
-  answers Dequeue head items s e = absurd (some_none _ e)
-  answers Peek head items s e = absurd (some_none _ e)
-  answers Len head items s e = absurd (some_none _ e)
+  answers (Enqueue x) head items s e = absurd (some-none _ e)
+  answers Dequeue head items s e = absurd (some-none _ e)
+  answers Peek head items s e = absurd (some-none _ e)
+  answers Len head items s e = absurd (some-none _ e)
   answers _ head items s e = refl
 
   pub answers_its_kind : AnswersItsKind (rules V)
   answers_its_kind op (Queue head items) s view e = answers op head items s e
-  answers_its_kind op (Map m) s view e = absurd (none_some s view)
-  answers_its_kind op (Bag m) s view e = absurd (none_some s view)
-  answers_its_kind op (Pq m) s view e = absurd (none_some s view)
+  answers_its_kind op (Map m) s view e = absurd (none-some s view)
+  answers_its_kind op (Bag m) s view e = absurd (none-some s view)
+  answers_its_kind op (Pq m) s view e = absurd (none-some s view)
 
   pub views_decide : ViewsDecide (rules V)
-  views_decide (Queue head items) s view = ap (λ x. Queue x.head (values x.cells)) (sym (some_same _ _ view))
+  views_decide (Queue head items) s view = ap (λ x. Queue x.head (values x.cells)) (sym (same_Some _ _ view))
       ∙ ap (λ l. Queue head l) (cell_values head items)
-  views_decide (Map m) s view = absurd (none_some s view)
-  views_decide (Bag m) s view = absurd (none_some s view)
-  views_decide (Pq m) s view = absurd (none_some s view)
+  views_decide (Map m) s view = absurd (none-some s view)
+  views_decide (Bag m) s view = absurd (none-some s view)
+  views_decide (Pq m) s view = absurd (none-some s view)
 
   -- ---- locations
   written_read : (n l : ℕ) (op : Op V) (r : Reply V) (w : Note) → Contains (queue_writes n op r w) l → Contains (queue_reads n op w) l
@@ -371,12 +372,12 @@ module _ {V : Type 0} where
   -- ---- what is written
   pub outcomes_write_where_they_change : OutcomesWriteWhereTheyChange (rules V)
   outcomes_write_where_they_change n (Enqueue x) s o e =
-      subst (λ y. WritesWhereItChanges (rules V) n y) (some_same _ _ e) (enqueue_written V n x s.tail (nat_lt s.tail INDEX_LIMIT))
+      subst (λ y. WritesWhereItChanges (rules V) n y) (same_Some _ _ e) (enqueue_written V n x s.tail (nat_lt s.tail INDEX_LIMIT))
   outcomes_write_where_they_change n Dequeue s o e =
-      subst (λ y. WritesWhereItChanges (rules V) n y) (some_same _ _ e) (dequeue_written V n s.head (get s.cells s.head))
-  outcomes_write_where_they_change n Peek s o e = subst (λ y. WritesWhereItChanges (rules V) n y) (some_same _ _ e) (refl, refl)
-  outcomes_write_where_they_change n Len s o e = subst (λ y. WritesWhereItChanges (rules V) n y) (some_same _ _ e) (refl, refl)
-  outcomes_write_where_they_change n _ s o e = absurd (none_some o e)
+      subst (λ y. WritesWhereItChanges (rules V) n y) (same_Some _ _ e) (dequeue_written V n s.head (get s.cells s.head))
+  outcomes_write_where_they_change n Peek s o e = subst (λ y. WritesWhereItChanges (rules V) n y) (same_Some _ _ e) (refl, refl)
+  outcomes_write_where_they_change n Len s o e = subst (λ y. WritesWhereItChanges (rules V) n y) (same_Some _ _ e) (refl, refl)
+  outcomes_write_where_they_change n _ s o e = absurd (none-some o e)
 
   pub laws : FrameLaws (rules V)
   laws = record {

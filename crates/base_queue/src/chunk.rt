@@ -45,7 +45,7 @@ impl Chunk {
         })
     }
 
-    /// The item at this place of the chunk.
+    /// The item at this position of the chunk.
     pub fn at(&self, place: usize) -> u64
         requires { place < length self.now }
         ensures { result ≡ slice_index self.now place }

@@ -4,7 +4,7 @@ ghost use Rattle.std.specs.Prelude.{option_to_list, slice_index};
 ghost use Rattle.std.specs.Vec.{vec_capacity};
 ghost use Rattle.seq_model.specs.Calls.{IsRefusal, IsWithinLimits};
 ghost use Rattle.conflict.specs.Rules.{applied};
-ghost use Rattle.conflict.specs.Footprints.{cell_place};
+ghost use Rattle.conflict.specs.Footprints.{cell_location};
 ghost use Rattle.conflict.specs.Editions.{raised};
 ghost use Rattle.conflict.specs.Refusals.{IsTooLong, IsNoSuchOrTooLong, IsStripeCount};
 ghost use Rattle.base_queue.specs.Conflicts.{rules, queue_view, view_of, outcome_of, reads_of, writes_of, changes_of};
@@ -173,7 +173,7 @@ impl QueueBase {
     }
 
     fn cell(&self, index: u64) -> u32
-        ensures place { result ≡ cell_place self.now.stripes index }
+        ensures place { result ≡ cell_location self.now.stripes index }
         ensures after { 1 < result }
     {
         (index % self.stripes as u64) as u32 + 2

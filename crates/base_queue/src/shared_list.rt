@@ -70,7 +70,7 @@ impl SharedList {
         self.chunked + self.back.len()
     }
 
-    /// The item at this place.
+    /// The item at this position.
     pub fn at(&self, place: usize) -> u64
         requires { place < length self.now.items }
         ensures { result ≡ slice_index self.now.items place }

@@ -12,7 +12,7 @@ use Rattle.seq_model.specs.Places.{IsPlaceIn}
 use Rattle.seq_model.specs.Programs.{Answers, after, asked}
 use Rattle.vac_model.specs.declared.action.ActionReply.TheVariants.{Updated}
 use Rattle.vac_model.specs.declared.action.Change.{Change}
-use Rattle.vac_model.specs.declared.action.Changed.{Changed}
+use Rattle.vac_model.specs.declared.action.ChangeReply.{ChangeReply}
 use Rattle.vac_model.specs.declared.item.Item.{Item}
 use Rattle.vac_model.specs.declared.item.Kind.{Kind}
 use Rattle.vac_model.specs.Actions.{changed, id_of, kind_of}
@@ -47,29 +47,35 @@ set_once k id (Some i) (Some j) next reply e =
     ]) e
 
 -- of a change whose first reply tells this of its item
-module _ (change : Change) (reply : Reply Entry) (o : Option Item) (n : Changed × Option Item) (is : n ≡ changed change o)
+module _ (change : Change) (reply : Reply Entry) (o : Option Item) (n : ChangeReply × Option Item) (is : n ≡ changed change o)
     (told : (next : Option Item → SessionProgram) (left : List (Reply Entry)) → after (item_in reply next) left ≡ after (next o) left) where
-  abbrev sets : (Changed → SessionProgram) → Option Item → SessionProgram
+  abbrev sets : (ChangeReply → SessionProgram) → Option Item → SessionProgram
   sets next p = set_item (kind_of change) (id_of change) p (changed change p).1 (next (changed change p).0)
 
-  same_set : (next : Changed → SessionProgram) → sets next o ≡ set_item (kind_of change) (id_of change) o n.1 (next n.0)
+  same_set : (next : ChangeReply → SessionProgram) → sets next o ≡ set_item (kind_of change) (id_of change) o n.1 (next n.0)
   same_set next = λ j. set_item (kind_of change) (id_of change) o (sym is j).1 (next (sym is j).0)
 
   pub made_one : (rest replies : List (Reply Entry)) → replies ≡ reply ∷ rest → is_set o n.1 ≡ false → IsMade change (take 1 replies)
-  made_one rest replies at e = subst (λ (rs : List (Reply Entry)). IsMade change (take 1 rs)) (sym at) (n.0, λ next.
-      told (sets next) []
-      ∙ (after_none (sets next o)
-      ∙ (same_set next
-      ∙ not_set (kind_of change) (id_of change) o n.1 (next n.0) e)))
+  made_one rest replies at e = subst (λ (rs : List (Reply Entry)). IsMade change (take 1 rs)) (sym at) (
+    n.0,
+    λ next.
+        told (sets next) []
+        ∙ (after_none (sets next o)
+        ∙ (same_set next
+        ∙ not_set (kind_of change) (id_of change) o n.1 (next n.0) e)),
+  )
 
   pub made_two : (put : Reply Entry) (more rest replies : List (Reply Entry)) → replies ≡ reply ∷ rest → rest ≡ put ∷ more
       → is_set o n.1 ≡ true → IsMade change (take 2 replies)
   made_two put more rest replies at behind e =
       let both : replies ≡ reply ∷ (put ∷ more) = at ∙ ap (λ (rs : List (Reply Entry)). reply ∷ rs) behind in
-      subst (λ (rs : List (Reply Entry)). IsMade change (take 2 rs)) (sym both) (n.0, λ next.
-      told (sets next) (put ∷ [])
-      ∙ (ap (λ (p : SessionProgram). after p (put ∷ [])) (same_set next)
-      ∙ set_once (kind_of change) (id_of change) o n.1 (next n.0) put e))
+      subst (λ (rs : List (Reply Entry)). IsMade change (take 2 rs)) (sym both) (
+        n.0,
+        λ next.
+            told (sets next) (put ∷ [])
+            ∙ (ap (λ (p : SessionProgram). after p (put ∷ [])) (same_set next)
+            ∙ set_once (kind_of change) (id_of change) o n.1 (next n.0) put e),
+      )
 
 -- ---- the first changes
 pub none_changed : (changes : List Change) (replies : List (Reply Entry)) → AreChanged changes replies 0 0
@@ -78,7 +84,7 @@ none_changed changes replies =
 
 module _ (changes : List Change) (replies : List (Reply Entry)) (heard n : ℕ) (a : AreChanged changes replies heard n) where
   -- what is left after all replies
-  pub changed_left : (next : List Changed → SessionProgram) → after (change_each changes next) replies
+  pub changed_left : (next : List ChangeReply → SessionProgram) → after (change_each changes next) replies
       ≡ after (change_each (drop n changes) (λ more. next (a.made ++ more))) (drop heard replies)
   changed_left next =
       after_taken (change_each changes next) replies heard ∙ ap (λ (p : SessionProgram). after p (drop heard replies)) (a.leads next)
@@ -95,7 +101,7 @@ module _ (changes : List Change) (replies : List (Reply Entry)) (heard n : ℕ) 
         ∙ (ap (λ (p : SessionProgram). after p (take count (drop heard replies))) (a.leads next)
         ∙ (each_next changes n d (λ more. next (a.made ++ more)) (take count (drop heard replies)) lt
         ∙ (made.1 (λ one. change_each (drop (n + 1) changes) (λ more. next (a.made ++ (one ∷ more))))
-        ∙ ap (λ (k : List Changed → SessionProgram). change_each (drop (n + 1) changes) k)
+        ∙ ap (λ (k : List ChangeReply → SessionProgram). change_each (drop (n + 1) changes) k)
         (made_on a.made (a.made ++ made.0 ∷ []) made.0 refl next)))));
   }
 
@@ -121,10 +127,10 @@ module _ (changes : List Change) (replies : List (Reply Entry)) (heard n : ℕ) 
 
   -- it stops
   pub change_stops : (d : Change) (stop : Stop) (left : List (Reply Entry)) → left ≡ drop heard replies → n < length changes
-      → ((next : Changed → SessionProgram) → IsStop stop (after (change_one (get_or changes n d) next) left))
+      → ((next : ChangeReply → SessionProgram) → IsStop stop (after (change_one (get_or changes n d) next) left))
       → IsStop stop (after (update changes) replies)
   change_stops d stop left is lt stops =
-      let next : Changed → SessionProgram =
+      let next : ChangeReply → SessionProgram =
       λ one. change_each (drop (n + 1) changes) (λ more. Answers (Updated (a.made ++ (one ∷ more)))) in
       stops_along (after (update changes) replies) (after (change_one (get_or changes n d) next) left) stop
       (change_next d lt ∙ ap (after (change_one (get_or changes n d) next)) (sym is)) (stops next)

@@ -8,8 +8,8 @@ use Rattle.std.proofs.lemmas.List.Folds.{list_any-append}
 use Rattle.vac_model.specs.declared.item.Item.{Item}
 use Rattle.vac_model.specs.declared.item.Kind.{Kind}
 use Rattle.vac_model.specs.declared.item.Customer.{Customer}
-use Rattle.vac_model.specs.declared.action.Part.{Part}
-use Rattle.vac_model.specs.declared.action.Part.TheVariants.{Booked, Waits}
+use Rattle.vac_model.specs.declared.action.KindReply.{KindReply}
+use Rattle.vac_model.specs.declared.action.KindReply.TheVariants.{Booked, Waits}
 use Rattle.vac_model.specs.Holdings.{same_kind}
 use Rattle.vac_model.specs.Actions.{dearer, has, places, is_of, is_for}
 use Rattle.client_sessions.specs.Walks.{with_part}
@@ -38,7 +38,7 @@ no_more true b = refl
 no_more false true = refl
 no_more false false = refl
 
-pub has_part : (units : ℕ) (j : Kind) (p : Part) (who : Customer) (k : Kind) (id : ℕ)
+pub has_part : (units : ℕ) (j : Kind) (p : KindReply) (who : Customer) (k : Kind) (id : ℕ)
     → has (with_part units j p who) k id ≡ (has who k id || (same_kind j k && adds id p))
 has_part units j (Booked b n price) who k id =
     ap (λ a. a || list_any (is_for k id) who.waits)
@@ -74,7 +74,7 @@ has_drafted d Car id = all_parts d Car id ∙ none_more _ ∙ none_more _
 has_drafted d Flight id = all_parts d Flight id ∙ none_more _ ∙ ap (λ a. a || adds id d.flight) (none_more _)
 has_drafted d Room id = all_parts d Room id ∙ ap (λ a. a || adds id d.room) (none_more _ ∙ none_more _)
 
-pub places_part : (units : ℕ) (j : Kind) (p : Part) (who : Customer) → places (with_part units j p who) ≡ places who + place_of p
+pub places_part : (units : ℕ) (j : Kind) (p : KindReply) (who : Customer) → places (with_part units j p who) ≡ places who + place_of p
 places_part units j (Booked b n price) who =
     omega (arith, length-append who.bookings (record { kind = j; id = b; units = units; price = price } ∷ []))
 places_part units j (Waits b t) who =

@@ -3,6 +3,7 @@ use Rattle.std.proofs.Common.{◌≡◌, ℕ, ◌<◌, Bool, true, false, cond, 
 use Rattle.std.proofs.Common.{arith}
 use Rattle.std.specs.Prelude.{◌&&◌}
 use Rattle.std.specs.List.{list_all}
+use Rattle.std.proofs.lemmas.Bool.{and_parts}
 use Rattle.seq_model.specs.declared.call.Reply.{Reply}
 use Rattle.seq_model.specs.declared.call.Reply.TheVariants.{Nothing, Value}
 use Rattle.seq_model.specs.Programs.{after, asked, GivesUp}
@@ -19,10 +20,6 @@ use Rattle.vac_model.specs.Actions.{dearer}
 use Rattle.client_sessions.specs.Sessions.{SessionProgram, better, gather, item_in}
 use Rattle.client_sessions.proofs.WalkLemmas.{gather_on, gather_next, replied}
 
-pub both_true : (a b : Bool) → (a && b) ≡ true → (a ≡ true) × (b ≡ true)
-both_true true b e = (refl, e)
-both_true false b e = absurd (cc)
-
 -- with a reply that names an item the program continues
 goes_on : (reply : Reply Entry) → tells_item reply ≡ true
     → (item : Option Item) × ((next : Option Item → SessionProgram) → item_in reply next ≡ next item)
@@ -37,7 +34,7 @@ pub gets_next : (asks : List Ask) (d : Ask) (replies : List (Reply Entry)) (car 
 gets_next [] d replies car flight room next all lt = absurd (omega arith)
 gets_next (a ∷ asks) d [] car flight room next all lt = refl
 gets_next (a ∷ asks) d (reply ∷ replies) car flight room next all lt =
-    let e = both_true (tells_item reply) (list_all tells_item replies) all in
+    let e = and_parts (tells_item reply) (list_all tells_item replies) all in
     let g = goes_on reply e.0 in
     let one : length replies < length asks = omega arith in
     ap (λ (p : SessionProgram). asked (after p replies))

@@ -5,7 +5,7 @@ use Rattle.std.proofs.Common.{List, [], ◌∷◌, ◌++◌, length, get_or, dro
 use Rattle.std.proofs.Common.{arith}
 use Rattle.std.specs.Prelude.{nat_le, ◌/◌}
 use Rattle.std.proofs.lemmas.List.{drop_min, take-take}
-use Rattle.std.proofs.lemmas.Bool.{and_cases}
+use Rattle.std.proofs.lemmas.Bool.{and_cases, and_parts}
 use Rattle.std.proofs.lemmas.Bool.Decides.{nat_tests}
 use Rattle.seq_model.specs.declared.call.Reply.{Reply}
 use Rattle.seq_model.specs.declared.call.Reply.TheVariants.{Nothing, Value}
@@ -23,14 +23,13 @@ use Rattle.client_sessions.specs.Noted.{ArePassed, HasGivenBack}
 use Rattle.client_sessions.specs.Sessions.{SessionProgram, delete, delete_found, get_item, give_back, give_all_back, is_customer_within}
 use Rattle.client_sessions.specs.Sessions.{item_in}
 use Rattle.client_sessions.proofs.AfterLemmas.{after_both, after_none, after_one, after_taken}
-use Rattle.client_sessions.proofs.GetLemmas.{both_true}
 use Rattle.client_sessions.proofs.WalkLemmas.{back_given, back_next, back_refused, drop_next}
 
 -- a pair is passed
 given_on : (b : Booking) (reply put : Reply Entry) (rest : List (Reply Entry)) (next : SessionProgram) → is_given_back b reply ≡ true
     → after (item_in reply (λ o. give_back b o next)) (put ∷ rest) ≡ after next rest
 given_on b (Value (Stock i)) put rest next e =
-    let both = both_true (is_item_sound i) (nat_le b.units i.used) e in
+    let both = and_parts (is_item_sound i) (nat_le b.units i.used) e in
     let enough : b.units ≤ i.used = grind (arith, nat_tests, both.1) in
     ap (λ c. after (cond c (give_back b (Some i) next) GivesUp) (put ∷ rest)) both.0
     ∙ ap (λ p. after p (put ∷ rest)) (back_given b i next enough)
@@ -178,16 +177,18 @@ module _ (who : Customer) (rest : List (Reply Entry)) (place : JobPlace) where
   pub passed_noted : (n : ℕ) → is_customer_within who ≡ true → place.heard ≡ 2 * n + 1 → ArePassed who rest n
       → IsPlaceIn (λ given noted. HasGivenBack given noted.heard) told place
   passed_noted n within all a =
-      let few : place.heard ≤ length told = omega (arith, a.told, all) in
-      (few, inr record {
-        who = who;
-        rest = take (2 * n) rest;
-        first = ap (λ (m : ℕ). take m told) (all ∙ add-one (2 * n));
-        within = within;
-        count = n;
-        passed = passed_taken who rest n (2 * n) (omega arith) a;
-        all = all;
-      })
+      let few : place.heard ≤ length told = omega (arith, a.told, all) in (
+        few,
+        inr record {
+          who = who;
+          rest = take (2 * n) rest;
+          first = ap (λ (m : ℕ). take m told) (all ∙ add-one (2 * n));
+          within = within;
+          count = n;
+          passed = passed_taken who rest n (2 * n) (omega arith) a;
+          all = all;
+        },
+      )
 
 -- a deletion that is told its customer
 pub customer_told : (c : ℕ) (who : Customer) (rest : List (Reply Entry)) → is_customer_within who ≡ true

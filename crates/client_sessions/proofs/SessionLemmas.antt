@@ -8,6 +8,7 @@ use Rattle.std.specs.Cmp.{nat_cmp_total}
 use Rattle.std.specs.FinMap.{FinMap, get, insert, remove, same_map, nat_cmp-IsAntisymmetric}
 use Rattle.std.proofs.lemmas.Bool.{cond_both}
 use Rattle.std.proofs.lemmas.Bool.Decides.{nat_tests}
+use Rattle.std.proofs.lemmas.Option.{none-some}
 use Rattle.seq_model.specs.Calls.{value_reply}
 use Rattle.seq_model.specs.Queues.{first_of}
 use Rattle.seq_model.specs.Runs.{after_calls}
@@ -20,9 +21,9 @@ use Rattle.vac_model.specs.declared.item.Customer.{Customer}
 use Rattle.vac_model.specs.declared.item.Ticket.{Ticket}
 use Rattle.vac_model.specs.declared.action.Ask.{Ask}
 use Rattle.vac_model.specs.declared.action.Change.{Change}
-use Rattle.vac_model.specs.declared.action.Changed.{Changed}
-use Rattle.vac_model.specs.declared.action.Part.{Part}
-use Rattle.vac_model.specs.declared.action.Part.TheVariants.{Booked, Waits}
+use Rattle.vac_model.specs.declared.action.ChangeReply.{ChangeReply}
+use Rattle.vac_model.specs.declared.action.KindReply.{KindReply}
+use Rattle.vac_model.specs.declared.action.KindReply.TheVariants.{Booked, Waits}
 use Rattle.vac_model.specs.declared.action.Action.{Action}
 use Rattle.vac_model.specs.declared.action.Action.TheVariants.{Reserve, Delete, Update, QueryItem, QueryBill}
 use Rattle.vac_model.specs.declared.action.ActionReply.{ActionReply}
@@ -50,7 +51,7 @@ use Rattle.client_sessions.specs.Holding.{state_of}
 use Rattle.seq_model.specs.Programs.{Asks, run, Answers, GivesUp}
 use Rattle.client_sessions.specs.Sessions as ask
 use Rattle.client_sessions.specs.Laws.{EndsAsAction, NeverGivesUp, AsksLegalCalls}
-use Rattle.seq_model.proofs.ProgramLemmas.{none_some, followed_run}
+use Rattle.seq_model.proofs.ProgramLemmas.{followed_run}
 use Rattle.client_sessions.proofs.HoldingLemmas.{run_get_item, run_put_item, run_remove_item, run_get_customer, run_put_customer}
 use Rattle.client_sessions.proofs.HoldingLemmas.{run_remove_customer, got_ticket, run_remove_ticket, got_first, run_dequeue, run_give_ticket}
 
@@ -324,12 +325,12 @@ made_item k id (Some i) (Some j) next s is =
     (λ same. ap (λ t. run next (state_of t)) (sym (put_same k id j s (is ∙ ap (λ x. Some x) (same_item i j same)))))
     (λ _. run_put_item k id j next s)
 
-changed_each : (cs : List Change) (next : List Changed → ask.SessionProgram) (s : Holdings) → IsBalanced s → All IsAmountWithin cs
+changed_each : (cs : List Change) (next : List ChangeReply → ask.SessionProgram) (s : Holdings) → IsBalanced s → All IsAmountWithin cs
     → run (ask.change_each cs next) (state_of s) ≡ run (next (update cs s).0) (state_of (update cs s).1)
 changed_each [] next s b within = refl
 changed_each (c ∷ cs) next s b within =
     let o : Option Item = item (kind_of c) (id_of c) s in
-    let rest : List Changed → ask.SessionProgram = λ made. next ((changed c o).0 ∷ made) in
+    let rest : List ChangeReply → ask.SessionProgram = λ made. next ((changed c o).0 ∷ made) in
     got_item (kind_of c) (id_of c)
     (λ o. ask.set_item (kind_of c) (id_of c) o (changed c o).1
     (ask.change_each cs (λ made. next ((changed c o).0 ∷ made)))) s b.items_sound
@@ -363,34 +364,34 @@ gathered (a ∷ asks) car flight room next s sound =
     ∙ (λ i. run (next (better_is Car a asks s car i) (better_is Flight a asks s flight i) (better_is Room a asks s room i)) (state_of s))
 
 -- what a part makes of a customer who is not put yet, and of the rest
-abbrev after_of : ℕ → Kind → Option (ℕ × Item) → Part → Customer → Customer
+abbrev after_of : ℕ → Kind → Option (ℕ × Item) → KindReply → Customer → Customer
 after_of units k (Some x) (Booked id n price) who = ask.with_booking units k x.0 x.1.price who
 after_of units k (Some x) (Waits id t) who = ask.with_wait units k x.0 t who
 after_of units k _ _ who = who
 
-abbrev left_of : ℕ → ℕ → Kind → Option (ℕ × Item) → Part → Holdings → Holdings
+abbrev left_of : ℕ → ℕ → Kind → Option (ℕ × Item) → KindReply → Holdings → Holdings
 left_of c units k (Some x) (Booked id n price) t = put_item k x.0 (take_units units x.1) t
 left_of c units k (Some x) (Waits id number) t = give_ticket c units k x.0 t
 left_of c units k _ _ t = t
 
-abbrev Decides : ℕ → ℕ → Kind → Option (ℕ × Item) → Customer → Holdings → Part → Type 0
-Decides c units k o who t p = ◌≡◌ {A = Part × Holdings} (p, settle c units k o p (put_customer c who t))
+abbrev Decides : ℕ → ℕ → Kind → Option (ℕ × Item) → Customer → Holdings → KindReply → Type 0
+Decides c units k o who t p = ◌≡◌ {A = KindReply × Holdings} (p, settle c units k o p (put_customer c who t))
     (p, put_customer c (after_of units k o p who) (left_of c units k o p t))
 
 decides_part : (c units : ℕ) (k : Kind) (o : Option (ℕ × Item)) (who : Customer) (t : Holdings)
     → Decides c units k o who t (part_of who units t.next k o)
 decides_part c units k None who t = refl
 decides_part c units k (Some x) who t =
-    let D : Part → Type 0 = Decides c units k (Some x) who t in
+    let D : KindReply → Type 0 = Decides c units k (Some x) who t in
     cond_both (has who k x.0) _ _ D
     (λ _. refl)
     (λ _. cond_both (is_full who) _ _ D
     (λ _. refl)
     (λ _. cond_both (nat_le units x.1.free) _ _ D
-    (λ _. let pair : Holdings → Part × Holdings = λ u. (Booked x.0 units x.1.price, u) in ap pair (booked_is c units k x.0 x.1 who t))
+    (λ _. let pair : Holdings → KindReply × Holdings = λ u. (Booked x.0 units x.1.price, u) in ap pair (booked_is c units k x.0 x.1 who t))
     (λ _. cond_both (t.next == TICKET_LIMIT) _ _ D
     (λ _. refl)
-    (λ _. let pair : Holdings → Part × Holdings = λ u. (Waits x.0 t.next, u) in ap pair (awaited_is c units k x.0 who t)))))
+    (λ _. let pair : Holdings → KindReply × Holdings = λ u. (Waits x.0 t.next, u) in ap pair (awaited_is c units k x.0 who t)))))
 
 decide_is : (c units : ℕ) (k : Kind) (o : Option (ℕ × Item)) (who : Customer) (t : Holdings)
     → decide c units k o (put_customer c who t)
@@ -400,7 +401,7 @@ decide_is : (c units : ℕ) (k : Kind) (o : Option (ℕ × Item)) (who : Custome
           (left_of c units k o (part_of who units t.next k o) t),
     )
 decide_is c units k o who t =
-    let by : Customer → Part × Holdings = λ w.
+    let by : Customer → KindReply × Holdings = λ w.
     (part_of w units t.next k o, settle c units k o (part_of w units t.next k o) (put_customer c who t)) in
     ap by (customer_there c who t) ∙ decides_part c units k o who t
 
@@ -410,14 +411,14 @@ both_ways : {A B : Type 0} (c : Bool) {a1 a2 : A} {b1 b2 : B} (E : A → B → T
 both_ways c {a1} {a2} {b1} {b2} E then other = elim c as (λ t. c ≡ t → E (cond t a1 a2) (cond t b1 b2)) [ true ↦ then | false ↦ other ] refl
 
 -- the program does the same
-decided_run : (c units : ℕ) (k : Kind) (o : Option (ℕ × Item)) (who : Customer) (next : Part → Customer → ask.SessionProgram) (t : Holdings)
+decided_run : (c units : ℕ) (k : Kind) (o : Option (ℕ × Item)) (who : Customer) (next : KindReply → Customer → ask.SessionProgram) (t : Holdings)
     → (queue k t).head + length (queue k t).tickets ≤ t.next → t.next ≤ TICKET_LIMIT
     → run (ask.decide c units k o who next) (state_of t)
     ≡ run (next (part_of who units t.next k o) (after_of units k o (part_of who units t.next k o) who))
     (state_of (left_of c units k o (part_of who units t.next k o) t))
 decided_run c units k None who next t room within = refl
 decided_run c units k (Some x) who next t room within =
-    let E : Part → ask.SessionProgram → Type 0 = λ p q. run q (state_of t)
+    let E : KindReply → ask.SessionProgram → Type 0 = λ p q. run q (state_of t)
     ≡ run (next p (after_of units k (Some x) p who)) (state_of (left_of c units k (Some x) p t)) in
     both_ways (has who k x.0) E
     (λ _. refl)
@@ -437,14 +438,14 @@ decided_run c units k (Some x) who next t room within =
     run_give_ticket c units k x.0 (next (Waits x.0 t.next) (ask.with_wait units k x.0 t.next who)) t
     (omega (arith, room, within, not_last))))))
 
-customers-left_of : (c units : ℕ) (k : Kind) (o : Option (ℕ × Item)) (p : Part) (t : Holdings)
+customers-left_of : (c units : ℕ) (k : Kind) (o : Option (ℕ × Item)) (p : KindReply) (t : Holdings)
     → (left_of c units k o p t).customers ≡ t.customers
 customers-left_of c units k None p t = refl
 customers-left_of c units k (Some x) (Booked id n price) t = refl
 customers-left_of c units k (Some x) (Waits id number) t = refl
 customers-left_of c units k (Some x) _ t = refl
 
-unchanged_part : (units : ℕ) (k : Kind) (o : Option (ℕ × Item)) (p : Part) (who : Customer) → ask.is_change p ≡ false
+unchanged_part : (units : ℕ) (k : Kind) (o : Option (ℕ × Item)) (p : KindReply) (who : Customer) → ask.is_change p ≡ false
     → after_of units k o p who ≡ who
 unchanged_part units k None p who h = refl
 unchanged_part units k (Some x) (Booked id n price) who h = absurd (let e : true ≡ false = h in cc)
@@ -475,13 +476,13 @@ placed : (c units : ℕ) (car flight room : Option (ℕ × Item)) (s : Holdings)
     )
 placed c units car flight room s b within is_car is_flight is_room =
     let none : Customer = customer_or_new c s in
-    let first : Part = part_of none units s.next Car car in
+    let first : KindReply = part_of none units s.next Car car in
     let one : Customer = after_of units Car car first none in
     let s1 : Holdings = left_of c units Car car first s in
-    let second : Part = part_of one units s1.next Flight flight in
+    let second : KindReply = part_of one units s1.next Flight flight in
     let two : Customer = after_of units Flight flight second one in
     let s2 : Holdings = left_of c units Flight flight second s1 in
-    let third : Part = part_of two units s2.next Room room in
+    let third : KindReply = part_of two units s2.next Room room in
     let three : Customer = after_of units Room room third two in
     let s3 : Holdings = left_of c units Room room third s2 in
     let is_new : Bool = ask.is_change first || (ask.is_change second || ask.is_change third) in
@@ -509,10 +510,10 @@ placed c units car flight room s b within is_car is_flight is_room =
     ≡ (Reserved (record { car = first; flight = second; room = third }), put_customer c three s3) =
     reserved c units car flight room (put_customer c none s) (put_customer c one s1) (put_customer c two s2)
     (put_customer c three s3) first second third d1 d2 d3 in
-    let last : Part → Customer → ask.SessionProgram = λ third three. ask.put_changed c (customer c s)
+    let last : KindReply → Customer → ask.SessionProgram = λ third three. ask.put_changed c (customer c s)
     (ask.is_change first || (ask.is_change second || ask.is_change third)) three
     (Answers (Reserved (record { car = first; flight = second; room = third }))) in
-    let middle : Part → Customer → ask.SessionProgram = λ second two.
+    let middle : KindReply → Customer → ask.SessionProgram = λ second two.
     ask.decide c units Room room two
     (λ third three. ask.put_changed c (customer c s) (ask.is_change first || (ask.is_change second || ask.is_change third)) three
     (Answers (Reserved (record { car = first; flight = second; room = third })))) in
@@ -562,10 +563,10 @@ ends_as_action action s calls reply allowed b reaches =
 
 pub never_gives_up : NeverGivesUp
 never_gives_up action s calls allowed b reaches =
-    none_some _ (sym (followed_run calls (ask.session action) GivesUp (state_of s) reaches.0 reaches.1) ∙ session_run action s allowed b)
+    none-some _ (sym (followed_run calls (ask.session action) GivesUp (state_of s) reaches.0 reaches.1) ∙ session_run action s allowed b)
 
 pub asks_legal_calls : AsksLegalCalls
 asks_legal_calls action s calls call next allowed b reaches none =
-    none_some _
+    none-some _
     (sym (ap (option_and_then (λ r. run (next r.0) r.1)) none)
     ∙ sym (followed_run calls (ask.session action) (Asks call next) (state_of s) reaches.0 reaches.1) ∙ session_run action s allowed b)

@@ -11,6 +11,7 @@ use Rattle.std.specs.Cmp.{nat_cmp_total}
 use Rattle.std.specs.FinMap.{FinMap, empty, entries, from_entries, get, insert, len-empty, len-entries, entries-insert, put, same_map}
 use Rattle.std.specs.FinMap.{nat_cmp-IsAntisymmetric}
 use Rattle.std.specs.FinMap.Entries.{by_order}
+use Rattle.std.proofs.lemmas.Bool.{and_parts}
 use Rattle.seq_model.specs.Entries.{inserts}
 use Rattle.seq_model.proofs.EntryLemmas.{by_cases, inserts_all}
 use Rattle.seq_model.specs.Calls.{IsRefusal, IsWithinLimits}
@@ -36,10 +37,6 @@ use Rattle.client_sessions.proofs.HoldingLemmas.{empty_as, get_as, insert_as}
 no_length : {A : Type 0} (es : List A) → length es ≡ 0 → es ≡ []
 no_length [] e = refl
 no_length (x ∷ es) e = absurd (omega arith)
-
-both_are : (a b : Bool) → a && b ≡ true → (a ≡ true) × (b ≡ true)
-both_are true b e = (refl, e)
-both_are false b e = cc
 
 are_both : (a b : Bool) → a ≡ true → b ≡ true → a && b ≡ true
 are_both a b e i = ap (λ x. x && b) e ∙ i
@@ -70,7 +67,7 @@ module _ {X : Type 0} (f : X → Entry) (g : Entry → Option X) (back : (x : X)
       → inserts (as_entries f m) es ≡ as_entries f (inserts m (kept g es))
   put_as m [] h = refl
   put_as m (e ∷ es) h =
-      let each = both_are (is_some (g e.1)) (all_of es) h in
+      let each = and_parts (is_some (g e.1)) (all_of es) h in
       let found = some_of (g e.1) each.0 in
       ap (λ v. inserts (insert (as_entries f m) e.0 v) es) (only e.1 found.0 found.1)
       ∙ ap (λ n. inserts n es) (insert_as f m e.0 found.0)
@@ -87,7 +84,7 @@ module _ {X : Type 0} (f : X → Entry) (g : Entry → Option X) (back : (x : X)
   put_all : (k : ℕ) (v : Entry) (es : List (ℕ × Entry)) → is_some (g v) ≡ true → all_of es ≡ true → all_of (put nat_cmp k v es) ≡ true
   put_all k v [] i h = are_both _ _ i refl
   put_all k v (e ∷ es) i h =
-      let each = both_are (is_some (g e.1)) (all_of es) h in
+      let each = and_parts (is_some (g e.1)) (all_of es) h in
       by_cases k e.0 (λ r. all_of (by_order r ((k, v) ∷ e ∷ es) ((e.0, v) ∷ es) (e ∷ put nat_cmp k v es)) ≡ true)
       (λ _. are_both _ _ i h)
       (λ _. are_both _ _ i each.1)
@@ -174,13 +171,13 @@ module _ (next : ℕ) (cars flights rooms customers tickets for_cars for_flights
 
   parts_are : are_theirs ≡ true → in_state ≡ state_of parts
   parts_are h =
-      let all = both_are (are_maps cars flights rooms customers tickets) _ h in
-      let one = both_are (is_map_of item_of cars) _ all.0 in
-      let two = both_are (is_map_of item_of flights) _ one.1 in
-      let three = both_are (is_map_of item_of rooms) _ two.1 in
-      let four = both_are (is_map_of customer_of customers) _ three.1 in
-      let five = both_are (is_queue for_cars) _ all.1 in
-      let six = both_are (is_queue for_flights) _ five.1 in
+      let all = and_parts (are_maps cars flights rooms customers tickets) _ h in
+      let one = and_parts (is_map_of item_of cars) _ all.0 in
+      let two = and_parts (is_map_of item_of flights) _ one.1 in
+      let three = and_parts (is_map_of item_of rooms) _ two.1 in
+      let four = and_parts (is_map_of customer_of customers) _ three.1 in
+      let five = and_parts (is_queue for_cars) _ all.1 in
+      let six = and_parts (is_queue for_flights) _ five.1 in
       λ i. record {
         words = next ∷ [];
         held = all_items cars one.0 i ∷ all_items flights two.0 i ∷ all_items rooms three.0 i

@@ -17,9 +17,9 @@ use Rattle.vac_model.specs.declared.item.Customer.{Customer}
 use Rattle.vac_model.specs.declared.item.Ticket.{Ticket}
 use Rattle.vac_model.specs.declared.action.Ask.{Ask}
 use Rattle.vac_model.specs.declared.action.Change.{Change}
-use Rattle.vac_model.specs.declared.action.Changed.{Changed}
-use Rattle.vac_model.specs.declared.action.Part.{Part}
-use Rattle.vac_model.specs.declared.action.Part.TheVariants.{Nothing, Already, Full, Booked, NoFree, Waits}
+use Rattle.vac_model.specs.declared.action.ChangeReply.{ChangeReply}
+use Rattle.vac_model.specs.declared.action.KindReply.{KindReply}
+use Rattle.vac_model.specs.declared.action.KindReply.TheVariants.{Nothing, Already, Full, Booked, NoFree, Waits}
 use Rattle.vac_model.specs.declared.action.ActionReply.TheVariants.{Reserved}
 use Rattle.vac_model.specs.declared.limits.TheConstants.{SERVE_LIMIT, TICKET_LIMIT}
 use Rattle.vac_model.specs.Holdings.{same_kind, everywhere}
@@ -79,15 +79,15 @@ forgotten (suc n) [] next replies few told = absurd (omega (arith, few))
 forgotten (suc n) (w ∷ waits) next [] few told = absurd (omega (arith, told))
 forgotten (suc n) (w ∷ waits) next (reply ∷ replies) few told = forgotten n waits next replies (omega (arith, few)) (omega (arith, told))
 
-module _ (changes : List Change) (i : ℕ) (d : Change) (next : List Changed → SessionProgram) where
+module _ (changes : List Change) (i : ℕ) (d : Change) (next : List ChangeReply → SessionProgram) where
   pub each_next : (left : List (Reply Entry)) → i < length changes → after (change_each (drop i changes) next) left
       ≡ after (change_one (get_or changes i d) (λ made. change_each (drop (i + 1) changes) (λ more. next (made ∷ more)))) left
   each_next left lt = ap (λ xs. after (change_each xs next) left) (drop_next changes i d lt)
 
-pub made_on : (made new : List Changed) (one : Changed) → new ≡ made ++ one ∷ [] → (next : List Changed → SessionProgram)
-    → ◌≡◌ {A = List Changed → SessionProgram} (λ more. next (made ++ (one ∷ more))) (λ more. next (new ++ more))
+pub made_on : (made new : List ChangeReply) (one : ChangeReply) → new ≡ made ++ one ∷ [] → (next : List ChangeReply → SessionProgram)
+    → ◌≡◌ {A = List ChangeReply → SessionProgram} (λ more. next (made ++ (one ∷ more))) (λ more. next (new ++ more))
 made_on made new one is next =
-    λ j more. next ((sym (append_assoc made (one ∷ []) more) ∙ ap (λ (m : List Changed). m ++ more) (sym is)) j)
+    λ j more. next ((sym (append_assoc made (one ∷ []) more) ∙ ap (λ (m : List ChangeReply). m ++ more) (sym is)) j)
 
 -- ---- choices
 pub back_refused : (b : Booking) (i : Item) (next : SessionProgram) → i.used < b.units → give_back b (Some i) next ≡ GivesUp
@@ -101,7 +101,7 @@ back_given b i next le =
     let t : nat_lt i.used b.units ≡ false = grind (arith, nat_tests) in
     ap (λ c. cond c GivesUp (put_item b.kind b.id (give_units b.units i) next)) t
 
-module _ (c units : ℕ) (k : Kind) (id : ℕ) (who : Customer) (next : Part → Customer → SessionProgram) where
+module _ (c units : ℕ) (k : Kind) (id : ℕ) (who : Customer) (next : KindReply → Customer → SessionProgram) where
   -- where there is a further ticket
   abbrev pub ticket_for : Ticket
   ticket_for = record { customer = c; kind = k; id = id; units = units }
@@ -160,7 +160,7 @@ someone c units car flight room e =
     ap (λ b. cond b (Answers (Reserved (everywhere Nothing))) (get_customer c (decide_all c units car flight room))) e
 
 -- ---- the candidate of a kind
-module _ (c units : ℕ) (k : Kind) (id : ℕ) (i : Item) (who : Customer) (next : Part → Customer → SessionProgram)
+module _ (c units : ℕ) (k : Kind) (id : ℕ) (i : Item) (who : Customer) (next : KindReply → Customer → SessionProgram)
     (new : has who k id ≡ false) (few : is_full who ≡ false) where
   pub lines_up : i.free < units → decide c units k (Some (id, i)) who next ≡ read_next (line_up c units k id who next)
   lines_up lt =

@@ -7,6 +7,7 @@ use Rattle.std.proofs.Common.{List, [], ◌∷◌, length, take, drop, get_or, O
 use Rattle.std.specs.Prelude.{◌==◌, ◌&&◌, nat_le, option_map}
 use Rattle.std.proofs.lemmas.Bool.Decides.{nat_tests}
 use Rattle.std.proofs.lemmas.List.{drop_all, get_or-take, take-take}
+use Rattle.std.proofs.lemmas.Bool.{and_parts}
 use Rattle.seq_model.specs.declared.call.Reply.{Reply}
 use Rattle.seq_model.specs.declared.call.Reply.TheVariants.{Nothing, Value}
 use Rattle.seq_model.specs.declared.job.Ask.TheVariants.{Call, GiveUp}
@@ -31,7 +32,7 @@ use Rattle.client_sessions.specs.Sessions.{SessionProgram, better, gather, reser
 use Rattle.client_sessions.specs.Weighed.{AreFirst, AreWeighed, IsBetter, OnBest, named, no_ask, weighed_in}
 use Rattle.client_sessions.proofs.AfterLemmas.{after_none, after_one, after_taken}
 use Rattle.client_sessions.proofs.DraftLemmas.{dearer_sound}
-use Rattle.client_sessions.proofs.GetLemmas.{both_true, gather_told, gather_wrong}
+use Rattle.client_sessions.proofs.GetLemmas.{gather_told, gather_wrong}
 use Rattle.client_sessions.proofs.WalkLemmas.{drop_next}
 
 abbrev pub named_by : ℕ → Option Item → Option (ℕ × Item)
@@ -40,8 +41,8 @@ named_by id o = option_map (λ item. (id, item)) o
 -- ---- items that are told are sound
 sound_item : (i : Item) → is_item_sound i ≡ true → IsItemSound i
 sound_item i e =
-    let a = both_true (i.used + i.free == i.total) (nat_le i.total AMOUNT_LIMIT && nat_le i.price AMOUNT_LIMIT) e in
-    let b = both_true (nat_le i.total AMOUNT_LIMIT) (nat_le i.price AMOUNT_LIMIT) a.1 in
+    let a = and_parts (i.used + i.free == i.total) (nat_le i.total AMOUNT_LIMIT && nat_le i.price AMOUNT_LIMIT) e in
+    let b = and_parts (nat_le i.total AMOUNT_LIMIT) (nat_le i.price AMOUNT_LIMIT) a.1 in
     (grind (arith, nat_tests, a.0), grind (arith, nat_tests, b.0), grind (arith, nat_tests, b.1))
 
 told_sound : (r : Reply Entry) (id : ℕ) → tells_item r ≡ true → IsSound (named_by id (item_told r))

@@ -5,8 +5,8 @@ use Rattle.vac_model.specs.declared.item.Item.{Item}
 use Rattle.vac_model.specs.declared.item.Kind.{Kind}
 use Rattle.vac_model.specs.declared.item.Kind.TheVariants.{Car, Flight, Room}
 use Rattle.vac_model.specs.declared.item.Customer.{Customer}
-use Rattle.vac_model.specs.declared.action.Part.{Part}
-use Rattle.vac_model.specs.declared.action.Part.TheVariants.{Booked, Waits}
+use Rattle.vac_model.specs.declared.action.KindReply.{KindReply}
+use Rattle.vac_model.specs.declared.action.KindReply.TheVariants.{Booked, Waits}
 use Rattle.vac_model.specs.declared.each.Each.{Each}
 use Rattle.vac_model.specs.Holdings.{newcomer}
 use Rattle.vac_model.specs.Balanced.{IsItemSound}
@@ -23,13 +23,13 @@ abbrev pub AreSound : Each (Option (ℕ × Item)) → Type 0
 AreSound best = IsSound best.car × IsSound best.flight × IsSound best.room
 
 -- whether a part adds a booking of the item or a wait for it
-abbrev pub adds : ℕ → Part → Bool
+abbrev pub adds : ℕ → KindReply → Bool
 adds id (Booked booked n price) = booked == id
 adds id (Waits awaited t) = awaited == id
 adds id _ = false
 
 -- what was decided for a kind
-abbrev pub part_for : Kind → Draft → Part
+abbrev pub part_for : Kind → Draft → KindReply
 part_for Car d = d.car
 part_for Flight d = d.flight
 part_for Room d = d.room
@@ -43,7 +43,7 @@ abbrev pub is_changed : Draft → Bool
 is_changed d = is_change d.car || (is_change d.flight || is_change d.room)
 
 -- how many places a part takes
-abbrev pub place_of : Part → ℕ
+abbrev pub place_of : KindReply → ℕ
 place_of p = if is_change p then 1 else 0
 
 abbrev pub added : Draft → ℕ

@@ -8,7 +8,7 @@ use Rattle.seq_model.specs.Programs.{after}
 use Rattle.vac_model.specs.declared.action.Action.{Action}
 use Rattle.vac_model.specs.declared.action.Action.TheVariants.{Reserve, Delete, Update}
 use Rattle.vac_model.specs.declared.action.Change.{Change}
-use Rattle.vac_model.specs.declared.action.Changed.{Changed}
+use Rattle.vac_model.specs.declared.action.ChangeReply.{ChangeReply}
 use Rattle.vac_model.specs.declared.item.Customer.{Customer}
 use Rattle.vac_model.specs.declared.item.Item.{Item}
 use Rattle.client_sessions.specs.declared.entry.Entry.{Entry}
@@ -42,14 +42,14 @@ is_set _ _ = true
 -- these replies are those to the calls of the change, and it made this of it
 abbrev pub IsMade : Change → List (Reply Entry) → Type 0
 IsMade change replies =
-    (made : Changed) × ((next : Changed → SessionProgram) → after (change_one change next) replies ≡ next made)
+    (made : ChangeReply) × ((next : ChangeReply → SessionProgram) → after (change_one change next) replies ≡ next made)
 
 -- The first changes are made: after these replies to their calls the program continues with the other changes.
 pub record AreChanged (changes : List Change) (replies : List (Reply Entry)) (heard count : ℕ) : Type 0 where
   pub told : heard ≤ length replies
   pub few : count ≤ length changes
-  pub made : List Changed
-  pub leads : (next : List Changed → SessionProgram) → after (change_each changes next) (take heard replies)
+  pub made : List ChangeReply
+  pub leads : (next : List ChangeReply → SessionProgram) → after (change_each changes next) (take heard replies)
       ≡ change_each (drop count changes) (λ more. next (made ++ more))
 
 abbrev pub AreNoted : List Change → List (Reply Entry) → JobPlace → Type 0

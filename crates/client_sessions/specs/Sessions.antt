@@ -16,10 +16,10 @@ use Rattle.vac_model.specs.declared.item.Customer.{Customer}
 use Rattle.vac_model.specs.declared.item.Ticket.{Ticket}
 use Rattle.vac_model.specs.declared.action.Ask.{Ask}
 use Rattle.vac_model.specs.declared.action.Change.{Change}
-use Rattle.vac_model.specs.declared.action.Changed.{Changed}
-use Rattle.vac_model.specs.declared.action.Part.{Part}
-use Rattle.vac_model.specs.declared.action.Part.TheVariants.{Already, Full, Booked, NoFree, Waits}
-use Rattle.vac_model.specs.declared.action.Part.TheVariants as part
+use Rattle.vac_model.specs.declared.action.ChangeReply.{ChangeReply}
+use Rattle.vac_model.specs.declared.action.KindReply.{KindReply}
+use Rattle.vac_model.specs.declared.action.KindReply.TheVariants.{Already, Full, Booked, NoFree, Waits}
+use Rattle.vac_model.specs.declared.action.KindReply.TheVariants as part
 use Rattle.vac_model.specs.declared.action.Action.{Action}
 use Rattle.vac_model.specs.declared.action.Action.TheVariants.{Reserve, Delete, Update, QueryItem, QueryBill}
 use Rattle.vac_model.specs.declared.action.ActionReply.{ActionReply}
@@ -149,14 +149,14 @@ abbrev pub with_wait : ℕ → Kind → ℕ → ℕ → Customer → Customer
 with_wait units k id t who = record who { waits = who.waits ++ record { kind = k; id = id; units = units; ticket = t } ∷ [] }
 
 -- too few units are free: the next ticket is given out, if there is one
-abbrev pub line_up : ℕ → ℕ → Kind → ℕ → Customer → (Part → Customer → SessionProgram) → ℕ → SessionProgram
+abbrev pub line_up : ℕ → ℕ → Kind → ℕ → Customer → (KindReply → Customer → SessionProgram) → ℕ → SessionProgram
 line_up c units k id who next t =
     if t == TICKET_LIMIT then next (NoFree id) who
     else write_next (t + 1) (put_ticket t (record { customer = c; kind = k; id = id; units = units })
     (enqueue k t (next (Waits id t) (with_wait units k id t who))))
 
 -- the candidate of a kind is decided for a customer, who is not put yet
-abbrev pub decide : ℕ → ℕ → Kind → Option (ℕ × Item) → Customer → (Part → Customer → SessionProgram) → SessionProgram
+abbrev pub decide : ℕ → ℕ → Kind → Option (ℕ × Item) → Customer → (KindReply → Customer → SessionProgram) → SessionProgram
 decide c units k None who next = next part.Nothing who
 decide c units k (Some x) who next =
     if has who k x.0 then next (Already x.0) who
@@ -165,7 +165,7 @@ decide c units k (Some x) who next =
     (next (Booked x.0 units x.1.price) (with_booking units k x.0 x.1.price who))
     else read_next (line_up c units k x.0 who next)
 
-abbrev pub is_change : Part → Bool
+abbrev pub is_change : KindReply → Bool
 is_change (Booked id units price) = true
 is_change (Waits id t) = true
 is_change _ = false
@@ -261,10 +261,10 @@ set_item k id (Some i) None next = remove_item k id next
 set_item k id None (Some j) next = put_item k id j next
 set_item k id (Some i) (Some j) next = if is_same_item i j then next else put_item k id j next
 
-abbrev pub change_one : Change → (Changed → SessionProgram) → SessionProgram
+abbrev pub change_one : Change → (ChangeReply → SessionProgram) → SessionProgram
 change_one c next = get_item (kind_of c) (id_of c) (λ o. set_item (kind_of c) (id_of c) o (changed c o).1 (next (changed c o).0))
 
-abbrev pub change_each : List Change → (List Changed → SessionProgram) → SessionProgram
+abbrev pub change_each : List Change → (List ChangeReply → SessionProgram) → SessionProgram
 change_each [] next = next []
 change_each (c ∷ cs) next = change_one c (λ made. change_each cs (λ more. next (made ∷ more)))
 

@@ -4,8 +4,8 @@ use Rattle.seq_model.specs.declared.job.Ask.TheVariants as ask
 use Rattle.seq_model.specs.Programs.{asked}
 use Rattle.vac_model.specs.declared.item.Kind.{Kind}
 use Rattle.vac_model.specs.declared.item.Customer.{Customer}
-use Rattle.vac_model.specs.declared.action.Part.{Part}
-use Rattle.vac_model.specs.declared.action.Part.TheVariants.{Booked, Waits}
+use Rattle.vac_model.specs.declared.action.KindReply.{KindReply}
+use Rattle.vac_model.specs.declared.action.KindReply.TheVariants.{Booked, Waits}
 use Rattle.client_sessions.specs.declared.walk.Stop.{Stop}
 use Rattle.client_sessions.specs.declared.walk.Stop.TheVariants.{Asks, GivesUp, Memory as OutOfMemory}
 use Rattle.client_sessions.specs.Sessions.{SessionProgram, with_booking, with_wait}
@@ -22,7 +22,7 @@ Comes p (Ok x) on = p ≡ on x
 Comes p (Err stop) on = IsStop stop p
 
 -- a customer with what was decided for a kind
-abbrev pub with_part : ℕ → Kind → Part → Customer → Customer
+abbrev pub with_part : ℕ → Kind → KindReply → Customer → Customer
 with_part units k (Booked id n price) who = with_booking units k id price who
 with_part units k (Waits id t) who = with_wait units k id t who
 with_part units k _ who = who

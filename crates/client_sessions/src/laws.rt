@@ -5,7 +5,7 @@ ghost use Rattle.client_sessions.specs.Holding.{HaveIndexes};
 ghost use Rattle.client_sessions.specs.Laws.{EndsAsAction, NeverGivesUp, AsksLegalCalls, StatesTellTables};
 ghost use Rattle.client_sessions.specs.Runs.{EachNumberHoldsTables, NoneGivesUp, RunsAreActions};
 
-/// A session over balanced tables is its action: what it answers, and what it leaves. It never gives up, and each call
+/// A session over balanced tables is its action: what it answers, and what it leaves. It never aborts, and each call
 /// that it asks has an answer.
 pub fn sessions_are_actions()
     ensures ends { EndsAsAction }

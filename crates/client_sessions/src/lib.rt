@@ -3,7 +3,7 @@
 //! A *session* is the transaction of one action: it asks a call, continues with the reply, and in the end answers what the action
 //! answers. Its calls are a program (`specs/Sessions.antt`), run on the state that holds the tables (`specs/Holding.antt`).
 //! [`laws`] says that it is its action: from balanced tables it answers the action's reply and leaves the state that holds the
-//! action's tables, it never gives up, and each call that it asks has a reply.
+//! action's tables, it never aborts, and each call that it asks has a reply.
 #![tactic(auto)]
 
 mod delete;

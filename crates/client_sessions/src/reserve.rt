@@ -8,7 +8,7 @@ ghost use Rattle.vac_model.specs.Actions as actions;
 ghost use Rattle.vac_model.specs.declared.item.Item.{Item as AnItem};
 ghost use Rattle.vac_model.specs.declared.item.Customer.{Customer as ACustomer};
 ghost use Rattle.vac_model.specs.declared.item.Kind.TheVariants.{Car, Flight, Room};
-ghost use Rattle.vac_model.specs.declared.action.Part.{Part as APart};
+ghost use Rattle.vac_model.specs.declared.action.KindReply.{KindReply as APart};
 ghost use Rattle.vac_model.specs.Holdings.{newcomer};
 ghost use Rattle.client_sessions.specs.Sessions as programs;
 ghost use Rattle.client_sessions.specs.Sessions.{SessionProgram};
@@ -25,7 +25,8 @@ use crate::walk::{Stop, Walk, asks_get, asks_put, map_of, put_customer, tell_ite
 use seq_model::{Memory, Reply};
 use std::alloc::Global;
 use vac_model::{
-    ActionReply, Ask, Booking, Each, Item, Kind, Part, TICKET_LIMIT, Ticket, Wait, is_item_sound,
+    ActionReply, Ask, Booking, Each, Item, Kind, KindReply, TICKET_LIMIT, Ticket, Wait,
+    is_item_sound,
 };
 
 /// A customer with what was decided so far, which is not put yet.
@@ -34,25 +35,25 @@ struct Draft<'a> {
     number: u64,
     units: u64,
     found: Option<&'a SplitCustomer>,
-    car: Part,
-    flight: Part,
-    room: Part,
+    car: KindReply,
+    flight: KindReply,
+    room: KindReply,
 }
 
 /// Whether the part adds a booking or a wait.
-fn is_change(part: Part) -> bool
+fn is_change(part: KindReply) -> bool
     ensures { result ≡ programs.is_change part }
 {
-    matches!(part, Part::Booked(..) | Part::Waits(..))
+    matches!(part, KindReply::Booked(..) | KindReply::Waits(..))
 }
 
 /// Whether the part adds a booking of the item or a wait for it.
-fn adds(part: Part, id: u64) -> bool
+fn adds(part: KindReply, id: u64) -> bool
     ensures { result ≡ adds id part }
 {
     match part {
-        Part::Booked(booked, ..) => booked == id,
-        Part::Waits(awaited, _) => awaited == id,
+        KindReply::Booked(booked, ..) => booked == id,
+        KindReply::Waits(awaited, _) => awaited == id,
         _ => false,
     }
 }
@@ -67,17 +68,17 @@ fn has_found(found: Option<&SplitCustomer>, kind: Kind, id: u64) -> bool
     }
 }
 
-fn add_part(who: &mut SplitCustomer, units: u64, kind: Kind, part: Part) -> Result<(), Memory>
+fn add_part(who: &mut SplitCustomer, units: u64, kind: Kind, part: KindReply) -> Result<(), Memory>
     ensures { OnOk result (who.new ≡ with_part units kind part who.old) }
 {
     match part {
-        Part::Booked(id, _, price) => who.book(Booking {
+        KindReply::Booked(id, _, price) => who.book(Booking {
             kind,
             id,
             units,
             price,
         }),
-        Part::Waits(id, ticket) => who.wait(Wait {
+        KindReply::Waits(id, ticket) => who.wait(Wait {
             kind,
             id,
             units,
@@ -89,7 +90,7 @@ fn add_part(who: &mut SplitCustomer, units: u64, kind: Kind, part: Part) -> Resu
 
 impl Draft<'_> {
     /// What was decided for a kind.
-    fn part(&self, kind: Kind) -> Part
+    fn part(&self, kind: Kind) -> KindReply
         ensures { result ≡ part_for kind self.now }
     {
         match kind {
@@ -324,7 +325,7 @@ impl<'a> Walk<'a> {
     /// A wait for the item, where there is a ticket for it.
     #[cold]
     #[inline(never)]
-    fn line_up(&mut self, draft: &Draft<'_>, kind: Kind, id: u64) -> Result<Part, Stop>
+    fn line_up(&mut self, draft: &Draft<'_>, kind: Kind, id: u64) -> Result<KindReply, Stop>
         ensures { (next : APart → ACustomer → SessionProgram)
             → Comes (after (programs.read_next
             (programs.line_up draft.now.number draft.now.units kind id (drafted draft.now) next)) self.old)
@@ -332,7 +333,7 @@ impl<'a> Walk<'a> {
     {
         let ticket = self.read_next()?;
         if ticket == TICKET_LIMIT {
-            return Ok(Part::NoFree(id));
+            return Ok(KindReply::NoFree(id));
         }
         let wait = Ticket {
             customer: draft.number,
@@ -343,7 +344,7 @@ impl<'a> Walk<'a> {
         self.write_next(ticket + 1)?;
         self.put_ticket(ticket, wait)?;
         self.enqueue(kind, ticket)?;
-        Ok(Part::Waits(id, ticket))
+        Ok(KindReply::Waits(id, ticket))
     }
 
     /// What becomes of the candidate of a kind.
@@ -353,28 +354,28 @@ impl<'a> Walk<'a> {
         draft: &Draft<'_>,
         kind: Kind,
         candidate: &Option<(u64, Item)>,
-    ) -> Result<Part, Stop>
+    ) -> Result<KindReply, Stop>
         requires { IsSound candidate.now }
         ensures { (next : APart → ACustomer → SessionProgram)
             → Comes (after (programs.decide draft.now.number draft.now.units kind candidate.now (drafted draft.now) next) self.old)
             result (λ part. after (next part (with_part draft.now.units kind part (drafted draft.now))) self.new) }
     {
         let Some((id, item)) = candidate else {
-            return Ok(Part::Nothing);
+            return Ok(KindReply::Nothing);
         };
         let id = *id;
         if draft.has(kind, id) {
-            return Ok(Part::Already(id));
+            return Ok(KindReply::Already(id));
         }
         if draft.is_full() {
-            return Ok(Part::Full(id));
+            return Ok(KindReply::Full(id));
         }
         let units = draft.units;
         if units > item.free {
             return self.line_up(draft, kind, id);
         }
         if self.passes() {
-            return Ok(Part::Booked(id, units, item.price));
+            return Ok(KindReply::Booked(id, units, item.price));
         }
         Err(asks_units(kind, id, units, item))
     }
@@ -408,9 +409,9 @@ impl<'a> Walk<'a> {
             number,
             units,
             found,
-            car: Part::Nothing,
-            flight: Part::Nothing,
-            room: Part::Nothing,
+            car: KindReply::Nothing,
+            flight: KindReply::Nothing,
+            room: KindReply::Nothing,
         };
         draft.car = self.decide(&draft, Kind::Car, &best.car)?;
         draft.flight = self.decide(&draft, Kind::Flight, &best.flight)?;
@@ -436,9 +437,9 @@ impl<'a> Walk<'a> {
     {
         if no_candidate(best) {
             return Ok(ActionReply::Reserved(Each {
-                car: Part::Nothing,
-                flight: Part::Nothing,
-                room: Part::Nothing,
+                car: KindReply::Nothing,
+                flight: KindReply::Nothing,
+                room: KindReply::Nothing,
             }));
         }
         let found = self.get_customer(customer)?;

@@ -180,7 +180,7 @@ impl Job<Entry> for Session {
 
     ghost stands = { λ action replies place. HasNoted action replies place };
 
-    /// What the session asks after these replies: it gives up where no balanced tables answer so.
+    /// What the session asks after these replies: it aborts where no balanced tables answer so.
     #[inline(always)]
     fn ask(&self, replies: &[Reply<Entry>]) -> Result<Ask<Entry>, Memory> {
         if let Some(due) = self.due(replies) {

@@ -5,7 +5,7 @@ ghost use Rattle.seq_model.specs.Places.{IsPlaceIn};
 ghost use Rattle.seq_model.specs.Programs.{Answers, after, asked};
 ghost use Rattle.vac_model.specs.Actions as actions;
 ghost use Rattle.vac_model.specs.declared.action.Change.{Change as AChange};
-ghost use Rattle.vac_model.specs.declared.action.Changed.{Changed as AChanged};
+ghost use Rattle.vac_model.specs.declared.action.ChangeReply.{ChangeReply as AChanged};
 ghost use Rattle.client_sessions.specs.Sessions as programs;
 ghost use Rattle.client_sessions.specs.Sessions.{SessionProgram};
 ghost use Rattle.client_sessions.specs.Walks.{Comes};
@@ -16,7 +16,7 @@ use crate::entry::Entry;
 use crate::walk::{Left, Stop, Walk, ask_of, item_in};
 use seq_model::{Ask, Items, JobPlace, Memory, Reply};
 use std::alloc::Global;
-use vac_model::{ActionReply, Change, Changed, Item, Kind, changed, place_of};
+use vac_model::{ActionReply, Change, ChangeReply, Item, Kind, changed, place_of};
 
 impl<'a> Walk<'a> {
     /// Makes one entry the other, where they differ.
@@ -43,7 +43,7 @@ impl<'a> Walk<'a> {
         }
     }
 
-    fn change_one(&mut self, change: Change) -> Result<Changed, Stop>
+    fn change_one(&mut self, change: Change) -> Result<ChangeReply, Stop>
         requires { actions.IsAmountWithin change }
         ensures { (next : AChanged → SessionProgram)
             → Comes (after (programs.change_one change next) self.old) result (λ made. after (next made) self.new) }
@@ -55,7 +55,7 @@ impl<'a> Walk<'a> {
         Ok(made)
     }
 
-    pub(crate) fn update(&mut self, changes: &[Change]) -> Result<Items<Changed>, Stop>
+    pub(crate) fn update(&mut self, changes: &[Change]) -> Result<Items<ChangeReply>, Stop>
         requires { All actions.IsAmountWithin changes.now }
         ensures { (next : List AChanged → SessionProgram)
             → Comes (after (programs.change_each changes.now next) self.old) result (λ made. after (next made) self.new) }
@@ -111,12 +111,7 @@ fn replies_to(change: Change, replies: &[Reply<Entry>]) -> usize
 }
 
 /// Passes the changes whose calls have their replies.
-fn pass_changes(
-    changes: &[Change],
-    replies: &[Reply<Entry>],
-    heard: &mut usize,
-    passed: &mut usize,
-)
+fn pass_changes(changes: &[Change], replies: &[Reply<Entry>], heard: &mut usize, passed: &mut usize)
     requires within { All actions.IsAmountWithin changes.now }
     requires changed { AreChanged changes.now replies.now heard.old passed.old }
     ensures { AreChanged changes.now replies.now heard.new passed.new }

@@ -121,7 +121,7 @@ fn queue_of(kind: Kind) -> u32
     }
 }
 
-// ---- what a reply says: the program gives up where no balanced tables answer it
+// ---- what a reply says: the program aborts where no balanced tables answer it
 
 pub(crate) fn item_in(reply: &Reply<Entry>) -> Result<Option<Item>, Stop>
     ensures comes { (next : Option AnItem → SessionProgram) (left : List (AReply AnEntry))

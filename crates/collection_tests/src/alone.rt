@@ -8,7 +8,7 @@ use base_map::MapBase;
 use base_pq::PqBase;
 use base_queue::QueueBase;
 use conflict::{Change, Changes, LocSet};
-use replay_log::{Base, LocationEditions, Log, Touch, Touched};
+use replay_log::{Base, LocationEditions, Log, Touch, TouchedKey};
 use row_parts::{location_in, print_all, print_base, script_of, split};
 use seq_model::{Held, Memory, Op, Refusal};
 use std::alloc::Global;
@@ -193,11 +193,11 @@ fn print_all_touches(text: &mut String, base: &Base<u64>) -> Result<(), Refusal>
 // What was touched, and each location with its edition.
 fn print_touch(text: &mut String, touch: &Touch<u64>) -> Result<(), Memory> {
     match &touch.held {
-        Touched::Entry(key, Some(value)) => write!(text, "Entry {key} {value}")?,
-        Touched::Entry(key, None) => write!(text, "Entry {key} none")?,
-        Touched::Copies(element, copies) => write!(text, "Copies {element} {copies}")?,
-        Touched::Counts(counts) => print_all(text, "Counts", counts.as_slice())?,
-        Touched::Total(total) => write!(text, "Total {total}")?,
+        TouchedKey::Entry(key, Some(value)) => write!(text, "Entry {key} {value}")?,
+        TouchedKey::Entry(key, None) => write!(text, "Entry {key} none")?,
+        TouchedKey::Copies(element, copies) => write!(text, "Copies {element} {copies}")?,
+        TouchedKey::Counts(counts) => print_all(text, "Counts", counts.as_slice())?,
+        TouchedKey::Total(total) => write!(text, "Total {total}")?,
     }
     text.push_str(" at")?;
     for entry in touch.editions.as_slice() {

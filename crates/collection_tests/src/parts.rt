@@ -2,7 +2,7 @@
 ghost use Rattle.std.specs.Prelude.{◌≡◌, ◌<◌, ◌^◌, IsTrue, length, slice_index};
 
 use crate::alone::{HIGH, locations_in};
-use conflict::{Editions, LocSet, Table, conflicts};
+use conflict::{Editions, LocSet, RoomMap, conflicts};
 use row_parts::{Call, call_of, location_in, print_held, split};
 use seq_model::{Held, Memory, Refusal};
 use smallvec::SmallVec;
@@ -139,7 +139,7 @@ pub fn answer_editions(text: &mut String, row: &str) -> Result<(), Refusal> {
     Ok(())
 }
 
-fn step(text: &mut String, table: &mut Table<u64>, asked: Call<'_>) -> Result<(), Refusal> {
+fn step(text: &mut String, table: &mut RoomMap<u64>, asked: Call<'_>) -> Result<(), Refusal> {
     match asked.name {
         "put" => {
             table.reserve(1)?;
@@ -155,7 +155,7 @@ fn step(text: &mut String, table: &mut Table<u64>, asked: Call<'_>) -> Result<()
     Ok(())
 }
 
-fn print_table(text: &mut String, table: &Table<u64>) -> Result<(), Refusal> {
+fn print_table(text: &mut String, table: &RoomMap<u64>) -> Result<(), Refusal> {
     let count = table.len();
     write!(text, "{count} keys, ")?;
     let held = Held::Map(table.to_entries()?);
@@ -167,12 +167,12 @@ fn print_table(text: &mut String, table: &Table<u64>) -> Result<(), Refusal> {
 /// opened of a copy's entries.
 pub fn answer_hash_map(text: &mut String, row: &str) -> Result<(), Refusal> {
     let alloc = *text.allocator();
-    let mut table = Table::new(alloc);
+    let mut table = RoomMap::new(alloc);
     for asked in row.split(", ") {
         step(text, &mut table, call_of(asked)?)?;
     }
     print_table(text, &table)?;
     text.push_str("; again ")?;
-    let again = Table::of_entries(alloc, table.try_copy()?.to_entries()?)?;
+    let again = RoomMap::of_entries(alloc, table.try_copy()?.to_entries()?)?;
     print_table(text, &again)
 }

@@ -3,5 +3,5 @@ mod RunLemmas
 mod FormLemmas
 pub mod NumberLemmas
 mod ReadLemmas
-mod ToldLemmas
+mod OutputLemmas
 mod WordLemmas

@@ -13,7 +13,7 @@ use Rattle.seq_model.proofs.LawLemmas.{runs_have_no_fault}
 use Rattle.seq_model.specs.Audit.{IsAuditFault}
 use Rattle.seq_model.specs.Contents.{Contents}
 use Rattle.text_formats.specs.Openings.{opening_of}
-use Rattle.text_formats.specs.Drawing.{sessions_of}
+use Rattle.text_formats.specs.DrawnActions.{sessions_of}
 use Rattle.vac_model.specs.declared.action.Action.{Action}
 use Rattle.vac_model.specs.Actions.{IsAllowed}
 use Rattle.vac_model.specs.Holdings.{Holdings}

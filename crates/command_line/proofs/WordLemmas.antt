@@ -2,6 +2,8 @@
 use Rattle.std.proofs.Common.{◌≡◌, ◌∙◌, refl, sym, ap, ap₂, inl, inr, List, [], ◌∷◌, Option, Some, None, option_map, codes}
 use Rattle.std.specs.Prelude.{option_and_then, unwrap_or}
 use Rattle.std.specs.Box.{box_value}
+use Rattle.std.proofs.lemmas.Option.{same_Some}
+use Rattle.seq_model.proofs.LogicLemmas.{some-none}
 use Rattle.clap.specs.Words.{HasKind, IsAmong, Kinds, Row, Text, first_of, found_of, kind_of, rows_of, subcommand_name_of}
 use Rattle.clap.specs.Words.{subcommand_rows_of}
 use Rattle.clap.specs.declared.error.Error.{Error}
@@ -36,12 +38,6 @@ asks_for_information words error has (inr version) =
     let no : kind.DisplayVersion ≡ kind.OutOfMemory = sym version ∙ memory in cc)))
 
 -- the subcommand that was met has its name, and what stands in FILE's place is in its rows
-some_is : {A : Type 0} (a b : A) → Some a ≡ Some b → a ≡ b
-some_is a b is = ap (λ o. unwrap_or o a) is
-
-some_is_not_none : {A : Type 0} (a : A) → Some a ≡ None → ⊥
-some_is_not_none a is = cc
-
 name_of : {B : Type 0} (met : Option B) (both : B → Text × List Row)
     → option_map (λ (p : Text × List Row). p.0) (option_map both met) ≡ option_map (λ b. (both b).0) met
 name_of None both = refl
@@ -50,12 +46,12 @@ name_of (Some b) both = refl
 met_with : (met : Option (Text × List Row)) (name : Text) (rows : List Row)
     → Some name ≡ option_map (λ (p : Text × List Row). p.0) met → Some rows ≡ option_map (λ (p : Text × List Row). p.1) met
     → task_by name rows ≡ task_of met
-met_with None name rows named rowed = absurd (some_is_not_none name named)
-met_with (Some met) name rows named rowed = ap₂ task_by (some_is name met.0 named) (some_is rows met.1 rowed)
+met_with None name rows named rowed = absurd (some-none name named)
+met_with (Some met) name rows named rowed = ap₂ task_by (same_Some name met.0 named) (same_Some rows met.1 rowed)
 
 met_none : (met : Option (Text × List Row)) → None ≡ option_map (λ (p : Text × List Row). p.0) met → OnFile Step ≡ task_of met
 met_none None named = refl
-met_none (Some met) named = absurd (some_is_not_none met.0 (sym named))
+met_none (Some met) named = absurd (some-none met.0 (sym named))
 
 names_are : (m : ArgMatches) → option_map (λ (p : Text × List Row). p.0) (subcommand_rows_of m) ≡ subcommand_name_of m
 names_are m =

@@ -3,7 +3,7 @@ use Rattle.std.specs.Prelude.{◌≡◌, ◌≤◌, ◌+◌, ◌<◌, ℕ, List,
 use Rattle.std.specs.Fmt.{decimal}
 use Rattle.text_formats.specs.Openings.{opening_of}
 use Rattle.text_formats.specs.Options.{AreWithin}
-use Rattle.text_formats.specs.Drawing.{sessions_of}
+use Rattle.text_formats.specs.DrawnActions.{sessions_of}
 use Rattle.vac_model.specs.declared.action.Action.{Action}
 use Rattle.session_text.specs.SessionPrints.{ending}
 use Rattle.workers.specs.declared.served.Served.{Served}

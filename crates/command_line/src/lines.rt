@@ -15,10 +15,10 @@ use std::collections::VecDeque;
 use text_formats::Line;
 use workers::{LastAbort, Report, gather};
 
-/// A worker, the place of a job in its list, and why that one has no receipt.
+/// A worker, the position of a job in its list, and why that one has no receipt.
 pub(crate) type Missed = (u64, u64, LastAbort);
 
-/// Whether the first of these missed jobs is the one at this place of this worker's list.
+/// Whether the first of these missed jobs is the one at this position of this worker's list.
 fn is_next_missed(worker: u64, place: u64, missed: &[Missed]) -> bool
     ensures { IsTrue result ↔ IsFirst worker place missed.now }
 {

@@ -46,8 +46,8 @@ const NAMES: [&str; 10] = [
 /// The name of the cause for which no attempt of a session was made.
 const NOT_STARTED: &str = "not started";
 
-/// The place of a refusal's name among these.
-fn place_of(refusal: Refusal) -> usize
+/// The position of a refusal's name among these.
+fn position_of(refusal: Refusal) -> usize
     ensures { result < 10 }
 {
     match refusal {
@@ -191,7 +191,7 @@ impl<P: Progress> Pause for Tally<'_, P> {
 
     fn after_refusal(&self, worker: u64, cause: Refusal) {
         if let Some(attempts) = self.attempts_of(worker) {
-            let place = place_of(cause);
+            let place = position_of(cause);
             if let Some(refused) = attempts.refused.get(place) {
                 refused.fetch_add(1, Ordering::SeqCst);
             }
@@ -218,7 +218,7 @@ pub struct Times {
 
 fn name_of(cause: LastAbort) -> &'static str {
     match cause {
-        LastAbort::Refused(refusal) => NAMES[place_of(refusal)],
+        LastAbort::Refused(refusal) => NAMES[position_of(refusal)],
         LastAbort::GivenUp => "given up",
         LastAbort::NotStarted => NOT_STARTED,
     }

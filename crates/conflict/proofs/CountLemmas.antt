@@ -14,18 +14,13 @@ use Rattle.std.proofs.lemmas.List.{get_or-replicate, get_or-set_other, get_or_pa
 use Rattle.std.proofs.lemmas.List.FromFn.{get_or-map-range_with_len, length-map-range_with_len}
 use Rattle.std.proofs.lemmas.List.Sums.{sum-map, sum_by-cons}
 use Rattle.seq_model.proofs.EntryLemmas.{AreFresh, fresh_rising}
+use Rattle.seq_model.proofs.LogicLemmas.{nat_lt-true, nat_lt-false}
 use Rattle.conflict.specs.Counts.{keys_on, stripe_counts}
-use Rattle.conflict.specs.Footprints.{key_place}
+use Rattle.conflict.specs.Footprints.{key_location}
 use Rattle.conflict.specs.Places.{mod_below, same_key}
 
 differ : (p l : ℕ) → (p == l) ≡ false → l ≢ p
 differ p l other = grind (arith, nat_tests)
-
-below : (p n : ℕ) → nat_lt p n ≡ true → p < n
-below p n is = grind (arith, nat_tests)
-
-above : (p n : ℕ) → nat_lt p n ≡ false → n ≤ p
-above p n is = grind (arith, nat_tests)
 
 -- ---- one more at one place
 adds_none : (f : ℕ → ℕ) (p a n : ℕ) → p < a → sum_by (λ l. cond (p == l) (suc (f l)) (f l))
@@ -133,38 +128,38 @@ pub no_counts : (n p : ℕ) → ◌≡◌ {A = ℕ} (get_or (replicate n 0) p 0)
 no_counts n p = at (nat_lt p n) refl
   where
     at : (b : Bool) → nat_lt p n ≡ b → ◌≡◌ {A = ℕ} (get_or (replicate n 0) p 0) 0
-    at true lt = get_or-replicate n p 0 0 (below p n lt)
+    at true lt = get_or-replicate n p 0 0 (nat_lt-true p n lt)
     at false ge =
         let len : length (replicate {A = ℕ} n 0) ≡ n = length-replicate n 0 in
-        let le : n ≤ p = above p n ge in
+        let le : n ≤ p = nat_lt-false p n ge in
         get_or_past (replicate n 0) p 0 (omega arith)
 
 module _ {A : Type 0} (n : ℕ) where
   -- the counts, with these entries counted too
   abbrev pub counted : List (ℕ × A) → List ℕ → List ℕ
   counted [] cs = cs
-  counted (e ∷ es) cs = counted es (set cs (key_place n e.0) (get_or cs (key_place n e.0) 0 + 1))
+  counted (e ∷ es) cs = counted es (set cs (key_location n e.0) (get_or cs (key_location n e.0) 0 + 1))
 
   counted_len : (es : List (ℕ × A)) (cs : List ℕ) → length (counted es cs) ≡ length cs
   counted_len [] cs = refl
   counted_len (e ∷ es) cs =
-      counted_len es (set cs (key_place n e.0) (get_or cs (key_place n e.0) 0 + 1)) ∙ length-set cs (key_place n e.0)
-      (get_or cs (key_place n e.0) 0 + 1)
+      counted_len es (set cs (key_location n e.0) (get_or cs (key_location n e.0) 0 + 1)) ∙ length-set cs (key_location n e.0)
+      (get_or cs (key_location n e.0) 0 + 1)
 
   counted_at : (es : List (ℕ × A)) (cs : List ℕ) (l : ℕ) → l < length cs
-      → get_or (counted es cs) l 0 ≡ get_or cs l 0 + found {A = A} (λ k. key_place n k == l) es
+      → get_or (counted es cs) l 0 ≡ get_or cs l 0 + found {A = A} (λ k. key_location n k == l) es
   counted_at [] cs l lt = omega arith
   counted_at (e ∷ es) cs l lt =
       counted_at es (set cs p more) l (subst (λ m. l < m) (sym (length-set cs p more)) lt) ∙ at (p == l) refl
     where
       p : ℕ
-      p = key_place n e.0
+      p = key_location n e.0
 
       more : ℕ
       more = get_or cs p 0 + 1
 
       rest : ℕ
-      rest = found {A = A} (λ k. key_place n k == l) es
+      rest = found {A = A} (λ k. key_location n k == l) es
 
       at : (b : Bool) → (p == l) ≡ b → get_or (set cs p more) l 0 + rest ≡ get_or cs l 0 + cond b (suc rest) rest
       at true is =
@@ -182,20 +177,20 @@ module _ {A : Type 0} (n : ℕ) where
       same_number_lists _ _ (len ∙ zeros ∙ sym (length-map-range_with_len (keys_on n (from_entries es)) 0 n)) (λ l lt.
       let under : l < n = omega (arith, len, zeros, lt) in
       let from_zero : 0 + l ≡ l = omega arith in
-      let there : ℕ = found {A = A} (λ k. key_place n k == l) es in
+      let there : ℕ = found {A = A} (λ k. key_location n k == l) es in
       let no_more_than : 0 + there ≡ there = omega arith in
       counted_at es (replicate n 0) l (omega arith)
       ∙ ap (λ x. x + there) (get_or-replicate n l 0 0 under)
       ∙ no_more_than
       ∙ sym (get_or-map-range_with_len (keys_on n (from_entries es)) 0 n l l 0 under from_zero
-      ∙ kept_len (λ k. key_place n k == l) es fresh))
+      ∙ kept_len (λ k. key_location n k == l) es fresh))
 
   -- each entry is on one stripe
-  found_all : 0 < n → (es : List (ℕ × A)) → sum_by (λ l. found {A = A} (λ k. key_place n k == l) es) (range_with_len 0 n) ≡ length es
+  found_all : 0 < n → (es : List (ℕ × A)) → sum_by (λ l. found {A = A} (λ k. key_location n k == l) es) (range_with_len 0 n) ≡ length es
   found_all pos [] = no_more (range_with_len 0 n)
   found_all pos (e ∷ es) =
       let inside = mod_below e.0 n pos in
-      adds_one (λ l. found {A = A} (λ k. key_place n k == l) es) (key_place n e.0) 0 n (omega arith) (omega arith)
+      adds_one (λ l. found {A = A} (λ k. key_location n k == l) es) (key_location n e.0) 0 n (omega arith) (omega arith)
       ∙ ap suc (found_all pos es)
 
   -- so the counts add up to the number of all keys
@@ -204,7 +199,7 @@ module _ {A : Type 0} (n : ℕ) where
       let fresh = fresh_rising (entries m) (entries_sorted m) in
       let same : from_entries (entries m) ≡ m =
       same_map nat_cmp_total nat_cmp-IsAntisymmetric _ _ (λ q. get-from_entries nat_cmp_total (entries m) q ∙ sym (get-entries m q)) in
-      let each : (l : ℕ) → keys_on n m l ≡ found {A = A} (λ k. key_place n k == l) (entries m) =
-      λ l. ap (λ x. keys_on n x l) (sym same) ∙ kept_len (λ k. key_place n k == l) (entries m) fresh in
+      let each : (l : ℕ) → keys_on n m l ≡ found {A = A} (λ k. key_location n k == l) (entries m) =
+      λ l. ap (λ x. keys_on n x l) (sym same) ∙ kept_len (λ k. key_location n k == l) (entries m) fresh in
       sum-map (keys_on n m) (range_with_len 0 n) ∙ (λ i. sum_by (λ l. each l i) (range_with_len 0 n)) ∙ found_all pos (entries m)
       ∙ sym (len-entries m)

@@ -13,7 +13,7 @@ use Rattle.std.proofs.lemmas.List.{at_drop_all, at_drop_more}
 use Rattle.std.proofs.lemmas.List.Sums.{passes_at_first}
 use Rattle.std.proofs.lemmas.Bool.Decides.{nat_tests}
 use Rattle.std.proofs.lemmas.Map.Entries.{lookup_head, lookup_tail, lookup-filter-keys}
-use Rattle.conflict.proofs.TableLemmas.{find_is, get_of}
+use Rattle.conflict.proofs.RoomMapLemmas.{find_is, get_of}
 
 -- tests of keys
 same_test : (q k : ℕ) → nat_eq q k ≡ eq_by_cmp nat_cmp q k

@@ -1,4 +1,4 @@
-pub mod TableLemmas
+pub mod RoomMapLemmas
 pub mod EditionLemmas
 pub mod LocationLemmas
 pub mod MultisetLemmas

@@ -45,7 +45,7 @@ module _ {V C Q A : Type 0} (r : Rules V C Q A) (laws : FrameLaws r) where
   pub disjoint_changes_commute : DisjointChangesCommute r
   disjoint_changes_commute n w v cs ds s within_w within_v apart =
       laws.parts_decide _ _ (λ q.
-      let l = r.place n q in
+      let l = r.location n q in
       elim (decided w l) as (λ _. r.look (applied r ds (applied r cs s)) q ≡ r.look (applied r cs (applied r ds s)) q) [
         | inl c ↦
             let outside : ¬ Contains v l = λ d. apart (shared w v l c d) in

@@ -1,4 +1,4 @@
-pub mod Table
+pub mod RoomMap
 pub mod Lookups
 pub mod BaseView
 pub mod Refusals

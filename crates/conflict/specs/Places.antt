@@ -6,6 +6,8 @@ use Rattle.std.specs.List.{range_with_len}
 use Rattle.std.specs.Ordering.{nat_cmp, eq_by_cmp}
 use Rattle.std.proofs.lemmas.Bool.Decides.{nat_tests}
 use Rattle.std.proofs.lemmas.List.FromFn.{length-range_with_len}
+use Rattle.std.proofs.lemmas.Option.{same_Some, none-some}
+use Rattle.seq_model.proofs.LogicLemmas.{some-none}
 
 pub in_single : (x : ℕ) → Contains (x ∷ []) x
 in_single x = (0, omega arith, refl)
@@ -53,12 +55,3 @@ same_key q k h = grind (arith, nat_tests)
 
 pub key_itself : (k : ℕ) → eq_by_cmp nat_cmp k k ≡ true
 key_itself k = grind (arith, nat_tests)
-
-pub some_same : {A : Type 0} (x y : A) → Some x ≡ Some y → x ≡ y
-some_same x y e = cc
-
-pub none_some : {A : Type 0} (x : A) → None ≡ Some x → ⊥
-none_some x e = cc
-
-pub some_none : {A : Type 0} (x : A) → Some x ≡ None → ⊥
-some_none x e = cc

@@ -21,7 +21,7 @@ pub record Rules (V C Q A : Type 0) : Type 0 where
   pub change : C → Change V → C
   -- what it shows at a point, and the location of the point
   pub look : C → Q → A
-  pub place : ℕ → Q → ℕ
+  pub location : ℕ → Q → ℕ
   -- the view of a state of this kind, and the state of a view
   pub view_of : Held V → Option C
   pub held_of : C → Held V
@@ -37,7 +37,7 @@ applied r changes s = fold r.change s changes
 
 -- the part of the location is the same in both
 abbrev pub SamePart : {V C Q A : Type 0} → Rules V C Q A → ℕ → ℕ → C → C → Type 0
-SamePart {V} {C} {Q} r n l s t = (q : Q) → r.place n q ≡ l → r.look s q ≡ r.look t q
+SamePart {V} {C} {Q} r n l s t = (q : Q) → r.location n q ≡ l → r.look s q ≡ r.look t q
 
 -- the parts of all these locations are the same
 abbrev pub Agree : {V C Q A : Type 0} → Rules V C Q A → ℕ → List ℕ → C → C → Type 0
@@ -81,7 +81,7 @@ abbrev pub ReadsLocations : {V C Q A : Type 0} → Rules V C Q A → Type 0
 ReadsLocations {V} r = (n l : ℕ) (o : Outcome V) → 0 < n → Contains (r.reads n o) l → l < r.locations n
 
 abbrev pub PointsLieOnLocations : {V C Q A : Type 0} → Rules V C Q A → Type 0
-PointsLieOnLocations {V} {C} {Q} r = (n : ℕ) (q : Q) → 0 < n → r.place n q < r.locations n
+PointsLieOnLocations {V} {C} {Q} r = (n : ℕ) (q : Q) → 0 < n → r.location n q < r.locations n
 
 -- the parts decide the whole, and a view of a state holds that state
 abbrev pub PartsDecide : {V C Q A : Type 0} → Rules V C Q A → Type 0

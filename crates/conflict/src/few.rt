@@ -7,7 +7,7 @@ ghost use Rattle.std.specs.Ordering.{nat_cmp};
 ghost use Rattle.std.specs.FinMap as map;
 ghost use Rattle.conflict.specs.Few.{room_of};
 
-use crate::table::Table;
+use crate::table::RoomMap;
 use seq_model::Memory;
 use std::alloc::Global;
 use std::marker::Model;
@@ -18,7 +18,7 @@ const FEW: usize = 16;
 /// A finite map from numbers. Its keys stand in the list, or all in the table.
 pub struct FewKeys<V> {
     few: Vec<(u64, V)>,
-    many: Table<V>,
+    many: RoomMap<V>,
     is_many: bool,
 }
 
@@ -35,7 +35,7 @@ impl<V: Drop> Drop for FewKeys<V> {
 impl<V> Model for FewKeys<V> {
     ghost use Rattle.std.specs.Prelude.{◌≡◌, false};
     ghost use Rattle.std.specs.FinMap as map;
-    ghost use Rattle.conflict.specs.Table.{Room, room_code};
+    ghost use Rattle.conflict.specs.RoomMap.{Room, room_code};
     ghost use Rattle.conflict.specs.Few.{room_of};
 
     ghost Value = { Room V };
@@ -54,7 +54,7 @@ impl<V: Drop> FewKeys<V> {
     {
         FewKeys {
             few: Vec::new(alloc),
-            many: Table::new(alloc),
+            many: RoomMap::new(alloc),
             is_many: false,
         }
     }
@@ -68,7 +68,7 @@ impl<V: Drop> FewKeys<V> {
             return self.many.get(key);
         }
         let few = self.few.as_slice();
-        let place = place_of(few, key);
+        let place = position_of(few, key);
         if place < few.len() {
             Some(&few[place].1)
         } else {
@@ -139,7 +139,7 @@ fn left<V>(few: &Vec<(u64, V)>) -> usize
 }
 
 // Where the key stands first in the list. One that doesn't stand there has the list's length.
-fn place_of<V>(few: &[(u64, V)], key: u64) -> usize
+fn position_of<V>(few: &[(u64, V)], key: u64) -> usize
     ensures { result ≡ position_or_len (λ entry. nat_eq key entry.0) few.now }
 {
     let mut place = 0;
@@ -159,7 +159,7 @@ fn put_few<V: Drop>(few: &mut Vec<(u64, V)>, key: u64, value: V)
     ensures len { length few.new.items ≤ length few.old.items + 1 }
     ensures capacity { few.new.cap ≡ few.old.cap }
 {
-    let place = place_of(few.as_slice(), key);
+    let place = position_of(few.as_slice(), key);
     if place < few.len() {
         few[place].1 = value;
     } else {
@@ -170,7 +170,7 @@ fn put_few<V: Drop>(few: &mut Vec<(u64, V)>, key: u64, value: V)
 // What the table takes of the stack is not taken where keys are few.
 #[cold]
 #[inline(never)]
-fn put_many<V: Drop>(many: &mut Table<V>, key: u64, value: V)
+fn put_many<V: Drop>(many: &mut RoomMap<V>, key: u64, value: V)
     requires { 0 < many.old.room }
     ensures contents { many.new.contents ≡ map.insert many.old.contents key value }
     ensures room { many.old.room ≤ many.new.room + 1 }
@@ -182,7 +182,11 @@ fn put_many<V: Drop>(many: &mut Table<V>, key: u64, value: V)
 // are there.
 #[cold]
 #[inline(never)]
-fn grow<V: Drop>(few: &mut Vec<(u64, V)>, many: &mut Table<V>, more: usize) -> Result<bool, Memory>
+fn grow<V: Drop>(
+    few: &mut Vec<(u64, V)>,
+    many: &mut RoomMap<V>,
+    more: usize,
+) -> Result<bool, Memory>
     requires { many.old.contents ≡ map.empty }
     ensures contents { IfOk result (λ is_many.
         (room_of is_many few.new.items few.new.cap many.new).contents ≡ map.from_entries few.old.items) }
@@ -212,7 +216,7 @@ fn fill_up<V>(few: &mut Vec<(u64, V)>) -> Result<(), Memory>
 // Makes room for more keys in the empty table, and moves those of the list there.
 fn move_all<V: Drop>(
     few: &mut Vec<(u64, V)>,
-    many: &mut Table<V>,
+    many: &mut RoomMap<V>,
     more: usize,
 ) -> Result<(), Memory>
     requires { many.old.contents ≡ map.empty }
@@ -229,7 +233,7 @@ fn move_all<V: Drop>(
     Ok(())
 }
 
-fn move_entries<V: Drop>(few: &mut Vec<(u64, V)>, many: &mut Table<V>)
+fn move_entries<V: Drop>(few: &mut Vec<(u64, V)>, many: &mut RoomMap<V>)
     requires empty { many.old.contents ≡ map.empty }
     requires room { length few.old.items ≤ many.old.room }
     ensures contents { many.new.contents ≡ map.from_entries few.old.items }

@@ -11,7 +11,7 @@
 //! every collection, that legal outcomes that do not conflict commute.
 //!
 //! Beside it stand the things that all four collections use: [`LocSet`], a small set of locations; [`Editions`], the number of
-//! commits that changed each location; [`Table`], a hash map that says for how many more entries it has room; and [`FewKeys`],
+//! commits that changed each location; [`RoomMap`], a hash map that says for how many more entries it has room; and [`FewKeys`],
 //! the same map to its callers, but for the room after `clear`, which keeps up to sixteen keys in a list.
 #![tactic(auto)]
 
@@ -34,4 +34,4 @@ pub use outcome::{Note, Outcome};
 pub use stripes::{
     PQ_STRIPE_LIMIT, STRIPE_LIMIT, is_pq_stripe_count, is_stripe_count, is_stripe_count_of,
 };
-pub use table::Table;
+pub use table::RoomMap;

@@ -11,22 +11,22 @@ use std::alloc::Global;
 use std::marker::Model;
 
 /// A finite map from numbers. Its order of entries is left open.
-pub struct Table<V> {
+pub struct RoomMap<V> {
     entries: IndexMap<u64, V>,
     alloc: Global,
 }
 
-impl<V: Drop> Drop for Table<V> {
+impl<V: Drop> Drop for RoomMap<V> {
     fn drop(self) {
-        let Table {
+        let RoomMap {
             entries: _,
             alloc: _,
         } = self;
     }
 }
 
-impl<V> Model for Table<V> {
-    ghost use Rattle.conflict.specs.Table.{Room, room_code, room_of};
+impl<V> Model for RoomMap<V> {
+    ghost use Rattle.conflict.specs.RoomMap.{Room, room_code, room_of};
     ghost use Rattle.conflict.specs.Lookups.{IsUnique};
 
     ghost Value = { Room V };
@@ -38,12 +38,12 @@ impl<V> Model for Table<V> {
     ghost invariant = { λ a. IsUnique a.entries };
 }
 
-impl<V: Drop> Table<V> {
+impl<V: Drop> RoomMap<V> {
     /// The empty map. It takes no memory.
-    pub fn new(alloc: Global) -> Table<V>
+    pub fn new(alloc: Global) -> RoomMap<V>
         ensures { result.contents ≡ map.empty }
     {
-        Table {
+        RoomMap {
             entries: IndexMap::new(alloc),
             alloc,
         }
@@ -114,12 +114,12 @@ impl<V: Drop> Table<V> {
     }
 }
 
-impl<V: Value> Table<V> {
+impl<V: Value> RoomMap<V> {
     /// A table of these entries. `Memory` where an allocation fails; the entries are dropped then.
-    pub fn of_entries(alloc: Global, entries: Entries<V>) -> Result<Table<V>, Memory>
+    pub fn of_entries(alloc: Global, entries: Entries<V>) -> Result<RoomMap<V>, Memory>
         ensures { IfOk result (λ table. table.contents ≡ entries) }
     {
-        let mut table = Table::new(alloc);
+        let mut table = RoomMap::new(alloc);
         table.reserve(entries.len())?;
         for (key, value) in entries.into_iter() {
             table.insert_reserved(key, value);
@@ -128,17 +128,17 @@ impl<V: Value> Table<V> {
     }
 
     /// A table with copies of the values. `Memory` where an allocation fails.
-    pub fn try_copy(&self) -> Result<Table<V>, Memory>
+    pub fn try_copy(&self) -> Result<RoomMap<V>, Memory>
         ensures { IfOk result (λ copy. copy.contents ≡ self.now.contents) }
     {
-        let mut copy = Table::new(self.alloc);
+        let mut copy = RoomMap::new(self.alloc);
         copy.copy_from(self)?;
         Ok(copy)
     }
 
     /// Becomes a copy of the other, in the memory that it has as far as that suffices. Where an allocation fails, what it holds is left
     /// open.
-    pub fn copy_from(&mut self, other: &Table<V>) -> Result<(), Memory>
+    pub fn copy_from(&mut self, other: &RoomMap<V>) -> Result<(), Memory>
         ensures { OnOk result (self.new.contents ≡ other.now.contents) }
     {
         self.clear();

@@ -13,7 +13,7 @@ use std::alloc::Global;
 pub struct Report<V> {
     /// Of each worker, in the order of its jobs.
     pub receipts: Items<Items<Record<V>>>,
-    /// A worker from 1, the place of a job in its list from 0, and why that one has no receipt; rising by worker, then by place.
+    /// A worker from 1, the position of a job in its list from 0, and why that one has no receipt; rising by worker, then by position.
     pub missed: Items<(u64, u64, LastAbort)>,
 }
 

@@ -2,7 +2,7 @@
 ghost use Rattle.std.specs.Prelude.{◌≡◌, ◌≤◌, IfOk, OnErr, length};
 ghost use Rattle.std.specs.Thread.{IsSend, IsSync};
 ghost use Rattle.tx_table.specs.Seated.{opening_of, view};
-ghost use Rattle.actor_laws.specs.Phases.{Rests};
+ghost use Rattle.actor_laws.specs.KnownStages.{Rests};
 ghost use Rattle.tx_engine.specs.Borrowed.{IsAborted};
 ghost use Rattle.tx_engine.specs.Ready.{IsReady, standing};
 ghost use Rattle.job_workers.specs.Reports.{HasNotRun, HasRoomFor, HasRun, IsReportOf, IsTreeOf, jobs_of};

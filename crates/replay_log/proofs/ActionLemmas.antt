@@ -13,7 +13,7 @@ use Rattle.tx_machine.specs.Actor.{Place, Begin, Open, Actor, goes}
 use Rattle.tx_machine.specs.Requests.{Request, AskBegin, AskBeginRead, AskRead, AskWrite, AskLock, AskStore, AskRelease, AskCancel}
 use Rattle.tx_machine.specs.Requests.{AskAbort, AskClose, ask, write, wrote}
 use Rattle.tx_machine.specs.World as world
-use Rattle.tx_machine.specs.World.{World, put, plan, does, noted, outcome, step, Deed, Outcome, Ask}
+use Rattle.tx_machine.specs.World.{World, put, plan, does, noted, step_end, step, Deed, StepEnd, Ask}
 use Rattle.tx_machine.proofs.Sets.{put-same, put-other}
 use Rattle.std.proofs.lemmas.List.{append-nil}
 use Rattle.std.proofs.lemmas.List.Elements.{filter-append}
@@ -168,10 +168,10 @@ module _ {X Out : Type 0} where
   }
 
   -- the world after a step whose outcome is q
-  abbrev after_deed : Boosted X Out → ℕ → Deed → Outcome → Boosted X Out
+  abbrev after_deed : Boosted X Out → ℕ → Deed → StepEnd → Boosted X Out
   after_deed s a d q = recorded (record s { words = noted (does s.words a d) q; shadows = s.shadows }) (s.shadows a).outcomes q
 
-  pub step_goes : (s : Boosted X Out) (a : ℕ) (p : Place) → (s.words.actors a).place ≡ p → outcome a (s.words.actors a) p ≡ world.GoesOn
+  pub step_goes : (s : Boosted X Out) (a : ℕ) (p : Place) → (s.words.actors a).place ≡ p → step_end a (s.words.actors a) p ≡ world.GoesOn
       → shadows_after s a p ≡ s.shadows
       → Goes s (word_step s a (s.words.actors a) (s.words.actors a).place) a
       (learns s.words (s.words.actors a) (plan (s.words.actors a) p)) (s.shadows a)
@@ -181,7 +181,7 @@ module _ {X Out : Type 0} where
       let d = plan x p in
       let out : Boosted X Out → Type 0 = λ t. Goes s t a (learns s.words x d) (s.shadows a) (mine s a) in
       subst (λ q. out (word_step s a x q)) (sym e)
-      (subst (λ f. out (recorded (record s { words = step s.words a x p; shadows = f }) (s.shadows a).outcomes (outcome a x p))) (sym sh)
+      (subst (λ f. out (recorded (record s { words = step s.words a x p; shadows = f }) (s.shadows a).outcomes (step_end a x p))) (sym sh)
       (subst (λ q. out (after_deed s a d q)) (sym o) (record {
         apart = deed_apart s (after_deed s a d world.GoesOn) a d refl refl refl;
         own = deed_own s (after_deed s a d world.GoesOn) a d refl refl refl;
@@ -190,7 +190,7 @@ module _ {X Out : Type 0} where
       })))
 
   pub step_commits : (s : Boosted X Out) (a : ℕ) (p : Place) (r : world.Record) → (s.words.actors a).place ≡ p
-      → outcome a (s.words.actors a) p ≡ world.Commits r → shadows_after s a p ≡ s.shadows
+      → step_end a (s.words.actors a) p ≡ world.Commits r → shadows_after s a p ≡ s.shadows
       → Commits s (word_step s a (s.words.actors a) (s.words.actors a).place) a
       (learns s.words (s.words.actors a) (plan (s.words.actors a) p))
       (s.shadows a) (mine s a) r
@@ -199,7 +199,7 @@ module _ {X Out : Type 0} where
       let d = plan x p in
       let out : Boosted X Out → Type 0 = λ t. Commits s t a (learns s.words x d) (s.shadows a) (mine s a) r in
       subst (λ q. out (word_step s a x q)) (sym e)
-      (subst (λ f. out (recorded (record s { words = step s.words a x p; shadows = f }) (s.shadows a).outcomes (outcome a x p))) (sym sh)
+      (subst (λ f. out (recorded (record s { words = step s.words a x p; shadows = f }) (s.shadows a).outcomes (step_end a x p))) (sym sh)
       (subst (λ q. out (after_deed s a d q)) (sym o) (record {
         apart = deed_apart s (after_deed s a d (world.Commits r)) a d refl refl refl;
         own = deed_own s (after_deed s a d (world.Commits r)) a d refl refl refl;
@@ -208,7 +208,7 @@ module _ {X Out : Type 0} where
       })))
 
   pub step_leaves : (s : Boosted X Out) (a : ℕ) (p : Place) (r : world.Ended) → (s.words.actors a).place ≡ p
-      → outcome a (s.words.actors a) p ≡ world.Aborts r → shadows_after s a p ≡ s.shadows
+      → step_end a (s.words.actors a) p ≡ world.Aborts r → shadows_after s a p ≡ s.shadows
       → Leaves s (word_step s a (s.words.actors a) (s.words.actors a).place) a
       (learns s.words (s.words.actors a) (plan (s.words.actors a) p)) (s.shadows a)
       (mine s a) r
@@ -217,7 +217,7 @@ module _ {X Out : Type 0} where
       let d = plan x p in
       let out : Boosted X Out → Type 0 = λ t. Leaves s t a (learns s.words x d) (s.shadows a) (mine s a) r in
       subst (λ q. out (word_step s a x q)) (sym e)
-      (subst (λ f. out (recorded (record s { words = step s.words a x p; shadows = f }) (s.shadows a).outcomes (outcome a x p))) (sym sh)
+      (subst (λ f. out (recorded (record s { words = step s.words a x p; shadows = f }) (s.shadows a).outcomes (step_end a x p))) (sym sh)
       (subst (λ q. out (after_deed s a d q)) (sym o) (record {
         apart = deed_apart s (after_deed s a d (world.Aborts r)) a d refl refl refl;
         own = deed_own s (after_deed s a d (world.Aborts r)) a d refl refl refl;

@@ -4,7 +4,8 @@
 use Rattle.std.proofs.Common.{◌≡◌, ℕ, Bool, true, false, cond, ◌&&◌, List, [], ◌∷◌, Option, Some, None, inl, inr, refl, sym, ◌∙◌, ap, subst}
 use Rattle.std.proofs.Common.{true≢false, eqb}
 use Rattle.std.specs.Prelude.{nat_le, nat_lt, not, if◌then◌else◌}
-use Rattle.std.proofs.lemmas.Bool.{cond_both, cases_eq}
+use Rattle.std.proofs.lemmas.Bool.{cond_both, cases_eq, and_parts}
+use Rattle.std.proofs.lemmas.Option.{none-some}
 use Rattle.vlock_word.specs.declared.lock_word.LockWord.{LockWord}
 use Rattle.vlock_word.specs.declared.lock_word.LockWord.TheVariants.{Free, Locked}
 use Rattle.tx_sets.specs.Entries.{Entries, lookup, locations}
@@ -12,7 +13,7 @@ use Rattle.tx_machine.specs.Actor as machine
 use Rattle.tx_machine.specs.Actor.{Place, Actor, goes}
 use Rattle.tx_machine.specs.Requests as word
 use Rattle.tx_machine.specs.World as world
-use Rattle.tx_machine.specs.World.{World as Words, plan, put, Outcome}
+use Rattle.tx_machine.specs.World.{World as Words, plan, put, StepEnd}
 use Rattle.tx_machine.specs.Progress.{IsAlone}
 use Rattle.tx_machine.proofs.Sets.{put-same, put-other}
 use Rattle.tx_machine.proofs.Alone.{AloneAt, run_alone}
@@ -22,7 +23,7 @@ use Rattle.tx_machine.specs.Boosted.{shadows_after, on_words, gated, homed, fres
 use Rattle.tx_machine.specs.Boosted.{accepted, is_none, is_actor, is_open, is_stored, is_committing, is_held, is_given, is_sound}
 use Rattle.tx_machine.specs.Boosted.{every, may_write, changes, acts}
 use Rattle.tx_machine.proofs.BoostedInvariant.{Inv}
-use Rattle.tx_machine.proofs.BoostedQuiet.{both, open_is}
+use Rattle.tx_machine.proofs.BoostedQuiet.{open_is}
 use Rattle.tx_machine.proofs.Runs.{recorded_words}
 use Rattle.replay_log.proofs.ActionLemmas.{learns, exchanges}
 use Rattle.replay_log.proofs.RequestLemmas.{IsOf}
@@ -148,9 +149,6 @@ put_gates a k gates o h new j b e = elim (cases_eq j k) [
   | inr ne ↦ h j b (sym (put-other gates k o j ne) ∙ e)
 ]
 
-no_some : (b : ℕ) → None ≡ Some b → ⊥
-no_some b e = cc
-
 some_is : (a b : ℕ) → Some a ≡ Some b → b ≡ a
 some_is a b e = cc
 
@@ -164,23 +162,23 @@ module _ {X Out : Type 0} where
     pub gates : OnlyOf a s.gates
     pub copied : MakesCalls (s.words.actors a).place → AreNow (s.shadows a) s.editions
 
-  recorded_gates : (s : Boosted X Out) (os : List Out) (q : Outcome) → (recorded s os q).gates ≡ s.gates
+  recorded_gates : (s : Boosted X Out) (os : List Out) (q : StepEnd) → (recorded s os q).gates ≡ s.gates
   recorded_gates s os world.GoesOn = refl
   recorded_gates s os (world.Commits r) = refl
   recorded_gates s os (world.Aborts e) = refl
 
-  recorded_editions : (s : Boosted X Out) (os : List Out) (q : Outcome) → (recorded s os q).editions ≡ s.editions
+  recorded_editions : (s : Boosted X Out) (os : List Out) (q : StepEnd) → (recorded s os q).editions ≡ s.editions
   recorded_editions s os world.GoesOn = refl
   recorded_editions s os (world.Commits r) = refl
   recorded_editions s os (world.Aborts e) = refl
 
-  recorded_shadows : (s : Boosted X Out) (os : List Out) (q : Outcome) → (recorded s os q).shadows ≡ s.shadows
+  recorded_shadows : (s : Boosted X Out) (os : List Out) (q : StepEnd) → (recorded s os q).shadows ≡ s.shadows
   recorded_shadows s os world.GoesOn = refl
   recorded_shadows s os (world.Commits r) = refl
   recorded_shadows s os (world.Aborts e) = refl
 
   pub step_editions : (s : Boosted X Out) (a : ℕ) (x : Actor) (p : Place) → (word_step s a x p).editions ≡ s.editions
-  step_editions s a x p = recorded_editions _ (s.shadows a).outcomes (world.outcome a x p)
+  step_editions s a x p = recorded_editions _ (s.shadows a).outcomes (world.step_end a x p)
 
   shadows_stay : (s : Boosted X Out) (a : ℕ) (p : Place) → IsNoBegin p → shadows_after s a p ≡ s.shadows
   shadows_stay s a machine.Begin n = absurd n
@@ -262,7 +260,7 @@ module _ {X Op Out : Type 0} (c : Content X Op Out) where
       let p = x.place in
       let next : Boosted X Out = record s { words = world.step s.words a x p; shadows = shadows_after s a p } in
       let os = (s.shadows a).outcomes in
-      let q = world.outcome a x p in record {
+      let q = world.step_end a x p in record {
         words = subst (λ (t : Words). AloneAt t a) (sym (recorded_words next os q))
             (run_alone (world.Step a ∷ []) s.words a v.machine h.words (refl, tt));
         gates = subst (OnlyOf a) (sym (recorded_gates next os q)) h.gates;
@@ -296,7 +294,7 @@ module _ {X Op Out : Type 0} (c : Content X Op Out) where
       (λ (t : Boosted X Out). AloneIn t a)
       (λ _. record {
         words = h.words;
-        gates = put_gates a k s.gates None h.gates (λ b e. absurd (no_some b e));
+        gates = put_gates a k s.gates None h.gates (λ b e. absurd (none-some b e));
         copied = λ m.
             elim (is_open x.place) as (λ b. AreNow ((if b then put s.shadows a w else s.shadows) a) s.editions) [
               | true ↦
@@ -314,8 +312,8 @@ module _ {X Op Out : Type 0} (c : Content X Op Out) where
       cond_both (is_actor a (s.gates k) && is_stored x.place) (homed c s a k) s (λ (t : Boosted X Out). AloneIn t a)
       (λ on. record {
         words = h.words;
-        gates = put_gates a k s.gates None h.gates (λ b e. absurd (no_some b e));
-        copied = λ m. absurd (no_calls x.place (both (is_actor a (s.gates k)) (is_stored x.place) on).1 m);
+        gates = put_gates a k s.gates None h.gates (λ b e. absurd (none-some b e));
+        copied = λ m. absurd (no_calls x.place (and_parts (is_actor a (s.gates k)) (is_stored x.place) on).1 m);
       })
       (λ _. h)
     where
@@ -339,7 +337,7 @@ module _ {X Op Out : Type 0} (c : Content X Op Out) where
         gates = h.gates;
         copied = λ m.
             subst (λ (z : Shadow X Out). AreNow z s.editions) (sym (put-same s.shadows a (longer (s.shadows a) o)))
-            (h.copied (subst MakesCalls (sym (open_is x.place (both (is_open x.place) rest on).0)) tt));
+            (h.copied (subst MakesCalls (sym (open_is x.place (and_parts (is_open x.place) rest on).0)) tt));
       })
       (λ _. h)
 

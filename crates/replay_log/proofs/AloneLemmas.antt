@@ -8,7 +8,8 @@
 use Rattle.std.proofs.Common.{◌≡◌, ℕ, zero, suc, ◌≤◌, Bool, true, false, cond, ◌&&◌, List, [], ◌∷◌, ◌++◌, length, Option, Some, None, inl}
 use Rattle.std.proofs.Common.{inr, refl, sym, ◌∙◌, ap, subst, true≢false, arith, eqb, eq-eqb}
 use Rattle.std.specs.Prelude.{nat_lt, nat_le}
-use Rattle.std.proofs.lemmas.Bool.{cases_eq, cond_both, cond-true}
+use Rattle.std.proofs.lemmas.Bool.{cases_eq, cond_both, cond-true, and_parts}
+use Rattle.std.proofs.lemmas.Option.{none-some}
 use Rattle.vlock_word.specs.declared.lock_word.LockWord.{LockWord}
 use Rattle.vlock_word.specs.declared.lock_word.LockWord.TheVariants.{Free, Locked}
 use Rattle.vlock_word.specs.LockWord.{version_of, bits}
@@ -45,7 +46,7 @@ use Rattle.tx_machine.specs.Boosted.{act_all}
 use Rattle.tx_machine.proofs.BoostedInvariant.{Inv}
 use Rattle.tx_machine.proofs.BoostedSchedules.{acts_led}
 use Rattle.replay_log.specs.Base.{Shown}
-use Rattle.replay_log.specs.Contents.{Block, Asked, Answered, HaveStripes, is_plain, block_of, first_of, content}
+use Rattle.replay_log.specs.Contents.{Block, CollectionCall, CallWithOutcome, HaveStripes, is_plain, block_of, first_of, content}
 use Rattle.replay_log.specs.Pieces.{piece_at, covers_at}
 use Rattle.replay_log.specs.Worlds.{World, Seat, Stage, Idle, Beginning, Open, Locking, Releasing, Closing, Cancelling, Leaving, Reading}
 use Rattle.replay_log.specs.Worlds.{Trying, Copying, Loading, Gating, Ready, Storing, Homing, Returning, After, has_room, with_editions}
@@ -63,7 +64,7 @@ use Rattle.replay_log.proofs.MixedLemmas.{is_word_op}
 use Rattle.replay_log.proofs.PlaceLemmas.{AfterRead, read_after, reading_quiet}
 use Rattle.replay_log.proofs.SeatLemmas.{Copy, AtReading, KnownAsk, Left, Live, gates_of, StageOk, Linked, at_of}
 use Rattle.replay_log.proofs.StageLemmas.{at_move}
-use Rattle.replay_log.proofs.CallLemmas.{both_true, known_some, reads_ok}
+use Rattle.replay_log.proofs.CallLemmas.{known_some, reads_ok}
 use Rattle.replay_log.proofs.EventLemmas.{happens_linked, run_linked, opened_linked}
 use Rattle.replay_log.proofs.RefusalLemmas.{not_got}
 use Rattle.replay_log.proofs.SetLemmas.{put_words}
@@ -253,7 +254,7 @@ module _ {V : Type 0} (P : Refusal → Type 0) (a : ℕ) where
   fresh_fine : (u : World V) (x : Seat V) (d : ℕ × ℕ) (v : ℕ) (next : After V) → d.1 ≡ v → Fine next → Fine (is_fresh u a x d v next)
   fresh_fine u x d v next e h = subst Fine (sym (cond-true (eqb d.1 v) next _ (eq-eqb d.1 v e))) h
 
-  judges_fine : (u : World V) (x : Seat V) (o : Answered V) (d : ℕ × ℕ) (es : Entries) (next : After V) (r : Option ℕ)
+  judges_fine : (u : World V) (x : Seat V) (o : CallWithOutcome V) (d : ℕ × ℕ) (es : Entries) (next : After V) (r : Option ℕ)
       → AllNow u.boosted.editions (d ∷ es)
       → ((v : ℕ) → r ≡ Some v → d.1 ≡ v) → Fine next → Fine (judges u a x o d es next r)
   judges_fine u x o d es next None now e h = (
@@ -263,7 +264,7 @@ module _ {V : Type 0} (P : Refusal → Type 0) (a : ℕ) where
   )
   judges_fine u x o d es next (Some v) now e h = fresh_fine u x d v next (e v refl) h
 
-  loads_fine : (es : Entries) (u : World V) (x : Seat V) (o : Answered V) → AllNow u.boosted.editions es → ArePlain u.words u.blocks es
+  loads_fine : (es : Entries) (u : World V) (x : Seat V) (o : CallWithOutcome V) → AllNow u.boosted.editions es → ArePlain u.words u.blocks es
       → SetsNow u
       → Fine (loads u a x o es)
   loads_fine [] u x o now pl sets = (seated_fine (acted u (Accept a o.asked ∷ [])) (with_call x (call_of o) (reply_of o)) tt, tt)
@@ -271,7 +272,7 @@ module _ {V : Type 0} (P : Refusal → Type 0) (a : ℕ) where
       judges_fine u x o d es (loads u a x o es) (lookup (actor_of u a).reads d.0) now (λ v e. sym now.0 ∙ sets d.0 v pl.0 e)
       (loads_fine es u x o now.1 pl.1 sets)
 
-  answers_fine : (u : World V) (before x : Seat V) (sized o : Answered V) (editions : ℕ → ℕ)
+  answers_fine : (u : World V) (before x : Seat V) (sized o : CallWithOutcome V) (editions : ℕ → ℕ)
       → AllNow u.boosted.editions (with_editions editions ((content u.words u.blocks).reads o))
       → ArePlain u.words u.blocks (with_editions editions ((content u.words u.blocks).reads o)) → SetsNow u
       → Fine (answers u a before x sized o editions)
@@ -281,7 +282,7 @@ module _ {V : Type 0} (P : Refusal → Type 0) (a : ℕ) where
       (λ _. loads_fine (with_editions editions (c.reads o)) u x o now pl sets)
       (λ _. (seated_fine u (at_stage before Open) tt, λ h. absurd h))
 
-  calls_on_fine : (u : World V) (x : Seat V) (asked : Asked V) → Linked u → AloneIn u.boosted a → (actor_of u a).place ≡ machine.Open
+  calls_on_fine : (u : World V) (x : Seat V) (asked : CollectionCall V) → Linked u → AloneIn u.boosted a → (actor_of u a).place ≡ machine.Open
       → Live u.words u.blocks x (actor_of u a) (u.boosted.shadows a) → KnownAsk u.blocks (actor_of u a) asked → Fine (calls_on u a x asked)
   calls_on_fine u x asked k h e live known =
       let c = content u.words u.blocks in
@@ -300,7 +301,7 @@ module _ {V : Type 0} (P : Refusal → Type 0) (a : ℕ) where
       (sets_now u k.base.inv h m)))
       (λ _. (seated_fine u (at_stage x (Trying asked more_tries)) tt, tt))
 
-  has_loaded_fine : (u : World V) (x : Seat V) (y z : Actor) (o : Answered V) (d : ℕ × ℕ) (es : Entries) (n : told.Notice)
+  has_loaded_fine : (u : World V) (x : Seat V) (y z : Actor) (o : CallWithOutcome V) (d : ℕ × ℕ) (es : Entries) (n : told.Notice)
       → u.boosted.words.actors a ≡ z
       → u.seats a ≡ x → x.stage ≡ Loading o (d ∷ es) → AllNow u.boosted.editions (d ∷ es) → ArePlain u.words u.blocks (d ∷ es)
       → Inv (content u.words u.blocks) u.boosted → AloneIn u.boosted a → AfterRead d.0 y z n → NumberIs (u.boosted.editions d.0) n
@@ -333,7 +334,7 @@ module _ {V : Type 0} (P : Refusal → Type 0) (a : ℕ) where
       allowed_fine u x (is_known (block_of u.blocks t) op && may_ask (actor_of u a) op) true
       (calls_on u a x (record { collection = t; op = op })) now
       (λ both. (
-      let b = both_true (is_known (block_of u.blocks t) op) (may_ask (actor_of u a) op) both in
+      let b = and_parts (is_known (block_of u.blocks t) op) (may_ask (actor_of u a) op) both in
       calls_on_fine u x (record { collection = t; op = op }) k h e live (not_word, b.0, b.1)))
 
   op_fine : (u : World V) (x : Seat V) (t : ℕ) (op : Op V) → FineAt u → Linked u → AloneIn u.boosted a → (actor_of u a).place ≡ machine.Open
@@ -446,7 +447,7 @@ module _ {V : Type 0} (P : Refusal → Type 0) (a : ℕ) where
       → StageOk w.words w.blocks x (actor_of w a) (w.boosted.shadows a) st (actor_of w a).place → Fine (step_at w a x st)
   step_fine w x st k h seat at now fine held ok = by_stage st at fine held ok
     where
-      c : Content (Shown V) (Asked V) (Answered V)
+      c : Content (Shown V) (CollectionCall V) (CallWithOutcome V)
       c = content w.words w.blocks
 
       y : Actor
@@ -458,7 +459,7 @@ module _ {V : Type 0} (P : Refusal → Type 0) (a : ℕ) where
       good : told.IsConflict (word_notice w a) → ⊥
       good = (step_alone w.boosted.words a y.place k.base.inv.machine h.words h.words.place (k.base.inv.machine.actors a).place).1
 
-      after_inv : (e : Action (Asked V)) → Inv c (acts c w.boosted e)
+      after_inv : (e : Action (CollectionCall V)) → Inv c (acts c w.boosted e)
       after_inv e = (acts_led c (content_frame w.words w.blocks k.base.stripes) w.boosted e k.base.inv).inv
 
       by_stage : (st : Stage V) → x.stage ≡ st → FineStage w.boosted.editions x.cause st
@@ -552,7 +553,7 @@ module _ {V : Type 0} (P : Refusal → Type 0) (a : ℕ) where
       (step_fine w (w.seats a) (w.seats a).stage h.linked h.alone refl refl h.fine h.fine (h.linked.seats a).gates (h.linked.seats a).stage)
   own_fine w (Starve b) m p h = subst (λ i. Fine (happens w (Starve i))) (sym m) (starve_fine w (w.seats a) (w.seats a).stage h.fine (p m))
 
-  all_alone : (n : ℕ) (bs : List Block) (es : List (Action (Asked V))) (s : Boosted (Shown V) (Answered V)) → HaveStripes bs
+  all_alone : (n : ℕ) (bs : List Block) (es : List (Action (CollectionCall V))) (s : Boosted (Shown V) (CallWithOutcome V)) → HaveStripes bs
       → Inv (content n bs) s
       → AllOf a es → AloneIn s a → AloneIn (act_all (content n bs) es s) a
   all_alone n bs [] s stripes v own h = h
@@ -563,18 +564,18 @@ module _ {V : Type 0} (P : Refusal → Type 0) (a : ℕ) where
   own_alone : (w : World V) (e : Event V) → whose e ≡ a → Linked w → AloneIn w.boosted a → AloneIn (happens w e).0.boosted a
   own_alone w e m k h =
       let r = happens_by w e in
-      subst (λ (s : Boosted (Shown V) (Answered V)). AloneIn s a) (sym r.reached.is)
+      subst (λ (s : Boosted (Shown V) (CallWithOutcome V)). AloneIn s a) (sym r.reached.is)
       (all_alone w.words w.blocks r.reached.actions w.boosted k.base.stripes k.base.inv (subst (λ i. AllOf i r.reached.actions) m r.own) h)
 
   -- what others ask or want leaves it
-  other_alone : (s t : Boosted (Shown V) (Answered V)) (b : ℕ) → (a ≡ b → ⊥) → Still b s t → t.words.actors a ≡ s.words.actors a
+  other_alone : (s t : Boosted (Shown V) (CallWithOutcome V)) (b : ℕ) → (a ≡ b → ⊥) → Still b s t → t.words.actors a ≡ s.words.actors a
       → AloneIn s a → AloneIn t a
   other_alone s t b ne g same h = record {
     words =
         subst (λ (y : Actor). AloneOk t.words.locks y) (sym same) (subst (λ f. AloneOk f (s.words.actors a)) (sym g.locks) h.words);
     gates = subst (OnlyOf a) (sym g.gates) h.gates;
     copied = λ m.
-        subst (λ (z : Shadow (Shown V) (Answered V)). (l : ℕ) → z.copied l ≡ true → z.editions l ≡ t.editions l) (sym (g.shadows a ne))
+        subst (λ (z : Shadow (Shown V) (CallWithOutcome V)). (l : ℕ) → z.copied l ≡ true → z.editions l ≡ t.editions l) (sym (g.shadows a ne))
         (subst (λ (f : ℕ → ℕ). (l : ℕ) → (s.shadows a).copied l ≡ true → (s.shadows a).editions l ≡ f l) (sym g.editions)
         (h.copied (subst (λ (y : Actor). MakesCalls y.place) same m)));
   }
@@ -621,14 +622,11 @@ module _ {V : Type 0} (P : Refusal → Type 0) (a : ℕ) where
         linked = k;
         alone = record {
           words = record { free = λ l. inl (free.locks l); place = subst (AlonePlace w.boosted.words.locks (actor_of w a)) (sym place) tt };
-          gates = λ i b is. absurd (no_some b (sym (free.gates i) ∙ is));
+          gates = λ i b is. absurd (none-some b (sym (free.gates i) ∙ is));
           copied = λ m. absurd (subst MakesCalls place m);
         };
         fine = subst (FineStage w.boosted.editions (w.seats a).cause) (sym e) tt;
       }
-    where
-      no_some : (b : ℕ) → None ≡ Some b → ⊥
-      no_some b e = cc
 
 -- ---- the laws
 module _ {V : Type 0} (blocks : List Block) (clock : ℕ) (values : List ℕ) (held : List (Held V)) (events later : List (Event V)) (a : ℕ)

@@ -23,8 +23,9 @@ use Rattle.seq_model.specs.declared.event.Request.TheVariants as request
 use Rattle.seq_model.specs.declared.event.Notice.{Notice}
 use Rattle.seq_model.specs.declared.event.Notice.TheVariants.{Quiet, Refused}
 use Rattle.seq_model.specs.declared.limits.TheConstants.{CALL_LIMIT}
+use Rattle.seq_model.proofs.LogicLemmas.{nat_lt-false}
 use Rattle.tx_machine.specs.Boosted.{TakeGate, PutGate, GoHome, is_none}
-use Rattle.replay_log.specs.Contents.{Asked, Answered, content}
+use Rattle.replay_log.specs.Contents.{CollectionCall, CallWithOutcome, content}
 use Rattle.replay_log.specs.Pieces.{piece_at, covers_at}
 use Rattle.replay_log.specs.Worlds.{World, Seat, Stage, Idle, Beginning, Open, Locking, Releasing, Closing, Cancelling, Leaving, Reading}
 use Rattle.replay_log.specs.Worlds.{Trying, Copying, Loading, Gating, Ready, Storing, Homing, Returning, After, has_room, with_editions}
@@ -39,9 +40,6 @@ use Rattle.replay_log.specs.WorldStill.{Same}
 use Rattle.replay_log.specs.WorldAnswers.{IsRefusal, IsRefusedAt, IsStarved, RefusedBy}
 use Rattle.replay_log.proofs.SeatLemmas.{StageOk, Linked}
 use Rattle.replay_log.proofs.SetLemmas.{put_words}
-
-not_below : (n limit : ℕ) → nat_lt n limit ≡ false → limit ≤ n
-not_below n limit h = grind (arith, nat_tests)
 
 module _ {V : Type 0} where
   same_world : (w : World V) → Same w w
@@ -85,17 +83,17 @@ module _ {V : Type 0} where
   fresh_no : (u : World V) (a : ℕ) (x : Seat V) (d : ℕ × ℕ) (v : ℕ) (next : After V) → NoRefusal next → NoRefusal (is_fresh u a x d v next)
   fresh_no u a x d v next h = choose_no (eqb d.1 v) next _ h (gives_up_no u a (because x (refusal.Stale d.0 d.1 v)) [])
 
-  judges_no : (u : World V) (a : ℕ) (x : Seat V) (o : Answered V) (d : ℕ × ℕ) (es : Entries) (next : After V) (r : Option ℕ)
+  judges_no : (u : World V) (a : ℕ) (x : Seat V) (o : CallWithOutcome V) (d : ℕ × ℕ) (es : Entries) (next : After V) (r : Option ℕ)
       → NoRefusal next
       → NoRefusal (judges u a x o d es next r)
   judges_no u a x o d es next None h = λ q. q
   judges_no u a x o d es next (Some v) h = fresh_no u a x d v next h
 
-  pub loads_no : (es : Entries) (u : World V) (a : ℕ) (x : Seat V) (o : Answered V) → NoRefusal (loads u a x o es)
+  pub loads_no : (es : Entries) (u : World V) (a : ℕ) (x : Seat V) (o : CallWithOutcome V) → NoRefusal (loads u a x o es)
   loads_no [] u a x o = λ q. q
   loads_no (d ∷ es) u a x o = judges_no u a x o d es (loads u a x o es) (lookup (actor_of u a).reads d.0) (loads_no es u a x o)
 
-  calls_on_keeps : (w : World V) (a : ℕ) (x : Seat V) (asked : Asked V) → w.seats a ≡ x → x.stage ≡ Open → Keeps w (calls_on w a x asked)
+  calls_on_keeps : (w : World V) (a : ℕ) (x : Seat V) (asked : CollectionCall V) → w.seats a ≡ x → x.stage ≡ Open → Keeps w (calls_on w a x asked)
   calls_on_keeps w a x asked seat at =
       let c = content w.words w.blocks in
       let o = outcome_at w a asked in
@@ -158,7 +156,7 @@ module _ {V : Type 0} where
   tried_no u a x free k got again next zero = choose_no free _ _ (λ q. q) (gives_up_no u a (because x (refusal.GateBusy k)) got)
   tried_no u a x free k got again next (suc m) = choose_no free _ _ (λ q. q) (λ q. q)
 
-  has_loaded_no : (u : World V) (a : ℕ) (x : Seat V) (o : Answered V) (d : ℕ × ℕ) (es : Entries) (n : told.Notice)
+  has_loaded_no : (u : World V) (a : ℕ) (x : Seat V) (o : CallWithOutcome V) (d : ℕ × ℕ) (es : Entries) (n : told.Notice)
       → NoRefusal (has_loaded u a x o d es n)
   has_loaded_no u a x o d es (told.Number v) = fresh_no u a x d v (loads u a x o es) (loads_no es u a x o)
   has_loaded_no u a x o d es (told.Moved i found) = λ q. q
@@ -191,9 +189,9 @@ module _ {V : Type 0} where
       RefusedBy a (IsRefusedAt w a Beginning r.0) r.1
   begun_says w u a x true e = tt
   begun_says w u a x false e =
-      (refl, (refl, not_below w.boosted.words.clock machine.clock_limit e, ap (λ (q : Seat V). q.stage) (put-same u.seats a no_one)))
+      (refl, (refl, nat_lt-false w.boosted.words.clock machine.clock_limit e, ap (λ (q : Seat V). q.stage) (put-same u.seats a no_one)))
 
-  copied_says : (w u : World V) (a : ℕ) (before x : Seat V) (asked : Asked V) (sized o : Answered V) (editions : ℕ → ℕ)
+  copied_says : (w u : World V) (a : ℕ) (before x : Seat V) (asked : CollectionCall V) (sized o : CallWithOutcome V) (editions : ℕ → ℕ)
       → w.seats a ≡ before
       → actor_of u a ≡ actor_of w a
       → let r = answers u a before x sized o editions in RefusedBy a (IsRefusedAt w a (Copying asked) r.0) r.1

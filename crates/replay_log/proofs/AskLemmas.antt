@@ -20,9 +20,10 @@ use Rattle.seq_model.specs.declared.event.Request.{Request}
 use Rattle.seq_model.specs.declared.event.Request.TheVariants as request
 use Rattle.seq_model.specs.declared.event.Notice.TheVariants.{Refused}
 use Rattle.seq_model.specs.declared.limits.TheConstants.{CALL_LIMIT}
+use Rattle.seq_model.proofs.LogicLemmas.{le-nat_lt}
 use Rattle.tx_machine.specs.Content.{IsIn}
 use Rattle.tx_machine.specs.Boosted.{Accept}
-use Rattle.replay_log.specs.Contents.{Asked, Answered, content}
+use Rattle.replay_log.specs.Contents.{CollectionCall, CallWithOutcome, content}
 use Rattle.replay_log.specs.Pieces.{piece_at}
 use Rattle.replay_log.specs.Guards.{IsAtRest}
 use Rattle.replay_log.specs.Worlds.{World, Seat, Stage, Idle, Beginning, Open, Locking, Closing, Reading, Trying, Loading, After, has_room}
@@ -37,9 +38,6 @@ use Rattle.replay_log.proofs.SeatLemmas.{StageOk, Live, Linked}
 in_set_some : (b : Bool) (o : Option ℕ) (v : ℕ) → in_set b o ≡ Some v → o ≡ Some v
 in_set_some true o v e = absurd (let b : ⊥ = cc in b)
 in_set_some false o v e = e
-
-not_less : (n limit : ℕ) → limit ≤ n → nat_lt n limit ≡ false
-not_less n limit h = grind (arith, nat_tests)
 
 module _ {V : Type 0} where
   -- ---- refused at once
@@ -82,7 +80,7 @@ module _ {V : Type 0} where
       → if_allowed w a x known room next ≡ (w, Refused a refusal.TooLong)
   too_long_if w a x known room next h long =
       cond-true known _ _ h
-      ∙ cond-false (nat_lt (length x.calls) CALL_LIMIT && room) next _ (ap (λ b. b && room) (not_less (length x.calls) CALL_LIMIT long))
+      ∙ cond-false (nat_lt (length x.calls) CALL_LIMIT && room) next _ (ap (λ b. b && room) (le-nat_lt (length x.calls) CALL_LIMIT long))
 
   too_long_op : (w : World V) (a : ℕ) (x : Seat V) (t : ℕ) (op : Op V) → is_there w a t op ≡ true → CALL_LIMIT ≤ length x.calls
       → ask_op w a x t op ≡ (w, Refused a refusal.TooLong)
@@ -119,7 +117,7 @@ module _ {V : Type 0} where
   has_copied : (w : World V) (a : ℕ) (x : Seat V) → Live w.words w.blocks x (actor_of w a) (w.boosted.shadows a) → HasCopied w a
   has_copied w a x live l v pl e = (live.sound l v pl (in_set_some (actor_of w a).declared _ v (sym (live.kept l pl) ∙ e))).1
 
-  judges_on : (w : World V) (a : ℕ) (x : Seat V) (o : Answered V) (l e : ℕ) (es : Entries) (next : After V) (r : Option ℕ)
+  judges_on : (w : World V) (a : ℕ) (x : Seat V) (o : CallWithOutcome V) (l e : ℕ) (es : Entries) (next : After V) (r : Option ℕ)
       → ((v : ℕ) → r ≡ Some v → e ≡ v) → GoesOn a next
       → GoesOn a (judges w a x o (l, e) es next r)
   judges_on w a x o l e es next None h g = sits_on (acted w (asks a (word.AskRead l) ∷ [])) a (at_stage x (Loading o ((l, e) ∷ es))) refl
@@ -127,7 +125,7 @@ module _ {V : Type 0} where
       subst (λ (r : After V). GoesOn a r)
       (sym (cond-true (eqb e v) next (gives_up w a (because x (refusal.Stale l e v)) []) (eq-eqb e v (h v refl)))) g
 
-  loads_on : (ls : List ℕ) (w : World V) (a : ℕ) (x : Seat V) (o : Answered V) → HasCopied w a
+  loads_on : (ls : List ℕ) (w : World V) (a : ℕ) (x : Seat V) (o : CallWithOutcome V) → HasCopied w a
       → ((l : ℕ) → IsIn l ls → (content {V = V} w.words w.blocks).plain l ≡ false)
       → GoesOn a (loads w a x o (with_editions (w.boosted.shadows a).editions ls))
   loads_on [] w a x o h g = sits_on (acted w (Accept a o.asked ∷ [])) a (with_call x (call_of o) (reply_of o)) refl
@@ -136,7 +134,7 @@ module _ {V : Type 0} where
       judges_on w a x o l (f l) (with_editions f ls) (loads w a x o (with_editions f ls)) (lookup (actor_of w a).reads l)
       (λ v e. h l v (g l (inl refl)) e) (loads_on ls w a x o h (λ i m. g i (inr m)))
 
-  calls_on_on : (w : World V) (a : ℕ) (x : Seat V) (asked : Asked V) → Linked w → HasCopied w a → GoesOn a (calls_on w a x asked)
+  calls_on_on : (w : World V) (a : ℕ) (x : Seat V) (asked : CollectionCall V) → Linked w → HasCopied w a → GoesOn a (calls_on w a x asked)
   calls_on_on w a x asked k h =
       let c = content w.words w.blocks in
       let o = outcome_at w a asked in

@@ -5,7 +5,8 @@ use Rattle.std.proofs.Common.{◌⊎◌, inl, inr, refl, sym, ◌∙◌, ap, sub
 use Rattle.std.specs.Prelude.{nat_lt, option_map, if◌then◌else◌, ◌==◌}
 use Rattle.std.specs.Ordering.{nat_cmp}
 use Rattle.std.specs.FinMap.{FinMap, empty}
-use Rattle.std.proofs.lemmas.Bool.{cases_eq, cases_Bool, cond_both, cond-true, cond-false}
+use Rattle.std.proofs.lemmas.Bool.{cases_eq, cases_Bool, cond_both, cond-true, cond-false, and_parts}
+use Rattle.std.proofs.lemmas.Option.{none-some, same_Some}
 use Rattle.tx_sets.specs.Entries.{Entries, lookup}
 use Rattle.tx_machine.specs.Actor as machine
 use Rattle.tx_machine.specs.Actor.{Place, Actor, goes}
@@ -26,7 +27,8 @@ use Rattle.seq_model.specs.declared.refusal.Refusal.TheVariants as refusal
 use Rattle.seq_model.specs.declared.event.Notice.TheVariants.{Refused}
 use Rattle.conflict.specs.declared.outcome.Outcome.{Outcome}
 use Rattle.seq_model.specs.Counts.{Multiset}
-use Rattle.conflict.specs.Footprints.{key_place, map_reads, multiset_reads}
+use Rattle.seq_model.proofs.LogicLemmas.{none_or_some, some-none}
+use Rattle.conflict.specs.Footprints.{key_location, map_reads, multiset_reads}
 use Rattle.conflict.specs.Places.{of_single}
 use Rattle.base_map.specs.Conflicts as map_rules
 use Rattle.base_bag.specs.Conflicts as bag_rules
@@ -37,7 +39,7 @@ use Rattle.tx_machine.specs.Boosted.{Boosted, PutGate, Accept, is_open, is_commi
 use Rattle.tx_machine.specs.Boosted.{is_copied, may_write, copied, gated, longer, accepted, changes, acts}
 use Rattle.replay_log.specs.Base.{Shown, OfMap, outcome_of, reads_of, writes_of}
 use Rattle.replay_log.specs.Parts.{Kind, MapKind, BagKind, PqKind, QueueKind, whole}
-use Rattle.replay_log.specs.Contents.{Block, Asked, Answered, block_of, first_of, end_of, home_of, is_plain, HaveStripes, shifted, blank}
+use Rattle.replay_log.specs.Contents.{Block, CollectionCall, CallWithOutcome, block_of, first_of, end_of, home_of, is_plain, HaveStripes, shifted, blank}
 use Rattle.replay_log.specs.Contents.{seen, answer, reads_in, writes_in, content}
 use Rattle.replay_log.specs.Pieces.{Piece, Entry, Counts, Whole, is_piece, piece_of, piece_in, covers, covers_in, piece_at, covers_at}
 use Rattle.replay_log.specs.Worlds.{World, Seat, Open, Trying, Loading, After, has_room, is_change, with_editions, at_stage, because}
@@ -67,26 +69,9 @@ and_false a b c d e = ap (λ q. a && (not b && (c && q))) e ∙ all a b c
     all true false false = refl
     all false b c = refl
 
-pub both_true : (a b : Bool) → (a && b) ≡ true → (a ≡ true) × (b ≡ true)
-both_true true b h = (refl, h)
-both_true false b h = absurd (true≢false (sym h))
-
 if_copied : (b c : Bool) → c ≡ true → (if b then true else c) ≡ true
 if_copied true c h = refl
 if_copied false c h = h
-
-option_cases : (o : Option ℕ) → (o ≡ None) ⊎ ((v : ℕ) × (o ≡ Some v))
-option_cases None = inl refl
-option_cases (Some v) = inr (v, refl)
-
-no_none : (v : ℕ) → Some v ≡ None → ⊥
-no_none v e = cc
-
-no_some : {A : Type 0} (v : A) → None ≡ Some v → ⊥
-no_some v e = cc
-
-some_is : {A : Type 0} (x y : A) → Some x ≡ Some y → x ≡ y
-some_is x y e = cc
 
 same_piece : (p q : Piece) → is_piece p q ≡ true → p ≡ q
 same_piece (Entry k) (Entry j) h = ap Entry (eqb-true k j h)
@@ -115,8 +100,8 @@ reading_none s y l (machine.Fetch k j) h pl = ap (lookup y.reads) (sym h) ∙ pl
 reading_none s y l (machine.Again k j v) h pl = ap (lookup y.reads) (sym h) ∙ pl.0.2
 reading_none s y l p h pl = absurd h
 
-at_key : (f n q i : ℕ) → Contains (key_place n q ∷ []) i → (f + i == f + key_place n q) ≡ true
-at_key f n q i c = eq-eqb (f + i) (f + key_place n q) (ap (λ j. f + j) (of_single (key_place n q) i c))
+at_key : (f n q i : ℕ) → Contains (key_location n q ∷ []) i → (f + i == f + key_location n q) ≡ true
+at_key f n q i c = eq-eqb (f + i) (f + key_location n q) (ap (λ j. f + j) (of_single (key_location n q) i c))
 
 all_left : (editions : ℕ → ℕ) (ls : List ℕ) (l : ℕ) → IsIn l ls → IsLeft l (with_editions editions ls)
 all_left editions [] l m = absurd m
@@ -131,31 +116,31 @@ may_if true true ls h none = absurd (true≢false (sym h))
 may_if true false ls h none = ap (may_write true) (none refl)
 
 pub in_set_some : (declared : Bool) (o : Option ℕ) (v : ℕ) → in_set declared o ≡ Some v → o ≡ Some v
-in_set_some true o v e = absurd (no_some v e)
+in_set_some true o v e = absurd (none-some v e)
 in_set_some false o v e = e
 
 with_piece_cases : (j k : ℕ) (q p : Piece) (old : Bool) → (if j == k && is_piece p q then true else old) ≡ true → ((j ≡ k) × (p ≡ q))
     ⊎ (old ≡ true)
 with_piece_cases j k q p old h =
     elim (cases_Bool (eqb j k && is_piece p q)) [
-      | inl e ↦ (let b = both_true (eqb j k) (is_piece p q) e in inl (eqb-true j k b.0, same_piece p q b.1))
+      | inl e ↦ (let b = and_parts (eqb j k) (is_piece p q) e in inl (eqb-true j k b.0, same_piece p q b.1))
       | inr e ↦ inr (sym (cond-false (eqb j k && is_piece p q) true old e) ∙ h)
     ]
 
 module _ {V : Type 0} where
   -- ---- what an outcome reads
   map_op : (op : Op V) (m : FinMap nat_cmp V) (r : Outcome V) → map_rules.outcome_of op m ≡ Some r → r.op ≡ op
-  map_op (Get k) m r e = ap (λ (o : Outcome V). o.op) (sym (some_is _ r e))
-  map_op (Put k v) m r e = ap (λ (o : Outcome V). o.op) (sym (some_is _ r e))
-  map_op (Remove k) m r e = ap (λ (o : Outcome V). o.op) (sym (some_is _ r e))
-  map_op Len m r e = ap (λ (o : Outcome V). o.op) (sym (some_is _ r e))
-  map_op _ m r e = absurd (no_some r e)
+  map_op (Get k) m r e = ap (λ (o : Outcome V). o.op) (sym (same_Some _ r e))
+  map_op (Put k v) m r e = ap (λ (o : Outcome V). o.op) (sym (same_Some _ r e))
+  map_op (Remove k) m r e = ap (λ (o : Outcome V). o.op) (sym (same_Some _ r e))
+  map_op Len m r e = ap (λ (o : Outcome V). o.op) (sym (same_Some _ r e))
+  map_op _ m r e = absurd (none-some r e)
 
   bag_op : (op : Op V) (m : Multiset) (r : Outcome V) → bag_rules.outcome_of op m ≡ Some r → r.op ≡ op
-  bag_op (Count x) m r e = ap (λ (o : Outcome V). o.op) (sym (some_is _ r e))
-  bag_op (Add x) m r e = ap (λ (o : Outcome V). o.op) (sym (some_is _ r e))
-  bag_op (Take x) m r e = ap (λ (o : Outcome V). o.op) (sym (some_is _ r e))
-  bag_op _ m r e = absurd (no_some r e)
+  bag_op (Count x) m r e = ap (λ (o : Outcome V). o.op) (sym (same_Some _ r e))
+  bag_op (Add x) m r e = ap (λ (o : Outcome V). o.op) (sym (same_Some _ r e))
+  bag_op (Take x) m r e = ap (λ (o : Outcome V). o.op) (sym (same_Some _ r e))
+  bag_op _ m r e = absurd (none-some r e)
 
   map_covered : (n f : ℕ) (op : Op V) (r : Outcome V) (i : ℕ) → r.op ≡ op → Contains (map_reads n r.op) i
       → covers n f (piece_of MapKind op) (f + i) ≡ true
@@ -198,12 +183,12 @@ module _ {V : Type 0} where
       by (Some r) e = (r, e)
 
   -- what a call reads is in its collection, and is covered by what it touches
-  pub record ReadsOk (n : ℕ) (bs : List Block) (asked : Asked V) (l : ℕ) : Type 0 where
+  pub record ReadsOk (n : ℕ) (bs : List Block) (asked : CollectionCall V) (l : ℕ) : Type 0 where
     pub plain : is_plain n bs l ≡ false
     pub home : home_of n bs l ≡ asked.collection
     pub covered : covers_at n bs asked l ≡ true
 
-  pub reads_ok : (n : ℕ) (bs : List Block) (v : ℕ → Shown V) (asked : Asked V) (r : Outcome V) (l : ℕ) → HaveStripes bs
+  pub reads_ok : (n : ℕ) (bs : List Block) (v : ℕ → Shown V) (asked : CollectionCall V) (r : Outcome V) (l : ℕ) → HaveStripes bs
       → ((content n bs).outcome v asked).outcome ≡ Some r
       → IsIn l ((content n bs).reads ((content n bs).outcome v asked)) → ReadsOk n bs asked l
   reads_ok n bs v asked r l stripes e m =
@@ -219,33 +204,33 @@ module _ {V : Type 0} where
   -- what changes nothing writes nothing
   map_still : (n : ℕ) (op : Op V) (m : FinMap nat_cmp V) (r : Outcome V) → is_change op ≡ false → map_rules.outcome_of op m ≡ Some r
       → map_rules.writes_of n r ≡ []
-  map_still n (Get k) m r h e = ap (λ (o : Outcome V). map_rules.writes_of n o) (sym (some_is _ r e))
-  map_still n Len m r h e = ap (λ (o : Outcome V). map_rules.writes_of n o) (sym (some_is _ r e))
+  map_still n (Get k) m r h e = ap (λ (o : Outcome V). map_rules.writes_of n o) (sym (same_Some _ r e))
+  map_still n Len m r h e = ap (λ (o : Outcome V). map_rules.writes_of n o) (sym (same_Some _ r e))
   map_still n (Put k v) m r h e = absurd (true≢false h)
   map_still n (Remove k) m r h e = absurd (true≢false h)
-  map_still n _ m r h e = absurd (no_some r e)
+  map_still n _ m r h e = absurd (none-some r e)
 
   bag_still : (n : ℕ) (op : Op V) (m : Multiset) (r : Outcome V) → is_change op ≡ false → bag_rules.outcome_of op m ≡ Some r
       → bag_rules.writes_of n r ≡ []
-  bag_still n (Count x) m r h e = ap (λ (o : Outcome V). bag_rules.writes_of n o) (sym (some_is _ r e))
+  bag_still n (Count x) m r h e = ap (λ (o : Outcome V). bag_rules.writes_of n o) (sym (same_Some _ r e))
   bag_still n (Add x) m r h e = absurd (true≢false h)
   bag_still n (Take x) m r h e = absurd (true≢false h)
-  bag_still n _ m r h e = absurd (no_some r e)
+  bag_still n _ m r h e = absurd (none-some r e)
 
   pq_still : (n : ℕ) (op : Op V) (m : pq_rules.Shown) (r : Outcome V) → is_change op ≡ false → pq_rules.outcome_of op m ≡ Some r
       → pq_rules.writes_of n r ≡ []
-  pq_still n Least m r h e = ap (λ (o : Outcome V). pq_rules.writes_of n o) (sym (some_is _ r e))
+  pq_still n Least m r h e = ap (λ (o : Outcome V). pq_rules.writes_of n o) (sym (same_Some _ r e))
   pq_still n (Insert x) m r h e = absurd (true≢false h)
   pq_still n TakeLeast m r h e = absurd (true≢false h)
-  pq_still n _ m r h e = absurd (no_some r e)
+  pq_still n _ m r h e = absurd (none-some r e)
 
   queue_still : (n : ℕ) (op : Op V) (m : queue_rules.Shown) (r : Outcome V) → is_change op ≡ false → queue_rules.outcome_of op m ≡ Some r
       → queue_rules.writes_of n r ≡ []
-  queue_still n Peek m r h e = ap (λ (o : Outcome V). queue_rules.writes_of n o) (sym (some_is _ r e))
-  queue_still n Len m r h e = ap (λ (o : Outcome V). queue_rules.writes_of n o) (sym (some_is _ r e))
+  queue_still n Peek m r h e = ap (λ (o : Outcome V). queue_rules.writes_of n o) (sym (same_Some _ r e))
+  queue_still n Len m r h e = ap (λ (o : Outcome V). queue_rules.writes_of n o) (sym (same_Some _ r e))
   queue_still n (Enqueue x) m r h e = absurd (true≢false h)
   queue_still n Dequeue m r h e = absurd (true≢false h)
-  queue_still n _ m r h e = absurd (no_some r e)
+  queue_still n _ m r h e = absurd (none-some r e)
 
   still : (n : ℕ) (k : Kind) (v w : ℕ → Shown V) (op : Op V) (r : Outcome V) → is_change op ≡ false → outcome_of op (whole n k v) ≡ Some r
       → writes_of n r (whole n k w) ≡ []
@@ -259,24 +244,24 @@ module _ {V : Type 0} where
   still_in None f v op r h e = refl
   still_in (Some b) f v op r h e = ap (shifted f) (still b.stripes b.kind (λ i. v (f + i)) (λ i. OfMap empty) op r h e)
 
-  writes_none : (n : ℕ) (bs : List Block) (o : Answered V) (v : ℕ → Shown V) (r : Outcome V) → is_change o.asked.op ≡ false → o
+  writes_none : (n : ℕ) (bs : List Block) (o : CallWithOutcome V) (v : ℕ → Shown V) (r : Outcome V) → is_change o.asked.op ≡ false → o
       ≡ (content n bs).outcome v o.asked → o.outcome ≡ Some r → (content n bs).writes o ≡ []
   writes_none n bs o v r h is e =
       let b = block_of bs o.asked.collection in
       let f = first_of n bs o.asked.collection in
-      ap (writes_in b f) e ∙ still_in b f v o.asked.op r h (sym (ap (λ (q : Answered V). q.outcome) is) ∙ e)
+      ap (writes_in b f) e ∙ still_in b f v o.asked.op r h (sym (ap (λ (q : CallWithOutcome V). q.outcome) is) ∙ e)
 
   -- ---- the call is accepted
-  parts_calls : (n : ℕ) (done : List (Call V × Reply V)) (cs ds : List machine.Call) (os : List (Answered V)) → word_calls n ds
+  parts_calls : (n : ℕ) (done : List (Call V × Reply V)) (cs ds : List machine.Call) (os : List (CallWithOutcome V)) → word_calls n ds
       ≡ word_calls n cs
       → Parts n done cs os → Parts n done ds os
   parts_calls n done cs ds os e p = record { words = p.words ∙ ap (map pair_of) (sym e); held = p.held }
 
-  replied_known : (o : Answered V) (r : Outcome V) → o.outcome ≡ Some r → option_map (λ q. q.reply) o.outcome ≡ Some (reply_of o)
+  replied_known : (o : CallWithOutcome V) (r : Outcome V) → o.outcome ≡ Some r → option_map (λ q. q.reply) o.outcome ≡ Some (reply_of o)
   replied_known o r e = ap (option_map (λ q. q.reply)) e ∙ ap Some (sym
-      (ap (λ out. reply_of (let p : Answered V = record { asked = o.asked; outcome = out } in p)) e))
+      (ap (λ out. reply_of (let p : CallWithOutcome V = record { asked = o.asked; outcome = out } in p)) e))
 
-  accept_linked : (u : World V) (a : ℕ) (x : Seat V) (y : Actor) (z : Copy V) (g : ℕ → Bool) (o : Answered V) → At u a y z g
+  accept_linked : (u : World V) (a : ℕ) (x : Seat V) (y : Actor) (z : Copy V) (g : ℕ → Bool) (o : CallWithOutcome V) → At u a y z g
       → ((k : ℕ) → g k ≡ false)
       → y.place ≡ machine.Open
       → Live u.words u.blocks x y z → LoadOk u.words u.blocks y z o [] → Linked
@@ -351,7 +336,7 @@ module _ {V : Type 0} where
       by v h false is =
           let w = (k.base.inv.shadows a).wrote l v pl (ap (λ (q : Actor). lookup q.writes l) k.own.actor ∙ h) in
           let r = (k.base.inv.shadows a).sets l w.1 in
-          no_none ((u.boosted.shadows a).editions l)
+          some-none ((u.boosted.shadows a).editions l)
           (sym r.1 ∙ ap (λ (q : Actor). first_read q.calls l) k.own.actor ∙ sym (kept l pl ∙ ap (λ b. in_set b (first_read y.calls l)) is)
           ∙ none)
 
@@ -363,7 +348,7 @@ module _ {V : Type 0} where
       choose (eqb d.1 v) next _ (λ q. h (eqb-true d.1 v q)) (λ _. cancels_linked u a (because x (refusal.Stale d.0 d.1 v)) y z g k none
       (subst CanLeave (sym e) tt) tx)
 
-  judges_linked : (u : World V) (a : ℕ) (x : Seat V) (y : Actor) (z : Copy V) (g : ℕ → Bool) (o : Answered V) (d : ℕ × ℕ) (es : Entries)
+  judges_linked : (u : World V) (a : ℕ) (x : Seat V) (y : Actor) (z : Copy V) (g : ℕ → Bool) (o : CallWithOutcome V) (d : ℕ × ℕ) (es : Entries)
       (next : After V)
       (r : Option ℕ) → At u a y z g → ((k : ℕ) → g k ≡ false)
       → y.place ≡ machine.Open → Live u.words u.blocks x y z → LoadOk u.words u.blocks y z o (d ∷ es) → lookup y.reads d.0 ≡ r
@@ -385,7 +370,7 @@ module _ {V : Type 0} where
   judges_linked u a x y z g o d es next (Some v) k none e live h is next_ok = fresh_linked u a x y z g d v next k none e live.tx
       (λ _. next_ok v is)
 
-  one_less : (n : ℕ) (bs : List Block) (y : Actor) (z : Copy V) (o : Answered V) (d : ℕ × ℕ) (es : Entries) (v : ℕ)
+  one_less : (n : ℕ) (bs : List Block) (y : Actor) (z : Copy V) (o : CallWithOutcome V) (d : ℕ × ℕ) (es : Entries) (v : ℕ)
       → first_read y.calls d.0 ≡ Some v → LoadOk n bs y z o (d ∷ es) → LoadOk n bs y z o es
   one_less n bs y z o d es v e h = record {
     is = h.is;
@@ -399,7 +384,7 @@ module _ {V : Type 0} where
     ];
   }
 
-  pub loads_linked : (es : Entries) (u : World V) (a : ℕ) (x : Seat V) (y : Actor) (z : Copy V) (g : ℕ → Bool) (o : Answered V)
+  pub loads_linked : (es : Entries) (u : World V) (a : ℕ) (x : Seat V) (y : Actor) (z : Copy V) (g : ℕ → Bool) (o : CallWithOutcome V)
       → At u a y z g
       → ((k : ℕ) → g k ≡ false) → y.place ≡ machine.Open
       → Live u.words u.blocks x y z → LoadOk u.words u.blocks y z o es → Linked (loads u a x o es).0
@@ -427,14 +412,14 @@ module _ {V : Type 0} where
   left_read n bs y z l v (d ∷ es) h = (
     h.0,
     h.1,
-    λ none. elim (option_cases (first_read y.calls d.0)) [
+    λ none. elim (none_or_some (first_read y.calls d.0)) [
       | inl new ↦ h.2 new
-      | inr e ↦ absurd (no_none e.0 (sym (first_read-more y.calls (machine.Read l v ∷ []) d.0 e.0 e.1) ∙ none))
+      | inr e ↦ absurd (some-none e.0 (sym (first_read-more y.calls (machine.Read l v ∷ []) d.0 e.0 e.1) ∙ none))
     ],
     left_read n bs y z l v es h.3,
   )
 
-  load_read : (n : ℕ) (bs : List Block) (y : Actor) (z : Copy V) (o : Answered V) (d : ℕ × ℕ) (es : Entries) (v : ℕ) → touched y.calls d.0
+  load_read : (n : ℕ) (bs : List Block) (y : Actor) (z : Copy V) (o : CallWithOutcome V) (d : ℕ × ℕ) (es : Entries) (v : ℕ) → touched y.calls d.0
       ≡ false → LoadOk n bs y z o (d ∷ es) → LoadOk n bs (machine.has_read y d.0 v) z o es
   load_read n bs y z o d es v un h = record {
     is = h.is;
@@ -444,7 +429,7 @@ module _ {V : Type 0} where
     left = left_read n bs y z d.0 v es h.left.3;
     rest = λ l m. elim (h.rest l m) [
       | inl q ↦ elim q [
-        | inl same ↦ elim (option_cases (first_read y.calls d.0)) [
+        | inl same ↦ elim (none_or_some (first_read y.calls d.0)) [
           | inl new ↦ inr (v, ap (first_read (y.calls ++ machine.Read d.0 v ∷ [])) same ∙ first_read-new y.calls d.0 v new un)
           | inr e ↦ inr (
             e.0,
@@ -464,11 +449,11 @@ module _ {V : Type 0} where
   live_read n bs x y z d v pl cp ed none un h = record {
     tx = (h.tx.0, edition_joins n x.calls y.calls z.outcomes (machine.Read d.0 v) (no_word_at n bs d.0 pl) h.tx.1);
     sound = λ l i p m. elim (cases_eq l d.0) [
-      | inl same ↦ elim (option_cases (first_read y.calls d.0)) [
+      | inl same ↦ elim (none_or_some (first_read y.calls d.0)) [
         | inl new ↦ (
           ap z.copied same ∙ cp,
           ap z.editions same ∙ ed new
-              ∙ some_is v i (sym (first_read-new y.calls d.0 v new un) ∙ ap (first_read (y.calls ++ machine.Read d.0 v ∷ [])) (sym same)
+              ∙ same_Some v i (sym (first_read-new y.calls d.0 v new un) ∙ ap (first_read (y.calls ++ machine.Read d.0 v ∷ [])) (sym same)
               ∙ m),
         )
         | inr e ↦ h.sound l i p
@@ -481,7 +466,7 @@ module _ {V : Type 0} where
     pieces = h.pieces;
   }
 
-  pub has_loaded_linked : (u : World V) (a : ℕ) (x : Seat V) (y y2 : Actor) (z : Copy V) (g : ℕ → Bool) (o : Answered V) (d : ℕ × ℕ)
+  pub has_loaded_linked : (u : World V) (a : ℕ) (x : Seat V) (y y2 : Actor) (z : Copy V) (g : ℕ → Bool) (o : CallWithOutcome V) (d : ℕ × ℕ)
       (es : Entries) (n : told.Notice) → At u a y2 z g → ((k : ℕ) → g k ≡ false)
       → u.seats a ≡ x → x.stage ≡ Loading o (d ∷ es) → Live u.words u.blocks x y z → LoadOk u.words u.blocks y z o (d ∷ es)
       → lookup y.reads d.0 ≡ None → touched y.calls d.0 ≡ false → AfterRead d.0 y y2 n → Linked (has_loaded u a x o d es n).0
@@ -523,8 +508,8 @@ module _ {V : Type 0} where
   left_all n bs y z editions [] h = tt
   left_all n bs y z editions (l ∷ ls) h = let q = h l (inl refl) in (q.0, q.1, q.2, left_all n bs y z editions ls (λ i m. h i (inr m)))
 
-  answers_linked : (u : World V) (a : ℕ) (before x : Seat V) (y : Actor) (z : Copy V) (g : ℕ → Bool) (asked : Asked V)
-      (sized : Answered V) (editions : ℕ → ℕ) → At u a y z g → ((k : ℕ) → g k ≡ false) → y.place ≡ machine.Open
+  answers_linked : (u : World V) (a : ℕ) (before x : Seat V) (y : Actor) (z : Copy V) (g : ℕ → Bool) (asked : CollectionCall V)
+      (sized : CallWithOutcome V) (editions : ℕ → ℕ) → At u a y z g → ((k : ℕ) → g k ≡ false) → y.place ≡ machine.Open
       → Live u.words u.blocks before y z → Live u.words u.blocks x y z → KnownAsk u.blocks y asked
       → ((l : ℕ) → ReadsOk u.words u.blocks asked l → (z.copied l ≡ true) × (first_read y.calls l ≡ None → z.editions l ≡ editions l))
       → Linked (answers u a before x sized (outcome_at u a asked) editions).0
@@ -549,7 +534,7 @@ module _ {V : Type 0} where
       (λ _. linked_seated u a (at_stage before Open) y z g k
       (record { gates = none; stage = (e, record { tx = old.tx; sound = old.sound; kept = old.kept; pieces = old.pieces }) }))
 
-  pub calls_on_linked : (w : World V) (a : ℕ) (x : Seat V) (y : Actor) (z : Copy V) (g : ℕ → Bool) (asked : Asked V) → At w a y z g
+  pub calls_on_linked : (w : World V) (a : ℕ) (x : Seat V) (y : Actor) (z : Copy V) (g : ℕ → Bool) (asked : CollectionCall V) → At w a y z g
       → ((k : ℕ) → g k ≡ false) → y.place ≡ machine.Open
       → Live w.words w.blocks x y z → KnownAsk w.blocks y asked → Linked (calls_on w a x asked).0
   calls_on_linked w a x y z g asked k none e live known =
@@ -590,7 +575,7 @@ module _ {V : Type 0} where
         let new : first_read y.calls l ≡ None → b ≡ true = λ none.
         and_true (which l) (is_plain w.words w.blocks l) (home_of w.words w.blocks l == k) (is_none (first_read y.calls l)) cov pl
         (eq-eqb (home_of w.words w.blocks l) k home) (ap is_none none) in (
-          elim (option_cases (first_read y.calls l)) [
+          elim (none_or_some (first_read y.calls l)) [
             | inl none ↦ cond-true b true (z.copied l) (new none)
             | inr e ↦ if_copied b (z.copied l) (s l e.0 pl e.1).0
           ],
@@ -605,9 +590,9 @@ module _ {V : Type 0} where
       (gated s (put s.gates k None)
       (if is_open (s.words.actors a).place then put s.shadows a
       (copied c s (s.words.actors a).calls (s.shadows a) k which) else s.shadows)) s
-      (λ (t : Boosted (Shown V) (Answered V)). t.editions ≡ s.editions) (λ _. refl) (λ _. refl)
+      (λ (t : Boosted (Shown V) (CallWithOutcome V)). t.editions ≡ s.editions) (λ _. refl) (λ _. refl)
 
-  pub copying_step : (w : World V) (a : ℕ) (x : Seat V) (y : Actor) (z : Copy V) (g : ℕ → Bool) (asked : Asked V) → At w a y z g
+  pub copying_step : (w : World V) (a : ℕ) (x : Seat V) (y : Actor) (z : Copy V) (g : ℕ → Bool) (asked : CollectionCall V) → At w a y z g
       → ((k : ℕ) → g k ≡ has (asked.collection ∷ []) k) → y.place ≡ machine.Open
       → Live w.words w.blocks x y z → KnownAsk w.blocks y asked
       → Linked (has_copied (acted w (PutGate a asked.collection (covers_at w.words w.blocks asked) ∷ [])) a x asked).0

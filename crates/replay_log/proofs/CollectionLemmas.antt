@@ -5,6 +5,7 @@ use Rattle.std.proofs.Common.{sym, ap, ◌∙◌, subst, arith, lt-ltb, le-ltb}
 use Rattle.std.specs.Prelude.{option_map}
 use Rattle.std.specs.FinMap.{empty}
 use Rattle.std.proofs.lemmas.Bool.{cases_lt, cond-true, cond-false}
+use Rattle.std.proofs.lemmas.Option.{same_Some, none-some}
 use Rattle.seq_model.specs.declared.call.Op.{Op}
 use Rattle.seq_model.specs.declared.call.Reply.{Reply}
 use Rattle.seq_model.specs.declared.held.Held.{Held}
@@ -21,7 +22,7 @@ use Rattle.replay_log.specs.Contents.{Block, size, block_of, first_of, HaveStrip
 use Rattle.replay_log.specs.Collections.{kind_of_held, viewed, Suit, shown_from, shown_at}
 use Rattle.replay_log.proofs.CollectionRuns.{reply_at, called, after_call, sequential}
 use Rattle.replay_log.proofs.PartLemmas.{is_whole, leaves_other_parts, whole_local}
-use Rattle.replay_log.proofs.ContentLemmas.{shifted_in, written_at, first_above, same_block, no_block, positive_at}
+use Rattle.replay_log.proofs.ContentLemmas.{shifted_in, written_at, first_above, positive_at}
 use Rattle.replay_log.proofs.HeldLemmas.{Keeps, follows, unknown, keeps}
 
 -- The collection of a block, and where it is shown.
@@ -51,16 +52,16 @@ module _ {V : Type 0} where
       (le-ltb l (w + size b) le)
 
   pub found : (w : ℕ) (bs : List Block) (hs : List (Held V)) (k : ℕ) (b : Block) → Suit bs hs → block_of bs k ≡ Some b → Found w bs hs k b
-  found w [] hs k c s e = absurd (no_block c e)
+  found w [] hs k c s e = absurd (none-some c e)
   found w (b ∷ bs) [] k c s e = absurd s
   found w (b ∷ bs) (h ∷ hs) zero c s e = record {
     held = h;
-    kind = s.0 ∙ ap (λ (x : Block). x.kind) (same_block b c e);
+    kind = s.0 ∙ ap (λ (x : Block). x.kind) (same_Some b c e);
     fit = s.1;
     reply = λ op. refl;
     stays = λ op none. ap (λ o. called o h ∷ hs) none;
-    shown = λ i lt. here w b c bs h hs i (same_block b c e) lt;
-    later = λ op i lt. here w b c bs (called (held_call op h) h) hs i (same_block b c e) lt;
+    shown = λ i lt. here w b c bs h hs i (same_Some b c e) lt;
+    later = λ op i lt. here w b c bs (called (held_call op h) h) hs i (same_Some b c e) lt;
   }
   found w (b ∷ bs) (h ∷ hs) (suc k) c s e =
       let f = found (w + size b) bs hs k c s.2 e in
@@ -104,7 +105,7 @@ module _ {V : Type 0} where
   none_there [] [] k op s e = (refl, refl)
   none_there [] (h ∷ hs) k op s e = absurd s
   none_there (b ∷ bs) [] k op s e = absurd s
-  none_there (b ∷ bs) (h ∷ hs) zero op s e = absurd (no_block b (sym e))
+  none_there (b ∷ bs) (h ∷ hs) zero op s e = absurd (none-some b (sym e))
   none_there (b ∷ bs) (h ∷ hs) (suc k) op s e = let z = none_there bs hs k op s.2 e in (z.0, ap (λ (gs : List (Held V)). h ∷ gs) z.1)
 
   called_keeps : (h : Held V) (o : Option (Reply V × Held V)) → IsWithinLimits h → Keeps h o
@@ -219,7 +220,7 @@ module _ {V : Type 0} where
     apart l le away =
         behind w bs hs l le
         ∙ sym (elsewhere w bs hs k op l s le
-        (λ c there. subst (λ (x : Block). (l < at) ⊎ (at + size x ≤ l)) (same_block b c (sym e ∙ there)) away))
+        (λ c there. subst (λ (x : Block). (l < at) ⊎ (at + size x ≤ l)) (same_Some b c (sym e ∙ there)) away))
         ∙ sym (behind w bs (after_call hs k op) l le)
 
     kept_there : (l : ℕ) → (IsIn l (shifted at (writes_of b.stripes o (blank b))) → ⊥) → v l ≡ shown_at w bs (after_call hs k op) l

@@ -8,7 +8,7 @@ use Rattle.seq_model.specs.Calls.{held_call}
 use Rattle.tx_machine.specs.Boosted.{Committed}
 use Rattle.tx_machine.proofs.States as states
 use Rattle.tx_machine.proofs.States.{Sequential}
-use Rattle.replay_log.specs.Contents.{Asked, Answered}
+use Rattle.replay_log.specs.Contents.{CollectionCall, CallWithOutcome}
 
 module _ {V : Type 0} where
   -- what a sequential call on collection k replies; none, if it isn't there or is of another kind
@@ -28,7 +28,7 @@ module _ {V : Type 0} where
   after_call (h ∷ hs) (suc k) op = h ∷ after_call hs k op
 
   -- the sequential collections of the machine, whose runs these are
-  abbrev pub sequential : Sequential (Asked V) (Answered V) (List (Held V)) (Option (Reply V))
+  abbrev pub sequential : Sequential (CollectionCall V) (CallWithOutcome V) (List (Held V)) (Option (Reply V))
   sequential = record {
     op_of = λ o. o.asked;
     reply_of = λ o. option_map (λ x. x.reply) o.outcome;
@@ -36,17 +36,17 @@ module _ {V : Type 0} where
     reply = λ hs a. reply_at hs a.collection a.op;
   }
 
-  abbrev pub after_calls : List (Held V) → List (Answered V) → List (Held V)
+  abbrev pub after_calls : List (Held V) → List (CallWithOutcome V) → List (Held V)
   after_calls hs os = states.after_calls sequential hs os
 
-  abbrev pub AreReplies : List (Held V) → List (Answered V) → Type 0
+  abbrev pub AreReplies : List (Held V) → List (CallWithOutcome V) → Type 0
   AreReplies hs os = states.AreReplies sequential hs os
 
-  abbrev pub after_run : List (Held V) → List (Committed (Answered V)) → List (Held V)
+  abbrev pub after_run : List (Held V) → List (Committed (CallWithOutcome V)) → List (Held V)
   after_run hs rs = states.after_all sequential hs rs
 
-  abbrev pub IsRunOn : List (Held V) → List (Committed (Answered V)) → Type 0
+  abbrev pub IsRunOn : List (Held V) → List (Committed (CallWithOutcome V)) → Type 0
   IsRunOn hs rs = states.AreAll sequential hs rs
 
-  abbrev pub held_at : List (Committed (Answered V)) → ℕ → List (Held V) → List (Held V)
+  abbrev pub held_at : List (Committed (CallWithOutcome V)) → ℕ → List (Held V) → List (Held V)
   held_at rs n hs = states.state_at sequential rs n hs

@@ -4,6 +4,7 @@ use Rattle.std.proofs.Common.{◌≡◌, ℕ, zero, suc, ◌+◌, ◌-◌, ◌<�
 use Rattle.std.proofs.Common.{refl, sym, ap, ◌∙◌, subst, arith, lt-ltb, le-ltb}
 use Rattle.std.specs.Prelude.{◌||◌, not}
 use Rattle.std.proofs.lemmas.Bool.{cond-true, cond-false}
+use Rattle.std.proofs.lemmas.Option.{same_Some, none-some}
 use Rattle.seq_model.specs.declared.call.Op.{Op}
 use Rattle.conflict.specs.declared.change.Change.{Change}
 use Rattle.conflict.specs.declared.outcome.Outcome.{Outcome}
@@ -15,7 +16,7 @@ use Rattle.tx_machine.specs.Content.{Frame, IsIn, has}
 use Rattle.tx_machine.proofs.Parts.{in_has, out_has}
 use Rattle.replay_log.specs.Base.{Shown, after, changes_of, outcome_of, reads_of, writes_of}
 use Rattle.replay_log.specs.Parts.{Kind, MapKind, BagKind, PqKind, QueueKind, part, whole}
-use Rattle.replay_log.specs.Contents.{Block, size_by, size, block_of, first_of, end_of, home_of, is_plain, HaveStripes, shifted, Answered}
+use Rattle.replay_log.specs.Contents.{Block, size_by, size, block_of, first_of, end_of, home_of, is_plain, HaveStripes, shifted, CallWithOutcome}
 use Rattle.replay_log.specs.Contents.{blank, seen, answer, reads_in, writes_in, changed, content}
 use Rattle.replay_log.proofs.PartLemmas.{answers_by_parts, knows_its_calls, parts_by_part}
 
@@ -42,22 +43,16 @@ pub end_above : (w : ℕ) (bs : List Block) → w ≤ end_of w bs
 end_above w [] = omega arith
 end_above w (b ∷ bs) = let z = end_above (w + size b) bs in omega (arith, z)
 
-pub same_block : (b c : Block) → Some b ≡ Some c → b ≡ c
-same_block b c e = cc
-
-pub no_block : (c : Block) → None ≡ Some c → ⊥
-no_block c e = cc
-
 within_end : (w : ℕ) (bs : List Block) (k i : ℕ) (b : Block) → block_of bs k ≡ Some b → i < size b → first_of w bs k + i < end_of w bs
-within_end w [] k i c e lt = absurd (no_block c e)
-within_end w (b ∷ bs) zero i c e lt = let z = end_above (w + size b) bs in let s = ap size (same_block b c e) in omega (arith, z, s, lt)
+within_end w [] k i c e lt = absurd (none-some c e)
+within_end w (b ∷ bs) zero i c e lt = let z = end_above (w + size b) bs in let s = ap size (same_Some b c e) in omega (arith, z, s, lt)
 within_end w (b ∷ bs) (suc k) i c e lt = within_end (w + size b) bs k i c e lt
 
 pub home_is : (w : ℕ) (bs : List Block) (k i : ℕ) (b : Block) → block_of bs k ≡ Some b → i < size b → home_of w bs (first_of w bs k + i) ≡ k
-home_is w [] k i c e lt = absurd (no_block c e)
+home_is w [] k i c e lt = absurd (none-some c e)
 home_is w (b ∷ bs) zero i c e lt =
     cond-true (ltb (w + i) (w + size b)) 0 (suc (home_of (w + size b) bs (w + i)))
-    (lt-ltb (w + i) (w + size b) (let s = ap size (same_block b c e) in omega (arith, s, lt)))
+    (lt-ltb (w + i) (w + size b) (let s = ap size (same_Some b c e) in omega (arith, s, lt)))
 home_is w (b ∷ bs) (suc k) i c e lt =
     let l = first_of (w + size b) bs k + i in
     cond-false (ltb l (w + size b)) 0 (suc (home_of (w + size b) bs l))
@@ -72,8 +67,8 @@ not_plain w bs k i b e lt =
     ∙ ap not (lt-ltb l (end_of w bs) (within_end w bs k i b e lt))
 
 pub positive_at : (bs : List Block) (k : ℕ) (b : Block) → HaveStripes bs → block_of bs k ≡ Some b → 0 < b.stripes
-positive_at [] k c h e = absurd (no_block c e)
-positive_at (b ∷ bs) zero c h e = subst (λ (x : Block). 0 < x.stripes) (same_block b c e) h.0
+positive_at [] k c h e = absurd (none-some c e)
+positive_at (b ∷ bs) zero c h e = subst (λ (x : Block). 0 < x.stripes) (same_Some b c e) h.0
 positive_at (b ∷ bs) (suc k) c h e = positive_at bs k c h.1 e
 
 module _ {V : Type 0} where
@@ -160,7 +155,7 @@ module _ {V : Type 0} where
   pub content_frame : (w : ℕ) (bs : List Block) → HaveStripes bs → Frame (content {V = V} w bs)
   content_frame w bs h =
       let pos : (k : ℕ) (c : Block) → block_of bs k ≡ Some c → 0 < c.stripes = λ k c e. positive_at bs k c h e in
-      let written : (o : Answered V) (l : ℕ)
+      let written : (o : CallWithOutcome V) (l : ℕ)
       → IsIn l (writes_in (block_of bs o.asked.collection) (first_of w bs o.asked.collection) o.outcome) → home_of w bs l
       ≡ o.asked.collection = λ o l m. (
       let k = o.asked.collection in

@@ -5,6 +5,7 @@ use Rattle.std.proofs.Common.{inl, inr, refl, sym, ◌∙◌, ap, subst, arith}
 use Rattle.std.proofs.lemmas.Bool.{cases_eq, cond-false, cond_both}
 use Rattle.std.proofs.lemmas.List.FromFn.{length-range_with_len}
 use Rattle.std.specs.FinMap.{empty}
+use Rattle.std.proofs.lemmas.Option.{none-some, same_Some}
 use Rattle.tx_sets.specs.Entries.{Entries, lookup, with_entry, locations}
 use Rattle.tx_machine.specs.Actor as machine
 use Rattle.tx_machine.proofs.Sets.{lookup-with_entry_same, lookup-with_entry_other}
@@ -21,7 +22,7 @@ use Rattle.tx_machine.specs.Content.{has}
 use Rattle.tx_machine.specs.Boosted.{is_none}
 use Rattle.replay_log.specs.Base.{Shown, OfMap, reads_of}
 use Rattle.replay_log.specs.Parts.{Kind, MapKind, BagKind, PqKind, QueueKind, whole}
-use Rattle.replay_log.specs.Contents.{Block, Answered, HaveStripes, block_of, first_of, blank, shifted, reads_in, content}
+use Rattle.replay_log.specs.Contents.{Block, CallWithOutcome, HaveStripes, block_of, first_of, blank, shifted, reads_in, content}
 use Rattle.replay_log.specs.Worlds.{new_in, with_editions, all_of, distinct, with_new}
 use Rattle.replay_log.specs.WorldProgress.{most_by, AreSmall}
 
@@ -143,18 +144,12 @@ kind_few V n QueueKind w r h = queue_few V n r.op r.note
 
 small_at : (bs : List Block) (k : ℕ) (b : Block) → AreSmall bs → HaveStripes bs → block_of bs k ≡ Some b
     → (most_by b.kind b.stripes ≤ 4096) × (0 < b.stripes)
-small_at [] k b few stripes e = (let no : None ≡ Some b = e in absurd (no_block b no))
-  where
-    no_block : (b : Block) → None ≡ Some b → ⊥
-    no_block b e = cc
-small_at (c ∷ bs) zero b few stripes e = let is : c ≡ b = some_block c b e in
+small_at [] k b few stripes e = (let no : None ≡ Some b = e in absurd (none-some b no))
+small_at (c ∷ bs) zero b few stripes e = let is : c ≡ b = same_Some c b e in
     subst (λ (d : Block). (most_by d.kind d.stripes ≤ 4096) × (0 < d.stripes)) is (few.0, stripes.0)
-  where
-    some_block : (c b : Block) → Some c ≡ Some b → c ≡ b
-    some_block c b e = cc
 small_at (c ∷ bs) (suc k) b few stripes e = small_at bs k b few.1 stripes.1 e
 
-pub call_few : (V : Type 0) (n : ℕ) (bs : List Block) (o : Answered V) → AreSmall bs → HaveStripes bs
+pub call_few : (V : Type 0) (n : ℕ) (bs : List Block) (o : CallWithOutcome V) → AreSmall bs → HaveStripes bs
     → length ((content n bs).reads o) ≤ 4096
 call_few V n bs o few stripes = by (block_of bs o.asked.collection) refl o.outcome
   where

@@ -16,7 +16,7 @@ use Rattle.seq_model.specs.declared.event.Request.{Request}
 use Rattle.seq_model.specs.declared.event.Request.TheVariants as request
 use Rattle.seq_model.specs.declared.limits.TheConstants.{CALL_LIMIT}
 use Rattle.tx_machine.specs.Boosted.{TakeGate, PutGate, GoHome, is_none}
-use Rattle.replay_log.specs.Contents.{Asked, Answered, content}
+use Rattle.replay_log.specs.Contents.{CollectionCall, CallWithOutcome, content}
 use Rattle.replay_log.specs.Pieces.{piece_at, covers_at}
 use Rattle.replay_log.specs.Worlds.{World, Seat, Stage, Idle, Beginning, Open, Locking, Releasing, Closing, Cancelling, Leaving, Reading}
 use Rattle.replay_log.specs.Worlds.{Trying, Copying, Loading, Gating, Ready, Storing, Homing, Returning, After, has_room, with_editions}
@@ -61,24 +61,24 @@ module _ {V : Type 0} where
   fresh_on : (u : World V) (a : ℕ) (x : Seat V) (d : ℕ × ℕ) (v : ℕ) (next : After V) → GoesOn a next → GoesOn a (is_fresh u a x d v next)
   fresh_on u a x d v next h = choose_on a (eqb d.1 v) next _ h (gives_up_on u a (because x (refusal.Stale d.0 d.1 v)) [])
 
-  judges_on : (u : World V) (a : ℕ) (x : Seat V) (o : Answered V) (d : ℕ × ℕ) (es : Entries) (next : After V) (r : Option ℕ) → GoesOn a next
+  judges_on : (u : World V) (a : ℕ) (x : Seat V) (o : CallWithOutcome V) (d : ℕ × ℕ) (es : Entries) (next : After V) (r : Option ℕ) → GoesOn a next
       → GoesOn a (judges u a x o d es next r)
   judges_on u a x o d es next None h = λ _. seated_busy (acted u (asks a (word.AskRead d.0) ∷ [])) a (at_stage x (Loading o (d ∷ es)))
       (λ g. g)
   judges_on u a x o d es next (Some v) h = fresh_on u a x d v next h
 
-  loads_on : (es : Entries) (u : World V) (a : ℕ) (x : Seat V) (o : Answered V) → GoesOn a (loads u a x o es)
+  loads_on : (es : Entries) (u : World V) (a : ℕ) (x : Seat V) (o : CallWithOutcome V) → GoesOn a (loads u a x o es)
   loads_on [] u a x o = λ q. absurd q
   loads_on (d ∷ es) u a x o = judges_on u a x o d es (loads u a x o es) (lookup (actor_of u a).reads d.0) (loads_on es u a x o)
 
-  answers_on : (u : World V) (a : ℕ) (before x : Seat V) (sized o : Answered V) (editions : ℕ → ℕ)
+  answers_on : (u : World V) (a : ℕ) (before x : Seat V) (sized o : CallWithOutcome V) (editions : ℕ → ℕ)
       → GoesOn a (answers u a before x sized o editions)
   answers_on u a before x sized o editions =
       let c = content u.words u.blocks in
       choose_on a (has_room (actor_of u a) (c.reads sized) (c.writes sized)) (loads u a x o (with_editions editions (c.reads o))) _
       (loads_on (with_editions editions (c.reads o)) u a x o) (λ q. absurd q)
 
-  calls_on_on : (u : World V) (a : ℕ) (x : Seat V) (asked : Asked V) → GoesOn a (calls_on u a x asked)
+  calls_on_on : (u : World V) (a : ℕ) (x : Seat V) (asked : CollectionCall V) → GoesOn a (calls_on u a x asked)
   calls_on_on u a x asked =
       choose_on a (x.copied asked.collection (piece_at u.blocks asked)) _ _
       (answers_on u a x x (outcome_at u a asked) (outcome_at u a asked) (u.boosted.shadows a).editions)
@@ -137,7 +137,7 @@ module _ {V : Type 0} where
   takes_busy x got [] = λ g. g
   takes_busy x got (k ∷ ks) = λ g. g
 
-  has_loaded_on : (u : World V) (a : ℕ) (x : Seat V) (o : Answered V) (d : ℕ × ℕ) (es : Entries) (n : told.Notice) → u.seats a ≡ x
+  has_loaded_on : (u : World V) (a : ℕ) (x : Seat V) (o : CallWithOutcome V) (d : ℕ × ℕ) (es : Entries) (n : told.Notice) → u.seats a ≡ x
       → x.stage ≡ Loading o (d ∷ es)
       → GoesOn a (has_loaded u a x o d es n)
   has_loaded_on u a x o d es (told.Number v) seat at = fresh_on u a x d v (loads u a x o es) (loads_on es u a x o)

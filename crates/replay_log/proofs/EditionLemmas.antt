@@ -25,18 +25,19 @@ use Rattle.seq_model.specs.declared.record.Record.{Record}
 use Rattle.seq_model.specs.declared.event.Event.{Event}
 use Rattle.seq_model.specs.Contents.{Contents}
 use Rattle.seq_model.specs.Runs.{after_call, after_calls, state_at}
+use Rattle.seq_model.proofs.LogicLemmas.{nat_lt-false}
 use Rattle.tx_machine.specs.Content.{Content, Frame, IsIn, has}
 use Rattle.tx_machine.specs.Boosted.{Committed, Boosted, Action, act_all, changes, opens}
 use Rattle.tx_machine.specs.Serial as serial
 use Rattle.tx_machine.specs.Serial.{AreLegal, AreRun, IsRead, after_actions, does_write, view, words}
 use Rattle.tx_machine.proofs.States.{Model}
 use Rattle.tx_machine.proofs.Models.{fits_after, replies_of, view_state}
-use Rattle.tx_machine.proofs.Stated.{Opened, reached}
+use Rattle.tx_machine.proofs.SequentialRuns.{Opened, reached}
 use Rattle.tx_machine.proofs.BoostedQuiet.{saw_open}
 use Rattle.tx_machine.proofs.BoostedSchedules.{all_keeps, all_ok, all_saw, all-opening, edition_read, legal_parts, opens_ok}
-use Rattle.tx_machine.proofs.Stated as stated
+use Rattle.tx_machine.proofs.SequentialRuns as stated
 use Rattle.replay_log.specs.Base.{Shown, OfMap, OfBag, OfPq, OfQueue, outcome_of}
-use Rattle.replay_log.specs.Contents.{Block, Asked, Answered, HaveStripes, answer, block_of, content, first_of, is_plain, reads_in, writes_in}
+use Rattle.replay_log.specs.Contents.{Block, CollectionCall, CallWithOutcome, HaveStripes, answer, block_of, content, first_of, is_plain, reads_in, writes_in}
 use Rattle.replay_log.specs.Collections.{Suit, shown_at}
 use Rattle.replay_log.specs.Worlds.{World, Seat, Stage, Open, Locking, Closing, Cancelling, Leaving, Reading}
 use Rattle.replay_log.specs.Worlds.{Trying, Copying, Loading, Gating, Ready, Returning, run, opened}
@@ -50,9 +51,6 @@ use Rattle.replay_log.proofs.EventLemmas.{opened_linked, run_linked}
 use Rattle.replay_log.proofs.MixedLemmas.{SameRecords, Told, at_number, is_on_word, is_word_op, on_collection, on_held}
 use Rattle.replay_log.proofs.RequestLemmas.{actions_of, later_actions, run_by}
 use Rattle.replay_log.proofs.SeatLemmas.{Copy, InTx, StageOk}
-
-not_below : (l n : ℕ) → nat_lt l n ≡ false → n ≤ l
-not_below l n h = grind (arith, nat_tests)
 
 -- a count of one, by the two tests in either order
 abbrev one_if : Bool → ℕ
@@ -117,13 +115,13 @@ module _ {V : Type 0} where
   word_stays op t s h = absurd (true≢false (sym h))
 
   -- ---- a transaction, along its calls and along the machine's outcomes
-  record Along (n : ℕ) (bs : List Block) (l : ℕ) (done : List (Call V × Reply V)) (os : List (Answered V)) (s : Contents V) : Type 0 where
+  record Along (n : ℕ) (bs : List Block) (l : ℕ) (done : List (Call V × Reply V)) (os : List (CallWithOutcome V)) (s : Contents V) : Type 0 where
     writes : is_written_by n bs l done s ≡ does_write (content n bs) l os
     reads : IsReadBy n bs l done s → IsRead (content n bs) l os
     held : (after_calls done s).held ≡ runs_on.after_calls s.held os
 
   module _ (n : ℕ) (bs : List Block) (stripes : HaveStripes bs) where
-    abbrev c : Content (Shown V) (Asked V) (Answered V)
+    abbrev c : Content (Shown V) (CollectionCall V) (CallWithOutcome V)
     c = content n bs
 
     frame : Frame (content {V = V} n bs)
@@ -139,10 +137,10 @@ module _ {V : Type 0} where
     shows_same v hs gs e h l = h l ∙ ap (λ (fs : List (Held V)). shown_at n bs fs l) (sym e)
 
     abbrev Goes : ℕ → List (Call V × Reply V) → Type 0
-    Goes l done = (os : List (Answered V)) (s : Contents V) (v : ℕ → Shown V) → Told (on_held done) os → Suit bs s.held → Shows v s.held
+    Goes l done = (os : List (CallWithOutcome V)) (s : Contents V) (v : ℕ → Shown V) → Told (on_held done) os → Suit bs s.held → Shows v s.held
         → AreLegal c v os → Along n bs l done os s
 
-    on_word : (l : ℕ) (d : Call V × Reply V) (done : List (Call V × Reply V)) (os : List (Answered V)) (s : Contents V) (v : ℕ → Shown V)
+    on_word : (l : ℕ) (d : Call V × Reply V) (done : List (Call V × Reply V)) (os : List (CallWithOutcome V)) (s : Contents V) (v : ℕ → Shown V)
         → Goes l done → is_on_word d ≡ true → Told (on_held done) os → Suit bs s.held → Shows v s.held → AreLegal c v os
         → Along n bs l (d ∷ done) os s
     on_word l d done os s v go is t fit h g =
@@ -156,7 +154,7 @@ module _ {V : Type 0} where
           held = rest.held ∙ ap (λ (hs : List (Held V)). runs_on.after_calls hs os) stays;
         }
 
-    on_one : (l : ℕ) (d : Call V × Reply V) (done : List (Call V × Reply V)) (os : List (Answered V)) (s : Contents V) (v : ℕ → Shown V)
+    on_one : (l : ℕ) (d : Call V × Reply V) (done : List (Call V × Reply V)) (os : List (CallWithOutcome V)) (s : Contents V) (v : ℕ → Shown V)
         → Goes l done → is_on_word d ≡ false → Told (d ∷ on_held done) os → Suit bs s.held → Shows v s.held → AreLegal c v os
         → Along n bs l (d ∷ done) os s
     on_one l d done [] s v go isnt t fit h g = absurd t
@@ -172,10 +170,10 @@ module _ {V : Type 0} where
         let rest = go ps u (c.change o v) t.2 (subst (Suit bs) (sym stays) (suit_after bs s.held o.asked.collection o.asked.op fit))
         (shows_same (c.change o v) next u.held stays shows) g.1 in
         record {
-          writes = ap (λ (z : Answered V). has (c.writes z) l || is_written_by n bs l done u) is
+          writes = ap (λ (z : CallWithOutcome V). has (c.writes z) l || is_written_by n bs l done u) is
               ∙ ap (λ b. has (c.writes o) l || b) rest.writes ∙ or_cond (has (c.writes o) l) (does_write c l ps);
           reads = λ q. elim q [
-            | inl m ↦ inl (subst (λ (z : Answered V). IsIn l (c.reads z)) is m)
+            | inl m ↦ inl (subst (λ (z : CallWithOutcome V). IsIn l (c.reads z)) is m)
             | inr r ↦ inr (rest.reads r)
           ];
           held = rest.held ∙ ap (λ (hs : List (Held V)). runs_on.after_calls hs ps) stays;
@@ -193,7 +191,7 @@ module _ {V : Type 0} where
         ]
 
     -- ---- the records
-    editions_are : (k l : ℕ) (rs : List (ℕ × Record V)) (qs : List (Committed (Answered V))) (s : Contents V) (v : ℕ → Shown V)
+    editions_are : (k l : ℕ) (rs : List (ℕ × Record V)) (qs : List (Committed (CallWithOutcome V))) (s : Contents V) (v : ℕ → Shown V)
         → SameRecords n rs qs → Suit bs s.held → Shows v s.held → AreRun c v qs
         → edition_at n bs k l rs s ≡ serial.edition_at c qs k l
     editions_are k l [] [] s v e fit h g = refl
@@ -212,7 +210,7 @@ module _ {V : Type 0} where
         ∙ ap (λ i. i + edition_at n bs k l rs u) (counted_once (nat_le q.word.number k) (does_write c l q.outcomes))
         ∙ ap (λ i. cond (does_write c l q.outcomes) (one_if (nat_le q.word.number k)) 0 + i) rest
 
-    suit_at : (qs : List (Committed (Answered V))) (k : ℕ) (hs : List (Held V)) → Suit bs hs → Suit bs (held_at qs k hs)
+    suit_at : (qs : List (Committed (CallWithOutcome V))) (k : ℕ) (hs : List (Held V)) → Suit bs hs → Suit bs (held_at qs k hs)
     suit_at [] k hs fit = fit
     suit_at (q ∷ qs) k hs fit =
         elim (nat_le q.word.number k) as (λ b. Suit bs (held_at qs k (cond b (runs_on.after_calls hs q.outcomes) hs))) [
@@ -221,7 +219,7 @@ module _ {V : Type 0} where
         ]
 
   -- ---- the machine's world: what a's transaction in s has read, seen from t
-  record HasRead (n : ℕ) (bs : List Block) (hs : List (Held V)) (a : ℕ) (s t : Boosted (Shown V) (Answered V)) : Type 0 where
+  record HasRead (n : ℕ) (bs : List Block) (hs : List (Held V)) (a : ℕ) (s t : Boosted (Shown V) (CallWithOutcome V)) : Type 0 where
     counted : (l e : ℕ) → is_plain n bs l ≡ false → first_read (s.words.actors a).calls l ≡ Some e
         → e ≡ serial.edition_at (content n bs) t.history (s.words.actors a).rv l
     part : (l e : ℕ) → is_plain n bs l ≡ false → first_read (s.words.actors a).calls l ≡ Some e → t.editions l ≡ e
@@ -236,7 +234,7 @@ module _ {V : Type 0} where
     order : IsInOrder (words t.history)
 
   module _ (n : ℕ) (bs : List Block) (stripes : HaveStripes bs) (clock : ℕ) (m : Memory) (hs : List (Held V))
-      (none : (l : ℕ) → is_plain n bs l ≡ false → m l ≡ 0) (actions later : List (Action (Asked V))) (a : ℕ) where
+      (none : (l : ℕ) → is_plain n bs l ≡ false → m l ≡ 0) (actions later : List (Action (CollectionCall V))) (a : ℕ) where
     has_read : let s = after_actions (content n bs) clock m (shown_at n bs hs) actions in
         HasRead n bs hs a s (act_all (content n bs) later s)
     has_read =
@@ -332,9 +330,9 @@ module _ {V : Type 0} where
         let c = content {V = V} n bs in
         let ac = actions_of bs clock values hs events in
         let lt = later_actions bs clock values hs events later in
-        let none : (l : ℕ) → is_plain n bs l ≡ false → m l ≡ 0 = λ l pl. get_or_past values l 0 (not_below l n (no_word_at n bs l pl)) in
-        subst (λ (t : Boosted (Shown V) (Answered V)). HasRead n bs hs a w.boosted t) (sym lt.1)
-        (subst (λ (s : Boosted (Shown V) (Answered V)). HasRead n bs hs a s (act_all c lt.0 s)) (sym ac.1)
+        let none : (l : ℕ) → is_plain n bs l ≡ false → m l ≡ 0 = λ l pl. get_or_past values l 0 (nat_lt-false l n (no_word_at n bs l pl)) in
+        subst (λ (t : Boosted (Shown V) (CallWithOutcome V)). HasRead n bs hs a w.boosted t) (sym lt.1)
+        (subst (λ (s : Boosted (Shown V) (CallWithOutcome V)). HasRead n bs hs a s (act_all c lt.0 s)) (sym ac.1)
         (has_read n bs stripes clock m hs none ac.0 lt.0 a))
 
     same_records : SameRecords n u.records u.boosted.history

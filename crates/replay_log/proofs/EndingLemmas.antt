@@ -12,7 +12,7 @@ use Rattle.tx_machine.specs.Actor as machine
 use Rattle.tx_machine.specs.Actor.{Place, Actor}
 use Rattle.tx_machine.specs.Requests as word
 use Rattle.tx_machine.specs.World as world
-use Rattle.tx_machine.specs.World.{World as Words, Outcome, put, plan}
+use Rattle.tx_machine.specs.World.{World as Words, StepEnd, put, plan}
 use Rattle.tx_machine.specs.Notices as told
 use Rattle.tx_machine.proofs.Sets.{put-same}
 use Rattle.tx_machine.proofs.Invariant.{PlaceOk}
@@ -21,7 +21,7 @@ use Rattle.seq_model.specs.declared.event.Event.TheVariants.{Step}
 use Rattle.tx_machine.specs.Content.{Content, has}
 use Rattle.tx_machine.specs.Boosted.{Boosted, TakeGate, PutGate, recorded, word_step, shadows_after, gated, copied, is_none}
 use Rattle.tx_machine.specs.Boosted.{is_actor, is_open, is_committing, acts}
-use Rattle.replay_log.specs.Contents.{Answered, content}
+use Rattle.replay_log.specs.Contents.{CallWithOutcome, content}
 use Rattle.replay_log.specs.Pieces.{piece_at, covers_at}
 use Rattle.replay_log.specs.Worlds.{World, Seat, Stage, Idle, Beginning, Open, Locking, Releasing, Closing, Cancelling, Leaving, Reading}
 use Rattle.replay_log.specs.Worlds.{Trying, Copying, Loading, Gating, Ready, Storing, Homing, Returning, After, because, acted, moves}
@@ -86,7 +86,7 @@ does_values s a y machine.Undo h = undo_values s a y y.held
 does_values s a y machine.Leave h = refl
 does_values s a y machine.Close h = refl
 
-noted_values : (s : Words) (q : Outcome) → (world.noted s q).values ≡ s.values
+noted_values : (s : Words) (q : StepEnd) → (world.noted s q).values ≡ s.values
 noted_values s world.GoesOn = refl
 noted_values s (world.Commits r) = refl
 noted_values s (world.Aborts e) = refl
@@ -96,19 +96,19 @@ module _ {X Out : Type 0} where
   abbrev pub Kept : Boosted X Out → Boosted X Out → Type 0
   Kept s t = (t.words.values ≡ s.words.values) × (t.parts ≡ s.parts) × (t.editions ≡ s.editions)
 
-  recorded_values : (s : Boosted X Out) (os : List Out) (q : Outcome) → (recorded s os q).words.values ≡ s.words.values
+  recorded_values : (s : Boosted X Out) (os : List Out) (q : StepEnd) → (recorded s os q).words.values ≡ s.words.values
   recorded_values s os world.GoesOn = refl
   recorded_values s os (world.Commits r) = refl
   recorded_values s os (world.Aborts e) = refl
 
-  recorded_parts : (s : Boosted X Out) (os : List Out) (q : Outcome) → (recorded s os q).parts ≡ s.parts
+  recorded_parts : (s : Boosted X Out) (os : List Out) (q : StepEnd) → (recorded s os q).parts ≡ s.parts
   recorded_parts s os world.GoesOn = refl
   recorded_parts s os (world.Commits r) = refl
   recorded_parts s os (world.Aborts e) = refl
 
   step_keeps : (s : Boosted X Out) (a : ℕ) (x : Actor) (p : Place) → IsNoStore p → Kept s (word_step s a x p)
   step_keeps s a x p h =
-      let q = world.outcome a x p in
+      let q = world.step_end a x p in
       let next : Boosted X Out = record s { words = world.step s.words a x p; shadows = shadows_after s a p } in (
         recorded_values next (s.shadows a).outcomes q ∙ noted_values (world.does s.words a (plan x p)) q ∙ does_values s.words a x p h,
         recorded_parts next (s.shadows a).outcomes q,
@@ -178,7 +178,7 @@ module _ {V : Type 0} where
       (λ _. gives_up_still u u a (because x (refusal.GateBusy k)) got (here u a))
   tried_still u a x free k got again next (suc m) = cond_both {A = After V} free _ _ (λ r. StillIn a u r.0) (λ _. here u a) (λ _. here u a)
 
-  loaded_still : (u : World V) (a : ℕ) (x : Seat V) (o : Answered V) (d : ℕ × ℕ) (es : Entries) (n : told.Notice)
+  loaded_still : (u : World V) (a : ℕ) (x : Seat V) (o : CallWithOutcome V) (d : ℕ × ℕ) (es : Entries) (n : told.Notice)
       → StillIn a u (has_loaded u a x o d es n).0
   loaded_still u a x o d es (told.Number v) = fresh_still u u a x d v (loads u a x o es) (here u a) (loads_still es u u a x o (here u a))
   loaded_still u a x o d es (told.Moved i found) = cancels_still u u a (because x (refusal.Moved i found)) (here u a)

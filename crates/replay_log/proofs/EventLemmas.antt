@@ -3,6 +3,7 @@
 use Rattle.std.proofs.Common.{◌≡◌, ℕ, ◌<◌, Bool, true, false, not, ◌&&◌, List, [], ◌∷◌, ◌++◌, length, Option, Some, None, refl, sym, ◌∙◌}
 use Rattle.std.proofs.Common.{ap, subst, true≢false}
 use Rattle.std.specs.Prelude.{nat_lt, get_or}
+use Rattle.std.proofs.lemmas.Bool.{and_parts, not-true}
 use Rattle.tx_sets.specs.Entries.{Entries, lookup, locations}
 use Rattle.tx_machine.specs.Actor as machine
 use Rattle.tx_machine.specs.Actor.{Place, Actor, goes}
@@ -22,10 +23,11 @@ use Rattle.seq_model.specs.declared.event.Event.TheVariants.{Ask, Step, Starve}
 use Rattle.seq_model.specs.declared.event.Request.{Request}
 use Rattle.seq_model.specs.declared.event.Request.TheVariants as request
 use Rattle.seq_model.specs.declared.limits.TheConstants.{CALL_LIMIT}
+use Rattle.seq_model.proofs.LogicLemmas.{nat_lt-true, lt-nat_lt}
 use Rattle.tx_machine.specs.Content.{has}
 use Rattle.tx_machine.proofs.BoostedSchedules.{opens_ok}
 use Rattle.tx_machine.proofs.Steady.{IsFreeAsk}
-use Rattle.replay_log.specs.Contents.{Block, Answered, block_of, HaveStripes, content}
+use Rattle.replay_log.specs.Contents.{Block, CallWithOutcome, block_of, HaveStripes, content}
 use Rattle.replay_log.specs.Collections.{shown_at}
 use Rattle.replay_log.specs.Worlds.{World, Seat, Stage, Idle, Beginning, Open, Locking, Releasing, Closing, Cancelling, Leaving, Reading}
 use Rattle.replay_log.specs.Worlds.{Trying, Copying, Loading, Gating, Ready, Storing, Homing, Returning, After, at_stage, because, seated}
@@ -41,15 +43,10 @@ use Rattle.replay_log.proofs.PlaceLemmas.{undo_after}
 use Rattle.replay_log.proofs.SeatLemmas.{Copy, CanLeave, reading_leaves, locking_leaves, Differ, Differ-front, InTx, Live, gates_of}
 use Rattle.replay_log.proofs.SeatLemmas.{StageOk, SeatOk, Linked, At, at_of, linked_seated, at_by, at_ask, cancels_linked, gives_up_linked}
 use Rattle.replay_log.proofs.SeatLemmas.{word_joins}
-use Rattle.replay_log.proofs.StageLemmas.{plain_word, no_word, below, is_below, choose, at_move, tells, begin_step, has_read_linked}
+use Rattle.replay_log.proofs.StageLemmas.{plain_word, no_word, choose, at_move, tells, begin_step, has_read_linked}
 use Rattle.replay_log.proofs.StageLemmas.{has_locked_linked, trying_step, gating_step, returning_step, has_stored_linked, homing_step}
 use Rattle.replay_log.proofs.StageLemmas.{has_released_linked, leaving_step, closing_step, first_step, has_cancelled_linked}
-use Rattle.replay_log.proofs.CallLemmas.{both_true, reading_unwritten, reading_none, has_loaded_linked, calls_on_linked, copying_step}
-
--- who may write is no declared reader
-no_reader : (declared : Bool) → not declared ≡ true → declared ≡ false
-no_reader true h = absurd (true≢false (sym h))
-no_reader false h = refl
+use Rattle.replay_log.proofs.CallLemmas.{reading_unwritten, reading_none, has_loaded_linked, calls_on_linked, copying_step}
 
 module _ {V : Type 0} where
   -- what the machine's actor, its shadow and its gates are
@@ -84,7 +81,7 @@ module _ {V : Type 0} where
       (at_move w a y (z_of w a) (g_of w a) y.place at refl (reading_quiet l y.place h.0)) held seat st h.1 h.2
       (read_after s y l y.place h.0))
 
-  loading_step : (w : World V) (a : ℕ) (x : Seat V) (o : Answered V) (d : ℕ × ℕ) (es : Entries) → Linked w → w.seats a ≡ x → x.stage
+  loading_step : (w : World V) (a : ℕ) (x : Seat V) (o : CallWithOutcome V) (d : ℕ × ℕ) (es : Entries) → Linked w → w.seats a ≡ x → x.stage
       ≡ Loading o (d ∷ es)
       → Held-by w a []
       → StageIn w a x (Loading o (d ∷ es)) → Linked (step_at w a x (Loading o (d ∷ es))).0
@@ -188,7 +185,7 @@ module _ {V : Type 0} where
   told_live : (n : ℕ) (bs : List Block) (x : Seat V) (y : Actor) (z : Copy V) (l v : ℕ) → l < n → Live n bs x y z
       → Live n bs (with_call x (record { target = l; op = Read }) (reply.Number v)) (word.replied y (machine.Read l v)) z
   told_live n bs x y z l v lt h = record {
-    tx = (h.tx.0, word_joins n x.calls y.calls z.outcomes (machine.Read l v) (is_below l n lt) h.tx.1);
+    tx = (h.tx.0, word_joins n x.calls y.calls z.outcomes (machine.Read l v) (lt-nat_lt l n lt) h.tx.1);
     sound = λ i e pl m. h.sound i e pl (sym (first_read-other y.calls l v i (no_word n bs l i lt pl)) ∙ m);
     kept = λ i pl. h.kept i pl ∙ ap (in_set y.declared) (sym (first_read-other y.calls l v i (no_word n bs l i lt pl)));
     pieces = h.pieces;
@@ -225,7 +222,7 @@ module _ {V : Type 0} where
         stage = (
           refl,
           record {
-            tx = (live.tx.0, word_joins w.words x.calls y.calls (z_of w a).outcomes (machine.Write l v) (is_below l w.words lt) live.tx.1);
+            tx = (live.tx.0, word_joins w.words x.calls y.calls (z_of w a).outcomes (machine.Write l v) (lt-nat_lt l w.words lt) live.tx.1);
             sound = λ i u pl m. live.sound i u pl (sym (first_read-write y.calls l v i) ∙ m);
             kept = λ i pl. live.kept i pl ∙ ap (in_set y.declared) (sym (first_read-write y.calls l v i));
             pieces = live.pieces;
@@ -246,7 +243,7 @@ module _ {V : Type 0} where
       allowed_linked w a x (is_known (block_of w.blocks t) op && may_ask (y_of w a) op) true
       (calls_on w a x (record { collection = t; op = op })) k
       (λ both. (
-      let b = both_true (is_known (block_of w.blocks t) op) (may_ask (y_of w a) op) both in
+      let b = and_parts (is_known (block_of w.blocks t) op) (may_ask (y_of w a) op) both in
       calls_on_linked w a x (y_of w a) (z_of w a) (g_of w a) (record { collection = t; op = op }) (at_of w a k) held e live
       (not_word, b.0, b.1)))
 
@@ -256,11 +253,11 @@ module _ {V : Type 0} where
       let y = y_of w a in
       allowed_linked w a x (nat_lt t w.words) _ (reads w a x t (told.reply y y.place (word.AskRead t))) k
       (λ lt. subst (λ n. Linked (reads w a x t n).0) (sym (ap (λ p. told.reply y p (word.AskRead t)) e))
-      (reads_linked w a x t (lookup y.writes t) (lookup y.reads t) k held e live (below t w.words lt) refl))
+      (reads_linked w a x t (lookup y.writes t) (lookup y.reads t) k held e live (nat_lt-true t w.words lt) refl))
   op_linked w a x t (Write v) k held e live =
       allowed_linked w a x (nat_lt t w.words && not (y_of w a).declared) _ _ k (λ both. (
-      let b = both_true (nat_lt t w.words) (not (y_of w a).declared) both in
-      write_linked w a x t v k held e (no_reader (y_of w a).declared b.1) live (below t w.words b.0)))
+      let b = and_parts (nat_lt t w.words) (not (y_of w a).declared) both in
+      write_linked w a x t v k held e (not-true (y_of w a).declared b.1) live (nat_lt-true t w.words b.0)))
   op_linked w a x t op k held e live = held_op_linked w a x t op k held e live refl
 
   commits_linked : (w : World V) (a : ℕ) (x : Seat V) (es : Entries) → Linked w → Held-by w a [] → (y_of w a).place ≡ machine.Open

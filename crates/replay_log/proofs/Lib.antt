@@ -39,5 +39,5 @@ pub mod CountLemmas
 pub mod ReplyLemmas
 pub mod TouchLemmas
 pub mod StarveLemmas
-pub mod AnsweredLemmas
+pub mod AnswerBoundLemmas
 pub mod EditionLemmas

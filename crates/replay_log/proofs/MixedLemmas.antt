@@ -23,6 +23,7 @@ use Rattle.seq_model.specs.Runs.{reply_of, after_call, after_calls, insert_recor
 use Rattle.seq_model.specs.Runs.{after_run, state_at}
 use Rattle.seq_model.specs.Runs.{IsLegal as AreLegal, IsRun as IsRunOf}
 use Rattle.seq_model.proofs.RunLemmas.{answered}
+use Rattle.seq_model.proofs.LogicLemmas.{nat_lt-true, lt-nat_lt, le-nat_lt}
 use Rattle.tx_machine.specs.Actor as machine
 use Rattle.tx_machine.specs.World as world
 use Rattle.tx_machine.specs.World.{Memory, put}
@@ -30,7 +31,7 @@ use Rattle.tx_machine.specs.Opacity.{after, IsLegal, memory_after, IsRun, upto, 
 use Rattle.tx_machine.proofs.Sets.{put-same, put-other}
 use Rattle.tx_machine.specs.Boosted.{Committed, insert_commit}
 use Rattle.tx_machine.specs.Serial.{words}
-use Rattle.replay_log.specs.Contents.{Answered}
+use Rattle.replay_log.specs.Contents.{CallWithOutcome}
 use Rattle.replay_log.proofs.CollectionRuns as collections
 use Rattle.replay_log.proofs.CollectionRuns.{reply_at, called, AreReplies, IsRunOn, held_at}
 use Rattle.replay_log.specs.WorldSerial.{HasWritten}
@@ -43,9 +44,6 @@ is_of_word n (machine.Write l v) = nat_lt l n
 
 abbrev pub word_calls : ℕ → List machine.Call → List machine.Call
 word_calls n cs = filter (is_of_word n) cs
-
-below : (l n : ℕ) → nat_lt l n ≡ true → l < n
-below l n h = grind (arith, nat_tests)
 
 not_below : (l k n : ℕ) → nat_lt l n ≡ false → k < n → k ≡ l → ⊥
 not_below l k n h g e = grind (arith, nat_tests)
@@ -90,7 +88,7 @@ words_legal n (machine.Read l v ∷ cs) m u g h =
     let is : List machine.Call = machine.Read l v ∷ word_calls n cs in
     elim (cases_Bool (nat_lt l n)) [
       | inl e ↦ subst (IsLegal u) (sym (cond-true (nat_lt l n) is (word_calls n cs) e))
-          (sym (g l (below l n e)) ∙ h.0, words_legal n cs m u g h.1)
+          (sym (g l (nat_lt-true l n e)) ∙ h.0, words_legal n cs m u g h.1)
       | inr isnt ↦ subst (IsLegal u) (sym (cond-false (nat_lt l n) is (word_calls n cs) isnt)) (words_legal n cs m u g h.1)
     ]
 words_legal n (machine.Write l v ∷ cs) m u g h =
@@ -113,14 +111,14 @@ are_within n [] = tt
 are_within n (machine.Read l v ∷ cs) =
     elim (cases_Bool (nat_lt l n)) [
       | inl is ↦ subst (Within n) (sym (cond-true (nat_lt l n) (machine.Read l v ∷ word_calls n cs) (word_calls n cs) is))
-          (below l n is, are_within n cs)
+          (nat_lt-true l n is, are_within n cs)
       | inr isnt ↦ subst (Within n) (sym (cond-false (nat_lt l n) (machine.Read l v ∷ word_calls n cs) (word_calls n cs) isnt))
           (are_within n cs)
     ]
 are_within n (machine.Write l v ∷ cs) =
     elim (cases_Bool (nat_lt l n)) [
       | inl is ↦ subst (Within n) (sym (cond-true (nat_lt l n) (machine.Write l v ∷ word_calls n cs) (word_calls n cs) is))
-          (below l n is, are_within n cs)
+          (nat_lt-true l n is, are_within n cs)
       | inr isnt ↦ subst (Within n) (sym (cond-false (nat_lt l n) (machine.Write l v ∷ word_calls n cs) (word_calls n cs) isnt))
           (are_within n cs)
     ]
@@ -175,12 +173,12 @@ module _ {V : Type 0} where
   pair_of (machine.Write l v) = (record { target = l; op = Write v }, Done)
 
   -- the calls are those of the outcomes, with their replies
-  abbrev pub Told : List (Call V × Reply V) → List (Answered V) → Type 0
+  abbrev pub Told : List (Call V × Reply V) → List (CallWithOutcome V) → Type 0
   Told [] [] = Unit {0}
   Told (c ∷ cs) (o ∷ os) = (c.0 ≡ worlds.call_of o) × (option_map (λ r. r.reply) o.outcome ≡ Some c.1) × Told cs os
   Told cs os = ⊥
 
-  pub Told-push : (cs : List (Call V × Reply V)) (os : List (Answered V)) (c : Call V × Reply V) (o : Answered V) → Told cs os → c.0
+  pub Told-push : (cs : List (Call V × Reply V)) (os : List (CallWithOutcome V)) (c : Call V × Reply V) (o : CallWithOutcome V) → Told cs os → c.0
       ≡ worlds.call_of o
       → option_map (λ r. r.reply) o.outcome ≡ Some c.1 → Told (cs ++ c ∷ []) (os ++ o ∷ [])
   Told-push [] [] c o h e g = (e, g, tt)
@@ -189,7 +187,7 @@ module _ {V : Type 0} where
   Told-push (d ∷ cs) (p ∷ os) c o h e g = (h.0, h.1, Told-push cs os c o h.2 e g)
 
   -- What a transaction is to the machine, of n words: its calls on words, and those on collections.
-  pub record Parts (n : ℕ) (done : List (Call V × Reply V)) (cs : List machine.Call) (os : List (Answered V)) : Type 0 where
+  pub record Parts (n : ℕ) (done : List (Call V × Reply V)) (cs : List machine.Call) (os : List (CallWithOutcome V)) : Type 0 where
     pub words : on_words done ≡ map pair_of (word_calls n cs)
     pub held : Told (on_held done) os
 
@@ -273,10 +271,7 @@ module _ {V : Type 0} where
   write_answers : (n : ℕ) (hs : List (Held V)) (m : Memory) (s : Contents V) (l v : ℕ) → Agrees n hs m s → l < n
       → call_of (record { target = l; op = Write v }) s ≡ Some (Done, record s { words = set s.words l v })
   write_answers n hs m s l v a lt =
-      ap (λ b. cond b (Some (Done, record s { words = set s.words l v })) None) (is_below l (length s.words) (omega (arith, lt, a.count)))
-    where
-      is_below : (i k : ℕ) → i < k → nat_lt i k ≡ true
-      is_below i k g = grind (arith, nat_tests)
+      ap (λ b. cond b (Some (Done, record s { words = set s.words l v })) None) (lt-nat_lt l (length s.words) (omega (arith, lt, a.count)))
 
   written : (n : ℕ) (hs : List (Held V)) (m : Memory) (s : Contents V) (l v : ℕ) → Agrees n hs m s → l < n
       → Agrees n hs (put m l v) (record s { words = set s.words l v })
@@ -294,15 +289,15 @@ module _ {V : Type 0} where
 
   -- ---- a transaction
   -- the first of its calls, on a word or on a collection
-  data First (c : Call V × Reply V) (done : List (Call V × Reply V)) (vs : List machine.Call) (os : List (Answered V)) : Type 0 where
+  data First (c : Call V × Reply V) (done : List (Call V × Reply V)) (vs : List machine.Call) (os : List (CallWithOutcome V)) : Type 0 where
     OnWord : (v : machine.Call) → (us : List machine.Call) → vs ≡ v ∷ us → c ≡ pair_of v → on_words done ≡ map pair_of us
         → Told (on_held done) os
         → First c done vs os
-    OnHeld : (o : Answered V) → (ps : List (Answered V)) → os ≡ o ∷ ps → is_on_word c ≡ false → c.0 ≡ worlds.call_of o
+    OnHeld : (o : CallWithOutcome V) → (ps : List (CallWithOutcome V)) → os ≡ o ∷ ps → is_on_word c ≡ false → c.0 ≡ worlds.call_of o
         → option_map (λ r. r.reply) o.outcome ≡ Some c.1
         → on_words done ≡ map pair_of vs → Told (on_held done) ps → First c done vs os
 
-  first_of_calls : (c : Call V × Reply V) (done : List (Call V × Reply V)) (vs : List machine.Call) (os : List (Answered V))
+  first_of_calls : (c : Call V × Reply V) (done : List (Call V × Reply V)) (vs : List machine.Call) (os : List (CallWithOutcome V))
       → on_words (c ∷ done) ≡ map pair_of vs → Told (on_held (c ∷ done)) os → First c done vs os
   first_of_calls c done vs os e t =
       elim (cases_Bool (is_on_word c)) [
@@ -318,13 +313,13 @@ module _ {V : Type 0} where
       on_a_word [] e t = absurd (no_cons c (on_words done) e)
       on_a_word (v ∷ us) e t = let h = heads c (pair_of v) (on_words done) (map pair_of us) e in OnWord v us refl h.0 h.1 t
 
-      on_one : (ps : List (Answered V)) → on_words done ≡ map pair_of vs → Told (c ∷ on_held done) ps → is_on_word c ≡ false
+      on_one : (ps : List (CallWithOutcome V)) → on_words done ≡ map pair_of vs → Told (c ∷ on_held done) ps → is_on_word c ≡ false
           → First c done vs ps
       on_one [] e t isnt = absurd t
       on_one (o ∷ ps) e t isnt = OnHeld o ps refl isnt t.0 t.1 e t.2
 
   -- what a call on a collection leaves, seen from the collections
-  held_after : (n : ℕ) (hs : List (Held V)) (m : Memory) (s : Contents V) (c : Call V) (o : Answered V) → Agrees n hs m s
+  held_after : (n : ℕ) (hs : List (Held V)) (m : Memory) (s : Contents V) (c : Call V) (o : CallWithOutcome V) → Agrees n hs m s
       → is_word_op c.op ≡ false
       → c ≡ worlds.call_of o
       → (reply_of c s ≡ reply_at hs o.asked.collection o.asked.op) × Agrees n (collections.after_call hs o.asked.collection o.asked.op) m
@@ -367,7 +362,7 @@ module _ {V : Type 0} where
       (record s { words = set s.words l v }) Done
       (write_answers n hs m s l v a w.0)).0
 
-  mixed_after : (n : ℕ) (done : List (Call V × Reply V)) (vs : List machine.Call) (os : List (Answered V)) (hs : List (Held V)) (m : Memory)
+  mixed_after : (n : ℕ) (done : List (Call V × Reply V)) (vs : List machine.Call) (os : List (CallWithOutcome V)) (hs : List (Held V)) (m : Memory)
       (s : Contents V) → Agrees n hs m s → Within n vs
       → on_words done ≡ map pair_of vs → Told (on_held done) os → Agrees n (collections.after_calls hs os) (after m vs) (after_calls done s)
   unfolding after
@@ -388,7 +383,7 @@ module _ {V : Type 0} where
             (held_after n hs m s c.0 o a isnt is_c).1 w e2 t2)
       ]
 
-  mixed_legal : (n : ℕ) (done : List (Call V × Reply V)) (vs : List machine.Call) (os : List (Answered V)) (hs : List (Held V)) (m : Memory)
+  mixed_legal : (n : ℕ) (done : List (Call V × Reply V)) (vs : List machine.Call) (os : List (CallWithOutcome V)) (hs : List (Held V)) (m : Memory)
       (s : Contents V) → Agrees n hs m s → Within n vs
       → on_words done ≡ map pair_of vs → Told (on_held done) os → IsLegal m vs → AreReplies hs os → AreLegal done s
   mixed_legal n [] vs os hs m s a w e t g r = tt
@@ -412,7 +407,7 @@ module _ {V : Type 0} where
       ]
 
   -- a transaction is legal where its parts are
-  pub both_legal : (n : ℕ) (done : List (Call V × Reply V)) (cs : List machine.Call) (os : List (Answered V)) (hs : List (Held V))
+  pub both_legal : (n : ℕ) (done : List (Call V × Reply V)) (cs : List machine.Call) (os : List (CallWithOutcome V)) (hs : List (Held V))
       (m : Memory)
       (s : Contents V) → Agrees n hs m s
       → Parts n done cs os → IsLegal m cs → AreReplies hs os → AreLegal done s
@@ -420,7 +415,7 @@ module _ {V : Type 0} where
       mixed_legal n done (word_calls n cs) os hs m s a (are_within n cs) p.words p.held (words_legal n cs m m (λ l lt. refl) g) r
 
   -- and leaves what they leave
-  pub both_after : (n : ℕ) (done : List (Call V × Reply V)) (cs : List machine.Call) (os : List (Answered V)) (hs : List (Held V))
+  pub both_after : (n : ℕ) (done : List (Call V × Reply V)) (cs : List machine.Call) (os : List (CallWithOutcome V)) (hs : List (Held V))
       (m : Memory)
       (s : Contents V) → Agrees n hs m s
       → Parts n done cs os → Agrees n (collections.after_calls hs os) (after m cs) (after_calls done s)
@@ -431,18 +426,18 @@ module _ {V : Type 0} where
 
   -- ---- records
   -- a record is what the machine has committed
-  pub record SameRecord (n : ℕ) (r : ℕ × Record V) (q : Committed (Answered V)) : Type 0 where
+  pub record SameRecord (n : ℕ) (r : ℕ × Record V) (q : Committed (CallWithOutcome V)) : Type 0 where
     pub actor : r.0 ≡ q.word.actor
     pub number : r.1.number ≡ q.word.number
     pub writes : r.1.writes ≡ q.word.writer
     pub parts : Parts n r.1.calls q.word.calls q.outcomes
 
-  abbrev pub SameRecords : ℕ → List (ℕ × Record V) → List (Committed (Answered V)) → Type 0
+  abbrev pub SameRecords : ℕ → List (ℕ × Record V) → List (Committed (CallWithOutcome V)) → Type 0
   SameRecords n [] [] = Unit {0}
   SameRecords n (r ∷ rs) (q ∷ qs) = SameRecord n r q × SameRecords n rs qs
   SameRecords n rs qs = ⊥
 
-  same_place : (n : ℕ) (r x : ℕ × Record V) (q y : Committed (Answered V)) → SameRecord n r q → SameRecord n x y
+  same_place : (n : ℕ) (r x : ℕ × Record V) (q y : Committed (CallWithOutcome V)) → SameRecord n r q → SameRecord n x y
       → comes_before r x ≡ world.comes_before q.word y.word
   unfolding world.comes_before
   same_place n r x q y h g =
@@ -456,7 +451,7 @@ module _ {V : Type 0} where
       place : (i j : ℕ) (b d : Bool) (a e : ℕ) → Bool
       place i j b d a e = cond (nat_lt i j) true (cond (nat_lt j i) false (cond b true (cond d false (nat_lt a e))))
 
-  pub insert_same : (n : ℕ) (r : ℕ × Record V) (q : Committed (Answered V)) (rs : List (ℕ × Record V)) (qs : List (Committed (Answered V)))
+  pub insert_same : (n : ℕ) (r : ℕ × Record V) (q : Committed (CallWithOutcome V)) (rs : List (ℕ × Record V)) (qs : List (Committed (CallWithOutcome V)))
       → SameRecord n r q → SameRecords n rs qs
       → SameRecords n (insert_record r rs) (insert_commit q qs)
   unfolding insert_commit
@@ -472,7 +467,7 @@ module _ {V : Type 0} where
         | false ↦ (g.0, insert_same n r q rs qs h g.1)
       ])
 
-  pub written_too : (n k : ℕ) (rs : List (ℕ × Record V)) (qs : List (Committed (Answered V))) → SameRecords n rs qs → HasNumber k (words qs)
+  pub written_too : (n k : ℕ) (rs : List (ℕ × Record V)) (qs : List (Committed (CallWithOutcome V))) → SameRecords n rs qs → HasNumber k (words qs)
       → HasWritten k rs
   written_too n k [] [] g h = absurd h
   written_too n k [] (q ∷ qs) g h = absurd g
@@ -484,7 +479,7 @@ module _ {V : Type 0} where
       ]
 
   -- ---- the order of commits
-  late : (n : ℕ) (r x : ℕ × Record V) (q y : Committed (Answered V)) → SameRecord n r q → SameRecord n x y → InOrder q.word y.word
+  late : (n : ℕ) (r x : ℕ × Record V) (q y : Committed (CallWithOutcome V)) → SameRecord n r q → SameRecord n x y → InOrder q.word y.word
       → comes_before x r ≡ false
   unfolding world.comes_before
   late n r x q y h g o = same_place n x r y q g h
@@ -497,9 +492,6 @@ module _ {V : Type 0} where
       equal : (i j : ℕ) → nat_lt i j ≡ false → nat_lt j i ≡ false → i ≡ j
       equal i j h g = grind (arith, nat_tests)
 
-      not_lt : (a e : ℕ) → e ≤ a → nat_lt a e ≡ false
-      not_lt a e h = grind (arith, nat_tests)
-
       after_it : (i j : ℕ) (b d : Bool) (a e : ℕ) → j ≤ i → (i ≡ j → b ≡ false) → (i ≡ j → d ≡ false → e ≤ a)
           → cond (nat_lt i j) true (cond (nat_lt j i) false (cond b true (cond d false (nat_lt a e)))) ≡ false
       after_it i j b d a e le f g =
@@ -510,11 +502,11 @@ module _ {V : Type 0} where
               | inr isnt2 ↦
                   (let same : i ≡ j = equal i j isnt isnt2 in
                   cond-false (nat_lt j i) false _ isnt2 ∙ cond-false b true _ (f same)
-                  ∙ elim (cases_Bool d) [ inl is ↦ cond-true d false _ is | inr w ↦ cond-false d false _ w ∙ not_lt a e (g same w) ])
+                  ∙ elim (cases_Bool d) [ inl is ↦ cond-true d false _ is | inr w ↦ cond-false d false _ w ∙ le-nat_lt a e (g same w) ])
             ]
           ]
 
-  none_before : (n : ℕ) (r : ℕ × Record V) (q : Committed (Answered V)) (rs : List (ℕ × Record V)) (qs : List (Committed (Answered V)))
+  none_before : (n : ℕ) (r : ℕ × Record V) (q : Committed (CallWithOutcome V)) (rs : List (ℕ × Record V)) (qs : List (Committed (CallWithOutcome V)))
       → SameRecord n r q
       → SameRecords n rs qs
       → AllFrom q.word (words qs) → NoneComesBefore r rs
@@ -522,14 +514,14 @@ module _ {V : Type 0} where
   none_before n r q (x ∷ rs) [] h g o = absurd g
   none_before n r q (x ∷ rs) (y ∷ qs) h g o = (late n r x q y h g.0 o.0, none_before n r q rs qs h g.1 o.1)
 
-  pub order_too : (n : ℕ) (rs : List (ℕ × Record V)) (qs : List (Committed (Answered V))) → SameRecords n rs qs → IsInOrder (words qs)
+  pub order_too : (n : ℕ) (rs : List (ℕ × Record V)) (qs : List (Committed (CallWithOutcome V))) → SameRecords n rs qs → IsInOrder (words qs)
       → IsInCommitOrder rs
   order_too n [] qs g o = tt
   order_too n (r ∷ rs) [] g o = absurd g
   order_too n (r ∷ rs) (q ∷ qs) g o = (none_before n r q rs qs g.0 g.1 o.0, order_too n rs qs g.1 o.1)
 
   -- ---- runs
-  pub runs_agree : (n : ℕ) (rs : List (ℕ × Record V)) (qs : List (Committed (Answered V))) (hs : List (Held V)) (m : Memory)
+  pub runs_agree : (n : ℕ) (rs : List (ℕ × Record V)) (qs : List (Committed (CallWithOutcome V))) (hs : List (Held V)) (m : Memory)
       (s : Contents V)
       → Agrees n hs m s → SameRecords n rs qs
       → Agrees n (collections.after_run hs qs) (memory_after m (words qs)) (after_run rs s)
@@ -541,7 +533,7 @@ module _ {V : Type 0} where
       runs_agree n rs qs (collections.after_calls hs q.outcomes) (after m q.word.calls) (after_calls x.1.calls s)
       (both_after n x.1.calls q.word.calls q.outcomes hs m s a g.0.parts) g.1
 
-  pub run_too : (n : ℕ) (rs : List (ℕ × Record V)) (qs : List (Committed (Answered V))) (hs : List (Held V)) (m : Memory) (s : Contents V)
+  pub run_too : (n : ℕ) (rs : List (ℕ × Record V)) (qs : List (Committed (CallWithOutcome V))) (hs : List (Held V)) (m : Memory) (s : Contents V)
       → Agrees n hs m s
       → SameRecords n rs qs
       → IsRun m (words qs) → IsRunOn hs qs → IsRunOf rs s
@@ -555,7 +547,7 @@ module _ {V : Type 0} where
   )
 
   -- what the records up to a number leave
-  pub at_number : (n k : ℕ) (rs : List (ℕ × Record V)) (qs : List (Committed (Answered V))) (hs : List (Held V)) (m : Memory)
+  pub at_number : (n k : ℕ) (rs : List (ℕ × Record V)) (qs : List (Committed (CallWithOutcome V))) (hs : List (Held V)) (m : Memory)
       (s : Contents V)
       → Agrees n hs m s → SameRecords n rs qs
       → Agrees n (held_at qs k hs) (memory_after m (upto k (words qs))) (state_at k rs s)

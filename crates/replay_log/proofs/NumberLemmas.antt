@@ -21,7 +21,7 @@ use Rattle.tx_machine.specs.Boosted.{Committed, Boosted, PutGate, act_all}
 use Rattle.tx_machine.specs.Serial as serial
 use Rattle.tx_machine.proofs.Runs as runs
 use Rattle.replay_log.specs.Base.{Shown}
-use Rattle.replay_log.specs.Contents.{Block, Answered, HaveStripes, content}
+use Rattle.replay_log.specs.Contents.{Block, CallWithOutcome, HaveStripes, content}
 use Rattle.replay_log.specs.Collections.{shown_at}
 use Rattle.replay_log.specs.Worlds.{
   World,
@@ -72,7 +72,7 @@ can_give_up machine.Close h = inl tt
 can_give_up p h = absurd h
 
 module _ {V : Type 0} where
-  none_written : (n k : ℕ) (rs : List (ℕ × Record V)) (qs : List (Committed (Answered V))) → SameRecords n rs qs
+  none_written : (n k : ℕ) (rs : List (ℕ × Record V)) (qs : List (Committed (CallWithOutcome V))) → SameRecords n rs qs
       → NoWriterHas k (serial.words qs)
       → HasWritten k rs → ⊥
   none_written n k [] qs g f h = h
@@ -194,9 +194,9 @@ module _ {V : Type 0} where
         s.stage e in
         let none = runs.unused_yet (content {V = V} (length values) bs) (content_frame {V = V} (length values) bs stripes) clock
         (λ l. get_or values l 0) parts ac.0 a
-        (subst (λ (z : Boosted (Shown V) (Answered V)). GivesUp (z.words.actors a).place) ac.1 at) in
+        (subst (λ (z : Boosted (Shown V) (CallWithOutcome V)). GivesUp (z.words.actors a).place) ac.1 at) in
         no_record w (actor_of w a).wv k
-        (subst (λ (z : Boosted (Shown V) (Answered V)). NoWriterHas (z.words.actors a).wv (serial.words z.history)) (sym ac.1) none)
+        (subst (λ (z : Boosted (Shown V) (CallWithOutcome V)). NoWriterHas (z.words.actors a).wv (serial.words z.history)) (sym ac.1) none)
 
     -- once it can only end, at every later moment
     ended_unused : (events later : List (Event V)) (a : ℕ) → let w = run start events in
@@ -207,10 +207,10 @@ module _ {V : Type 0} where
         let lt = later_actions bs clock values hs events later in
         let c = content {V = V} (length values) bs in
         let none = runs.unused_later c (content_frame {V = V} (length values) bs stripes) clock (λ l. get_or values l 0) parts ac.0 lt.0 a
-        (subst (λ (z : Boosted (Shown V) (Answered V)). IsEnding (z.words.actors a).place) ac.1 ends) in
+        (subst (λ (z : Boosted (Shown V) (CallWithOutcome V)). IsEnding (z.words.actors a).place) ac.1 ends) in
         no_record (run w later) (actor_of w a).wv (run_linked later w (linked events))
-        (subst (λ (z : Boosted (Shown V) (Answered V)). NoWriterHas (actor_of w a).wv (serial.words z.history)) (sym lt.1)
-        (subst (λ (z : Boosted (Shown V) (Answered V)). NoWriterHas (z.words.actors a).wv (serial.words (act_all c lt.0 z).history))
+        (subst (λ (z : Boosted (Shown V) (CallWithOutcome V)). NoWriterHas (actor_of w a).wv (serial.words z.history)) (sym lt.1)
+        (subst (λ (z : Boosted (Shown V) (CallWithOutcome V)). NoWriterHas (z.words.actors a).wv (serial.words (act_all c lt.0 z).history))
         (sym ac.1) none))
 
     pub unused_later : (later events : List (Event V)) (w : World V) (a : ℕ) → run start events ≡ w → is_ending (w.seats a).stage ≡ true

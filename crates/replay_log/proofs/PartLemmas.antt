@@ -11,11 +11,12 @@ use Rattle.seq_model.specs.declared.call.Op.{Op}
 use Rattle.seq_model.specs.declared.call.Op.TheVariants.{Get, Put, Remove, Len, Count, Add, Take, Least, Insert, TakeLeast, Enqueue}
 use Rattle.seq_model.specs.declared.call.Op.TheVariants.{Dequeue, Peek}
 use Rattle.seq_model.specs.Counts.{Multiset}
+use Rattle.seq_model.proofs.LogicLemmas.{some-none}
 use Rattle.conflict.specs.declared.change.Change.{Change}
 use Rattle.conflict.specs.declared.outcome.Outcome.{Outcome}
 use Rattle.conflict.specs.Rules.{Rules, FrameLaws, SamePart, applied}
 use Rattle.conflict.specs.Commute.{changes_by_part, disjoint_changes_commute}
-use Rattle.conflict.specs.Footprints.{key_place, least_place, stripe_place, head_place, tail_place, cell_place}
+use Rattle.conflict.specs.Footprints.{key_location, least_location, stripe_location, head_location, tail_location, cell_location}
 use Rattle.base_map.specs.Conflicts as map
 use Rattle.base_map.specs.FrameLemmas as map_laws
 use Rattle.base_bag.specs.Conflicts as bag
@@ -35,19 +36,19 @@ pub record Parting {V C Q A : Type 0} (r : Rules V C Q A) : Type 0 where
   pub one : ℕ → ℕ → C → C
   pub all : ℕ → (ℕ → C) → C
   pub none : Q → A
-  pub look_one : (n l : ℕ) (s : C) (q : Q) → r.look (one n l s) q ≡ cond (eqb (r.place n q) l) (r.look s q) (none q)
-  pub look_all : (n : ℕ) (v : ℕ → C) (q : Q) → 0 < n → r.look (all n v) q ≡ r.look (v (r.place n q)) q
+  pub look_one : (n l : ℕ) (s : C) (q : Q) → r.look (one n l s) q ≡ cond (eqb (r.location n q) l) (r.look s q) (none q)
+  pub look_all : (n : ℕ) (v : ℕ → C) (q : Q) → 0 < n → r.look (all n v) q ≡ r.look (v (r.location n q)) q
 
 module _ {V C Q A : Type 0} (r : Rules V C Q A) (laws : FrameLaws r) (p : Parting r) where
-  look_here : (n l : ℕ) (s : C) (q : Q) → r.place n q ≡ l → r.look (p.one n l s) q ≡ r.look s q
-  look_here n l s q on = p.look_one n l s q ∙ cond-true (eqb (r.place n q) l) (r.look s q) (p.none q) (eq-eqb (r.place n q) l on)
+  look_here : (n l : ℕ) (s : C) (q : Q) → r.location n q ≡ l → r.look (p.one n l s) q ≡ r.look s q
+  look_here n l s q on = p.look_one n l s q ∙ cond-true (eqb (r.location n q) l) (r.look s q) (p.none q) (eq-eqb (r.location n q) l on)
 
-  same_one : (n l : ℕ) (s t : C) → ((q : Q) → r.place n q ≡ l → r.look s q ≡ r.look t q) → p.one n l s ≡ p.one n l t
+  same_one : (n l : ℕ) (s t : C) → ((q : Q) → r.location n q ≡ l → r.look s q ≡ r.look t q) → p.one n l s ≡ p.one n l t
   same_one n l s t same =
-      laws.parts_decide _ _ (λ q. p.look_one n l s q ∙ elim (cases_eq (r.place n q) l) [
-        | inl on ↦ ap (λ x. cond (eqb (r.place n q) l) x (p.none q)) (same q on)
-        | inr off ↦ cond-false (eqb (r.place n q) l) (r.look s q) (p.none q) (ne_eqb (r.place n q) l off)
-            ∙ sym (cond-false (eqb (r.place n q) l) (r.look t q) (p.none q) (ne_eqb (r.place n q) l off))
+      laws.parts_decide _ _ (λ q. p.look_one n l s q ∙ elim (cases_eq (r.location n q) l) [
+        | inl on ↦ ap (λ x. cond (eqb (r.location n q) l) x (p.none q)) (same q on)
+        | inr off ↦ cond-false (eqb (r.location n q) l) (r.look s q) (p.none q) (ne_eqb (r.location n q) l off)
+            ∙ sym (cond-false (eqb (r.location n q) l) (r.look t q) (p.none q) (ne_eqb (r.location n q) l off))
       ] ∙ sym (p.look_one n l t q))
 
   -- what is one part shows the same on its location
@@ -55,9 +56,9 @@ module _ {V C Q A : Type 0} (r : Rules V C Q A) (laws : FrameLaws r) (p : Partin
   one_same n l s t same q on = sym (look_here n l s q on) ∙ ap (λ (z : C). r.look z q) same ∙ look_here n l t q on
 
   pub whole_of_parts : (n : ℕ) (s : C) → 0 < n → p.all n (λ l. p.one n l s) ≡ s
-  whole_of_parts n s pos = laws.parts_decide _ _ (λ q. p.look_all n (λ l. p.one n l s) q pos ∙ look_here n (r.place n q) s q refl)
+  whole_of_parts n s pos = laws.parts_decide _ _ (λ q. p.look_all n (λ l. p.one n l s) q pos ∙ look_here n (r.location n q) s q refl)
 
-  same_at : (n l : ℕ) (v w : ℕ → C) → 0 < n → v l ≡ w l → (q : Q) → r.place n q ≡ l → r.look (p.all n v) q ≡ r.look (p.all n w) q
+  same_at : (n l : ℕ) (v w : ℕ → C) → 0 < n → v l ≡ w l → (q : Q) → r.location n q ≡ l → r.look (p.all n v) q ≡ r.look (p.all n w) q
   same_at n l v w pos same q on =
       p.look_all n v q pos ∙ ap (λ i. r.look (v i) q) on ∙ ap (λ s. r.look s q) same ∙ ap (λ i. r.look (w i) q) (sym on)
       ∙ sym (p.look_all n w q pos)
@@ -69,7 +70,7 @@ module _ {V C Q A : Type 0} (r : Rules V C Q A) (laws : FrameLaws r) (p : Partin
   -- a whole depends on the parts of its locations
   pub all_local : (n : ℕ) (v w : ℕ → C) → 0 < n → ((l : ℕ) → l < r.locations n → v l ≡ w l) → p.all n v ≡ p.all n w
   all_local n v w pos same =
-      laws.parts_decide _ _ (λ q. p.look_all n v q pos ∙ ap (λ s. r.look s q) (same (r.place n q) (laws.points_below n q pos))
+      laws.parts_decide _ _ (λ q. p.look_all n v q pos ∙ ap (λ s. r.look s q) (same (r.location n q) (laws.points_below n q pos))
       ∙ sym (p.look_all n w q pos))
 
   pub leaves : (n l : ℕ) (o : Outcome V) (s : C) → ¬ Contains (r.writes n o) l → p.one n l (applied r (r.changes o) s) ≡ p.one n l s
@@ -87,51 +88,51 @@ some_if false x y = refl
 
 abbrev map_parting : (V : Type 0) → Parting (map.rules V)
 map_parting V = record {
-  one = λ n l s. kept (key_place n) l s;
-  all = λ n v. joined (key_place n) n v;
+  one = λ n l s. kept (key_location n) l s;
+  all = λ n v. joined (key_location n) n v;
   none = λ q. None;
-  look_one = λ n l s q. get_kept (key_place n) l s q;
-  look_all = λ n v q pos. get_joined (key_place n) n v q (mod-lt q pos);
+  look_one = λ n l s q. get_kept (key_location n) l s q;
+  look_all = λ n v q pos. get_joined (key_location n) n v q (mod-lt q pos);
 }
 
 abbrev bag_parting : (V : Type 0) → Parting (bag.rules V)
 bag_parting V = record {
-  one = λ n l s. kept (key_place n) l s;
-  all = λ n v. joined (key_place n) n v;
+  one = λ n l s. kept (key_location n) l s;
+  all = λ n v. joined (key_location n) n v;
   none = λ q. None;
-  look_one = λ n l s q. get_kept (key_place n) l s q;
-  look_all = λ n v q pos. get_joined (key_place n) n v q (mod-lt q pos);
+  look_one = λ n l s q. get_kept (key_location n) l s q;
+  look_all = λ n v q pos. get_joined (key_location n) n v q (mod-lt q pos);
 }
 
 abbrev pq_one : ℕ → ℕ → pq.Shown → pq.Shown
-pq_one n l s = record { elements = kept (stripe_place n) l s.elements; least = cond (eqb least_place l) s.least None }
+pq_one n l s = record { elements = kept (stripe_location n) l s.elements; least = cond (eqb least_location l) s.least None }
 
 abbrev pq_all : ℕ → (ℕ → pq.Shown) → pq.Shown
-pq_all n v = record { elements = joined (stripe_place n) (suc n) (λ l. (v l).elements); least = (v least_place).least }
+pq_all n v = record { elements = joined (stripe_location n) (suc n) (λ l. (v l).elements); least = (v least_location).least }
 
-pq_look_one : (n l : ℕ) (s : pq.Shown) (q : Option ℕ) → pq.look (pq_one n l s) q ≡ cond (eqb (pq.place n q) l) (pq.look s q) None
+pq_look_one : (n l : ℕ) (s : pq.Shown) (q : Option ℕ) → pq.look (pq_one n l s) q ≡ cond (eqb (pq.point_location n q) l) (pq.look s q) None
 pq_look_one n l s None = refl
-pq_look_one n l s (Some x) = get_kept (stripe_place n) l s.elements x
+pq_look_one n l s (Some x) = get_kept (stripe_location n) l s.elements x
 
-pq_look_all : (n : ℕ) (v : ℕ → pq.Shown) (q : Option ℕ) → 0 < n → pq.look (pq_all n v) q ≡ pq.look (v (pq.place n q)) q
+pq_look_all : (n : ℕ) (v : ℕ → pq.Shown) (q : Option ℕ) → 0 < n → pq.look (pq_all n v) q ≡ pq.look (v (pq.point_location n q)) q
 pq_look_all n v None pos = refl
-pq_look_all n v (Some x) pos = get_joined (stripe_place n) (suc n) (λ l. (v l).elements) x (let lt = mod-lt x pos in omega (arith, lt))
+pq_look_all n v (Some x) pos = get_joined (stripe_location n) (suc n) (λ l. (v l).elements) x (let lt = mod-lt x pos in omega (arith, lt))
 
 abbrev pq_parting : (V : Type 0) → Parting (pq.rules V)
 pq_parting V = record { one = pq_one; all = pq_all; none = λ q. None; look_one = pq_look_one; look_all = pq_look_all }
 
 abbrev queue_one : ℕ → ℕ → queue.Shown → queue.Shown
 queue_one n l s = record {
-  cells = kept (cell_place n) l s.cells;
-  head = cond (eqb head_place l) s.head 0;
-  tail = cond (eqb tail_place l) s.tail 0;
+  cells = kept (cell_location n) l s.cells;
+  head = cond (eqb head_location l) s.head 0;
+  tail = cond (eqb tail_location l) s.tail 0;
 }
 
 abbrev queue_all : ℕ → (ℕ → queue.Shown) → queue.Shown
 queue_all n v = record {
-  cells = joined (cell_place n) (suc (suc n)) (λ l. (v l).cells);
-  head = (v head_place).head;
-  tail = (v tail_place).tail;
+  cells = joined (cell_location n) (suc (suc n)) (λ l. (v l).cells);
+  head = (v head_location).head;
+  tail = (v tail_location).tail;
 }
 
 abbrev queue_none : ℕ → Option ℕ
@@ -139,23 +140,20 @@ queue_none zero = Some 0
 queue_none (suc zero) = Some 0
 queue_none (suc (suc index)) = None
 
-queue_look_one : (n l : ℕ) (s : queue.Shown) (q : ℕ) → queue.look (queue_one n l s) q ≡ cond (eqb (queue.place n q) l) (queue.look s q)
+queue_look_one : (n l : ℕ) (s : queue.Shown) (q : ℕ) → queue.look (queue_one n l s) q ≡ cond (eqb (queue.point_location n q) l) (queue.look s q)
     (queue_none q)
-queue_look_one n l s zero = some_if (eqb head_place l) s.head 0
-queue_look_one n l s (suc zero) = some_if (eqb tail_place l) s.tail 0
-queue_look_one n l s (suc (suc index)) = get_kept (cell_place n) l s.cells index
+queue_look_one n l s zero = some_if (eqb head_location l) s.head 0
+queue_look_one n l s (suc zero) = some_if (eqb tail_location l) s.tail 0
+queue_look_one n l s (suc (suc index)) = get_kept (cell_location n) l s.cells index
 
-queue_look_all : (n : ℕ) (v : ℕ → queue.Shown) (q : ℕ) → 0 < n → queue.look (queue_all n v) q ≡ queue.look (v (queue.place n q)) q
+queue_look_all : (n : ℕ) (v : ℕ → queue.Shown) (q : ℕ) → 0 < n → queue.look (queue_all n v) q ≡ queue.look (v (queue.point_location n q)) q
 queue_look_all n v zero pos = refl
 queue_look_all n v (suc zero) pos = refl
-queue_look_all n v (suc (suc index)) pos = get_joined (cell_place n) (suc (suc n)) (λ l. (v l).cells) index
+queue_look_all n v (suc (suc index)) pos = get_joined (cell_location n) (suc (suc n)) (λ l. (v l).cells) index
     (let lt = mod-lt index pos in omega (arith, lt))
 
 abbrev queue_parting : (V : Type 0) → Parting (queue.rules V)
 queue_parting V = record { one = queue_one; all = queue_all; none = queue_none; look_one = queue_look_one; look_all = queue_look_all }
-
-some_none : {A : Type 0} (x : A) → Some x ≡ None → ⊥
-some_none x e = cc
 
 no_bag_map : BagKind ≡ MapKind → ⊥
 no_bag_map e = cc
@@ -177,29 +175,29 @@ no_queue_pq e = cc
 
 module _ {V : Type 0} where
   knows_map : (op : Op V) (s t : FinMap nat_cmp V) → map.outcome_of op s ≡ None → map.outcome_of op t ≡ None
-  knows_map (Get k) s t e = absurd (some_none _ e)
-  knows_map (Put k v) s t e = absurd (some_none _ e)
-  knows_map (Remove k) s t e = absurd (some_none _ e)
-  knows_map Len s t e = absurd (some_none _ e)
+  knows_map (Get k) s t e = absurd (some-none _ e)
+  knows_map (Put k v) s t e = absurd (some-none _ e)
+  knows_map (Remove k) s t e = absurd (some-none _ e)
+  knows_map Len s t e = absurd (some-none _ e)
   knows_map _ s t e = refl
 
   knows_bag : (op : Op V) (s t : Multiset) → bag.outcome_of op s ≡ None → bag.outcome_of op t ≡ None
-  knows_bag (Count x) s t e = absurd (some_none _ e)
-  knows_bag (Add x) s t e = absurd (some_none _ e)
-  knows_bag (Take x) s t e = absurd (some_none _ e)
+  knows_bag (Count x) s t e = absurd (some-none _ e)
+  knows_bag (Add x) s t e = absurd (some-none _ e)
+  knows_bag (Take x) s t e = absurd (some-none _ e)
   knows_bag _ s t e = refl
 
   knows_pq : (op : Op V) (s t : pq.Shown) → pq.outcome_of op s ≡ None → pq.outcome_of op t ≡ None
-  knows_pq Least s t e = absurd (some_none _ e)
-  knows_pq (Insert x) s t e = absurd (some_none _ e)
-  knows_pq TakeLeast s t e = absurd (some_none _ e)
+  knows_pq Least s t e = absurd (some-none _ e)
+  knows_pq (Insert x) s t e = absurd (some-none _ e)
+  knows_pq TakeLeast s t e = absurd (some-none _ e)
   knows_pq _ s t e = refl
 
   knows_queue : (op : Op V) (s t : queue.Shown) → queue.outcome_of op s ≡ None → queue.outcome_of op t ≡ None
-  knows_queue (Enqueue x) s t e = absurd (some_none _ e)
-  knows_queue Dequeue s t e = absurd (some_none _ e)
-  knows_queue Peek s t e = absurd (some_none _ e)
-  knows_queue Len s t e = absurd (some_none _ e)
+  knows_queue (Enqueue x) s t e = absurd (some-none _ e)
+  knows_queue Dequeue s t e = absurd (some-none _ e)
+  knows_queue Peek s t e = absurd (some-none _ e)
+  knows_queue Len s t e = absurd (some-none _ e)
   knows_queue _ s t e = refl
 
   pub knows_its_calls : KnowsItsCalls V

@@ -9,7 +9,7 @@ use Rattle.tx_sets.specs.Entries.{Entries, lookup, locations}
 use Rattle.tx_machine.specs.Actor as machine
 use Rattle.tx_machine.specs.Actor.{Place, Actor, goes}
 use Rattle.tx_machine.specs.World as world
-use Rattle.tx_machine.specs.World.{World, plan, outcome}
+use Rattle.tx_machine.specs.World.{World, plan, step_end}
 use Rattle.tx_machine.specs.Notices as told
 use Rattle.tx_machine.specs.Notices.{notice, look_notice, again_notice, lock_notice, take_notice, check_notice, when_none_left}
 use Rattle.tx_machine.specs.Notices.{last_notice}
@@ -26,7 +26,7 @@ IsQuiet machine.Leave = ⊥
 IsQuiet machine.Close = ⊥
 IsQuiet p = Unit {0}
 
-pub quiet_outcome : (a : ℕ) (y : Actor) (p : Place) → IsQuiet p → outcome a y p ≡ world.GoesOn
+pub quiet_outcome : (a : ℕ) (y : Actor) (p : Place) → IsQuiet p → step_end a y p ≡ world.GoesOn
 quiet_outcome a y machine.Begin h = absurd h
 quiet_outcome a y machine.First h = absurd h
 quiet_outcome a y machine.Leave h = absurd h

@@ -31,7 +31,7 @@ use Rattle.seq_model.specs.declared.event.Request.{Request}
 use Rattle.seq_model.specs.declared.event.Request.TheVariants as request
 use Rattle.seq_model.specs.declared.limits.TheConstants.{CALL_LIMIT}
 use Rattle.tx_machine.specs.Boosted.{TakeGate, PutGate, GoHome, is_none, is_open, is_committing, copied}
-use Rattle.replay_log.specs.Contents.{Block, Asked, Answered, HaveStripes, home_of, is_plain}
+use Rattle.replay_log.specs.Contents.{Block, CollectionCall, CallWithOutcome, HaveStripes, home_of, is_plain}
 use Rattle.replay_log.specs.Contents.{content}
 use Rattle.replay_log.specs.Worlds.{World, Seat, Stage, Idle, Beginning, Open, Locking, Releasing, Closing, Cancelling, Leaving, Reading}
 use Rattle.replay_log.specs.Worlds.{Trying, Copying, Loading, Gating, Ready, Storing, Homing, Returning, After, new_in, has_room}
@@ -248,7 +248,7 @@ module _ {V : Type 0} where
       choose_near a m (eqb d.1 v) next _ (λ _. near)
       (λ _ q. cancels_near u a (because x (refusal.Stale d.0 d.1 v)) y z g m k (subst CanLeave (sym e) tt) h)
 
-  judges_nears : (u : World V) (a : ℕ) (x : Seat V) (y : Actor) (z : Copy V) (g : ℕ → Bool) (o : Answered V) (d : ℕ × ℕ) (es : Entries)
+  judges_nears : (u : World V) (a : ℕ) (x : Seat V) (y : Actor) (z : Copy V) (g : ℕ → Bool) (o : CallWithOutcome V) (d : ℕ × ℕ) (es : Entries)
       (m : ℕ)
       (next : After V) (r : Option ℕ) → At u a y z g → y.place ≡ machine.Open
       → length y.held + 1 < m → 3 * length (new_in y.reads (locations (d ∷ es))) + 1 < m → lookup y.reads d.0 ≡ r
@@ -274,7 +274,7 @@ module _ {V : Type 0} where
       in
       fresh_nears u a x y z g d v m next k e held (near (omega (arith, new, none, h))) q
 
-  loads_nears : (es : Entries) (u : World V) (a : ℕ) (x : Seat V) (y : Actor) (z : Copy V) (g : ℕ → Bool) (o : Answered V) (m : ℕ)
+  loads_nears : (es : Entries) (u : World V) (a : ℕ) (x : Seat V) (y : Actor) (z : Copy V) (g : ℕ → Bool) (o : CallWithOutcome V) (m : ℕ)
       → At u a y z g
       → y.place ≡ machine.Open → length y.held + 1 < m
       → 3 * length (new_in y.reads (locations es)) + 1 < m → Nears a m (loads u a x o es)
@@ -284,7 +284,7 @@ module _ {V : Type 0} where
       (ap (λ (v : Actor). lookup v.reads d.0) (sym k.own.actor))
       (λ less. loads_nears es u a x y z g o m k e held less) q
 
-  has_loaded_nears : (u : World V) (a : ℕ) (x : Seat V) (y y2 : Actor) (z : Copy V) (g : ℕ → Bool) (o : Answered V) (d : ℕ × ℕ)
+  has_loaded_nears : (u : World V) (a : ℕ) (x : Seat V) (y y2 : Actor) (z : Copy V) (g : ℕ → Bool) (o : CallWithOutcome V) (d : ℕ × ℕ)
       (es : Entries) (m : ℕ)
       (n : told.Notice) → At u a y2 z g → u.seats a ≡ x
       → x.stage ≡ Loading o (d ∷ es) → y.held ≡ [] → 0 < m → AfterRead d.0 y y2 n → NearsRead m y2 n
@@ -310,7 +310,7 @@ module _ {V : Type 0} where
   has_loaded_nears u a x y y2 z g o d es m n k seat st none pos h near q = absurd h
 
   -- the outcome is taken, and its locations fit
-  answers_nears : (u : World V) (a : ℕ) (before x : Seat V) (y : Actor) (z : Copy V) (g : ℕ → Bool) (sized o : Answered V)
+  answers_nears : (u : World V) (a : ℕ) (before x : Seat V) (y : Actor) (z : Copy V) (g : ℕ → Bool) (sized o : CallWithOutcome V)
       (editions : ℕ → ℕ) → AreSmall u.blocks → At u a y z g → y.place ≡ machine.Open → y.held ≡ []
       → Nears a 12291 (answers u a before x sized o editions)
   answers_nears u a before x y z g sized o editions small k e none =
@@ -591,7 +591,7 @@ module _ {V : Type 0} where
       (λ _. choose_near a 1000000 (nat_lt (length x.calls) CALL_LIMIT && room) next _ (λ _. h) (λ _ q. absurd q))
       (λ _ q. absurd q)
 
-  calls_few : (w : World V) (a : ℕ) (x : Seat V) (asked : Asked V) → AreSmall w.blocks → (w.boosted.words.actors a).place ≡ machine.Open
+  calls_few : (w : World V) (a : ℕ) (x : Seat V) (asked : CollectionCall V) → AreSmall w.blocks → (w.boosted.words.actors a).place ≡ machine.Open
       → Linked w → IsFew w a (calls_on w a x asked)
   calls_few w a x asked small e k =
       let y = w.boosted.words.actors a in

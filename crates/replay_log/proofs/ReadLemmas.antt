@@ -4,14 +4,12 @@ use Rattle.std.proofs.Common.{◌≡◌, ℕ, Bool, true, false, cond, List, [],
 use Rattle.std.proofs.Common.{true≢false, eqb, eq-eqb, ne_eqb}
 use Rattle.std.specs.Prelude.{◌==◌, if◌then◌else◌}
 use Rattle.std.proofs.lemmas.Bool.{cases_eq, cond-true, cond-false}
+use Rattle.seq_model.proofs.LogicLemmas.{some-none}
 use Rattle.tx_sets.specs.Entries.{Entries, lookup, with_entry}
 use Rattle.tx_machine.specs.Actor.{Call, Read, Write, with_read}
 use Rattle.tx_machine.specs.Opacity.{first_read}
 use Rattle.tx_machine.proofs.Sets.{lookup-with_entry_same, lookup-with_entry_other}
 use Rattle.tx_machine.proofs.Calls.{touched}
-
-no_some : (v : ℕ) → Some v ≡ None → ⊥
-no_some v e = cc
 
 pub first_read-write : (cs : List Call) (k v l : ℕ) → first_read (cs ++ Write k v ∷ []) l ≡ first_read cs l
 first_read-write [] k v l = elim (eqb l k) as (λ b. cond {A = Option ℕ} b None None ≡ None) [ true ↦ refl | false ↦ refl ]
@@ -29,7 +27,7 @@ pub first_read-new : (cs : List Call) (l v : ℕ) → first_read cs l ≡ None �
 first_read-new [] l v e h = cond-true (eqb l l) (Some v) None (eq-eqb l l refl)
 first_read-new (Read i u ∷ cs) l v e h =
     elim (cases_eq l i) [
-      | inl same ↦ absurd (no_some u (sym (cond-true (eqb l i) (Some u) (first_read cs l) (eq-eqb l i same)) ∙ e))
+      | inl same ↦ absurd (some-none u (sym (cond-true (eqb l i) (Some u) (first_read cs l) (eq-eqb l i same)) ∙ e))
       | inr ne ↦
           cond-false (eqb l i) (Some u) (first_read (cs ++ Read l v ∷ []) l) (ne_eqb l i ne)
           ∙ first_read-new cs l v (sym (cond-false (eqb l i) (Some u) (first_read cs l) (ne_eqb l i ne)) ∙ e) h

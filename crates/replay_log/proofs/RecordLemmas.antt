@@ -25,7 +25,7 @@ use Rattle.seq_model.specs.declared.limits.TheConstants.{CALL_LIMIT}
 use Rattle.seq_model.specs.Runs.{insert_record, comes_before, NoneComesBefore, IsInCommitOrder}
 use Rattle.tx_machine.specs.Content.{has}
 use Rattle.tx_machine.specs.Boosted.{TakeGate, PutGate, Accept, GoHome, is_none}
-use Rattle.replay_log.specs.Contents.{Block, Asked, Answered, content}
+use Rattle.replay_log.specs.Contents.{Block, CollectionCall, CallWithOutcome, content}
 use Rattle.replay_log.specs.Pieces.{piece_at, covers_at}
 use Rattle.replay_log.specs.Worlds.{World, Seat, Stage, Idle, Beginning, Open, Locking, Releasing, Closing, Cancelling, Leaving, Reading}
 use Rattle.replay_log.specs.Worlds.{Trying, Copying, Loading, Gating, Ready, Storing, Homing, Returning, After, has_room, sized_by}
@@ -94,17 +94,17 @@ module _ {V : Type 0} where
   fresh_begins u a x d v next h =
       choose_leaves a u.records AtAhead (eqb d.1 v) next _ h (gives_up_begins u a (because x (refusal.Stale d.0 d.1 v)) [])
 
-  judges_begins : (u : World V) (a : ℕ) (x : Seat V) (o : Answered V) (d : ℕ × ℕ) (es : Entries) (next : After V) (r : Option ℕ)
+  judges_begins : (u : World V) (a : ℕ) (x : Seat V) (o : CallWithOutcome V) (d : ℕ × ℕ) (es : Entries) (next : After V) (r : Option ℕ)
       → Begins a u next
       → Begins a u (judges u a x o d es next r)
   judges_begins u a x o d es next None h = sits (acted u (asks a (word.AskRead d.0) ∷ [])) a AtAhead (at_stage x (Loading o (d ∷ es))) tt
   judges_begins u a x o d es next (Some v) h = fresh_begins u a x d v next h
 
-  loads_begins : (es : Entries) (u : World V) (a : ℕ) (x : Seat V) (o : Answered V) → Begins a u (loads u a x o es)
+  loads_begins : (es : Entries) (u : World V) (a : ℕ) (x : Seat V) (o : CallWithOutcome V) → Begins a u (loads u a x o es)
   loads_begins [] u a x o = sits (acted u (Accept a o.asked ∷ [])) a AtAhead (with_call x (call_of o) (reply_of o)) tt
   loads_begins (d ∷ es) u a x o = judges_begins u a x o d es (loads u a x o es) (lookup (actor_of u a).reads d.0) (loads_begins es u a x o)
 
-  answers_begins : (u : World V) (a : ℕ) (before x : Seat V) (sized o : Answered V) (editions : ℕ → ℕ)
+  answers_begins : (u : World V) (a : ℕ) (before x : Seat V) (sized o : CallWithOutcome V) (editions : ℕ → ℕ)
       → Begins a u (answers u a before x sized o editions)
   answers_begins u a before x sized o editions =
       let c = content u.words u.blocks in
@@ -113,7 +113,7 @@ module _ {V : Type 0} where
       (loads_begins (with_editions editions (c.reads o)) u a x o) (sits u a AtAhead (at_stage before Open) tt)
 
   -- ---- requests
-  calls_on_begins : (w : World V) (a : ℕ) (x : Seat V) (asked : Asked V) → Begins a w (calls_on w a x asked)
+  calls_on_begins : (w : World V) (a : ℕ) (x : Seat V) (asked : CollectionCall V) → Begins a w (calls_on w a x asked)
   calls_on_begins w a x asked =
       choose_leaves a w.records AtAhead (x.copied asked.collection (piece_at w.blocks asked)) _ _
       (answers_begins w a x x (outcome_at w a asked) (outcome_at w a asked) (w.boosted.shadows a).editions)
@@ -226,7 +226,7 @@ module _ {V : Type 0} where
   has_read_begins u a x l (told.Moved i found) e h = gives_up_begins u a (because x (refusal.Moved i found)) []
   has_read_begins u a x l n e h = stays u a AtAhead x e h
 
-  has_loaded_begins : (u : World V) (a : ℕ) (x : Seat V) (o : Answered V) (d : ℕ × ℕ) (es : Entries) (n : told.Notice) → u.seats a ≡ x
+  has_loaded_begins : (u : World V) (a : ℕ) (x : Seat V) (o : CallWithOutcome V) (d : ℕ × ℕ) (es : Entries) (n : told.Notice) → u.seats a ≡ x
       → IsAhead x.stage
       → Begins a u (has_loaded u a x o d es n)
   has_loaded_begins u a x o d es (told.Number v) e h = fresh_begins u a x d v (loads u a x o es) (loads_begins es u a x o)

@@ -7,6 +7,7 @@ use Rattle.std.proofs.Common.{refl, sym, ◌∙◌, ap, subst, true≢false, eqb
 use Rattle.std.specs.Prelude.{if◌then◌else◌, nat_le, nat_lt}
 use Rattle.std.proofs.lemmas.Bool.{cases_eq, cond_both, cond-true, cond-false}
 use Rattle.std.proofs.lemmas.List.Elements.{Contains-push, Contains-append_left, Contains-append_right}
+use Rattle.std.proofs.lemmas.Option.{same_Some, none-some}
 use Rattle.vlock_word.specs.declared.lock_word.LockWord.{LockWord}
 use Rattle.vlock_word.specs.declared.lock_word.LockWord.TheVariants.{Free, Locked}
 use Rattle.vlock_word.specs.LockWord.{bits}
@@ -28,7 +29,7 @@ use Rattle.seq_model.specs.declared.refusal.Refusal.TheVariants as refusal
 use Rattle.seq_model.specs.declared.event.Event.{Event}
 use Rattle.seq_model.specs.declared.event.Event.TheVariants.{Step}
 use Rattle.tx_machine.specs.Boosted.{TakeGate, PutGate, GoHome, Accept, is_none, is_actor}
-use Rattle.replay_log.specs.Contents.{Block, Asked, Answered, HaveStripes, is_plain, content}
+use Rattle.replay_log.specs.Contents.{Block, CollectionCall, CallWithOutcome, HaveStripes, is_plain, content}
 use Rattle.replay_log.specs.Worlds.{World, Seat, Stage, Idle, Beginning, Open, Locking, Releasing, Closing, Cancelling, Leaving, Reading}
 use Rattle.replay_log.specs.Worlds.{Trying, Copying, Loading, Gating, Ready, Storing, Homing, Returning, After, has_room, with_editions}
 use Rattle.replay_log.specs.Worlds.{at_stage, because, seated, acted, asks, moves, actor_of, word_notice, is_leaving, cancels, gives_up}
@@ -137,22 +138,16 @@ notice_names s y machine.Leave = tt
 notice_names s y machine.Close = tt
 
 -- ---- reads among the calls
-some_is : (v u : ℕ) → Some v ≡ Some u → v ≡ u
-some_is v u e = cc
-
-no_some : (v : ℕ) → None ≡ Some v → ⊥
-no_some v e = cc
-
 later_call : (c : machine.Call) (cs : List machine.Call) (d : machine.Call) → Contains cs d → Contains (c ∷ cs) d
 later_call c cs d h = Contains-append_right (c ∷ []) cs d h
 
 -- what was read first was read
 first_is_call : (cs : List machine.Call) (l v : ℕ) → first_read cs l ≡ Some v → Contains cs (machine.Read l v)
-first_is_call [] l v e = absurd (no_some v e)
+first_is_call [] l v e = absurd (none-some v e)
 first_is_call (machine.Read k u ∷ cs) l v e = elim (cases_eq l k) [
   | inl same ↦
       subst (λ (c : machine.Call). Contains (machine.Read k u ∷ cs) c)
-      (ap (λ i. machine.Read i u) (sym same) ∙ ap (machine.Read l) (some_is u v
+      (ap (λ i. machine.Read i u) (sym same) ∙ ap (machine.Read l) (same_Some u v
       (sym (cond-true (eqb l k) (Some u) (first_read cs l) (eq-eqb l k same)) ∙ e)))
       (Contains-append_left (machine.Read k u ∷ []) cs (machine.Read k u) (Contains-push [] (machine.Read k u)))
   | inr ne ↦
@@ -160,14 +155,14 @@ first_is_call (machine.Read k u ∷ cs) l v e = elim (cases_eq l k) [
       (first_is_call cs l v (sym (cond-false (eqb l k) (Some u) (first_read cs l) (ne_eqb l k ne)) ∙ e))
 ]
 first_is_call (machine.Write k u ∷ cs) l v e = elim (cases_eq l k) [
-  | inl same ↦ absurd (no_some v (sym (cond-true (eqb l k) None (first_read cs l) (eq-eqb l k same)) ∙ e))
+  | inl same ↦ absurd (none-some v (sym (cond-true (eqb l k) None (first_read cs l) (eq-eqb l k same)) ∙ e))
   | inr ne ↦
       later_call (machine.Write k u) cs (machine.Read l v)
       (first_is_call cs l v (sym (cond-false (eqb l k) None (first_read cs l) (ne_eqb l k ne)) ∙ e))
 ]
 
 in_set_is : (declared : Bool) (o : Option ℕ) (v : ℕ) → in_set declared o ≡ Some v → o ≡ Some v
-in_set_is true o v e = absurd (no_some v e)
+in_set_is true o v e = absurd (none-some v e)
 in_set_is false o v e = e
 
 -- what the read set has of a collection's location was read
@@ -181,7 +176,7 @@ with_read_cases : (declared : Bool) (es : Entries) (l v i u : ℕ) → lookup (m
     → ((i ≡ l) × (v ≡ u)) ⊎ (lookup es i ≡ Some u)
 with_read_cases true es l v i u e = inr e
 with_read_cases false es l v i u e = elim (cases_eq i l) [
-  | inl same ↦ inl (same, some_is v u (sym (lookup-with_entry_same es l v) ∙ ap (lookup (with_entry es l v)) (sym same) ∙ e))
+  | inl same ↦ inl (same, same_Some v u (sym (lookup-with_entry_same es l v) ∙ ap (lookup (with_entry es l v)) (sym same) ∙ e))
   | inr ne ↦ inr (sym (lookup-with_entry_other es l v i ne) ∙ e)
 ]
 
@@ -290,7 +285,7 @@ module _ {V : Type 0} where
             (sym (cancels_calls u a (because x (refusal.Stale d.0 d.1 v)))) read,
       ))
 
-  judges_for : (w u : World V) (a : ℕ) (x : Seat V) (st : Stage V) (o : Answered V) (d : ℕ × ℕ) (es : Entries) (next : After V)
+  judges_for : (w u : World V) (a : ℕ) (x : Seat V) (st : Stage V) (o : CallWithOutcome V) (d : ℕ × ℕ) (es : Entries) (next : After V)
       (r : Option ℕ)
       → lookup (actor_of u a).reads d.0 ≡ r → is_plain w.words w.blocks d.0 ≡ false → IsCopied w st d.0 d.1 → HasRead w u a
       → HasCause w a st next.0 → HasCause w a st (judges u a x o d es next r).0
@@ -298,14 +293,14 @@ module _ {V : Type 0} where
       (at_stage x (Loading o (d ∷ es))) st refl
   judges_for w u a x st o d es next (Some v) is pl copied read h = fresh_for w u a x st d v next copied (read d.0 v pl is) h
 
-  loads_for : (es : Entries) (w u : World V) (a : ℕ) (x : Seat V) (st : Stage V) (o : Answered V) → Copied w st es → HasRead w u a
+  loads_for : (es : Entries) (w u : World V) (a : ℕ) (x : Seat V) (st : Stage V) (o : CallWithOutcome V) → Copied w st es → HasRead w u a
       → HasCause w a st (loads u a x o es).0
   loads_for [] w u a x st o copied read = goes_on w (acted u (Accept a o.asked ∷ [])) a (with_call x (call_of o) (reply_of o)) st refl
   loads_for (d ∷ es) w u a x st o copied read =
       judges_for w u a x st o d es (loads u a x o es) (lookup (actor_of u a).reads d.0) refl copied.0 copied.1 read
       (loads_for es w u a x st o copied.2 read)
 
-  answers_for : (w u : World V) (a : ℕ) (before x : Seat V) (st : Stage V) (sized o : Answered V) (editions : ℕ → ℕ)
+  answers_for : (w u : World V) (a : ℕ) (before x : Seat V) (st : Stage V) (sized o : CallWithOutcome V) (editions : ℕ → ℕ)
       → Copied w st (with_editions editions ((content u.words u.blocks).reads o)) → HasRead w u a
       → HasCause w a st (answers u a before x sized o editions).0
   answers_for w u a before x st sized o editions copied read =
@@ -313,7 +308,7 @@ module _ {V : Type 0} where
       choose_for w a st (has_room (actor_of u a) (c.reads sized) (c.writes sized)) (loads u a x o (with_editions editions (c.reads o))) _
       (λ _. loads_for (with_editions editions (c.reads o)) w u a x st o copied read) (λ _. goes_on w u a (at_stage before Open) st refl)
 
-  has_loaded_for : (w u : World V) (a : ℕ) (x : Seat V) (y z : Actor) (o : Answered V) (d : ℕ × ℕ) (es : Entries) (n : told.Notice)
+  has_loaded_for : (w u : World V) (a : ℕ) (x : Seat V) (y z : Actor) (o : CallWithOutcome V) (d : ℕ × ℕ) (es : Entries) (n : told.Notice)
       → u.boosted.words.actors a ≡ z → u.seats a ≡ x → x.stage ≡ Loading o (d ∷ es) → Copied w (Loading o (d ∷ es)) (d ∷ es)
       → AreRead w.words w.blocks y → AfterRead d.0 y z n → TrueAt w a n → HasCause w a (Loading o (d ∷ es)) (has_loaded u a x o d es n).0
   has_loaded_for w u a x y z o d es (told.Number v) e seat st copied read after h =
@@ -327,7 +322,7 @@ module _ {V : Type 0} where
   has_loaded_for w u a x y z o d es n e seat st copied read after h = same_on w u a x (Loading o (d ∷ es)) seat (ap is_ending st)
 
   -- what is left of a call is among what it had to judge
-  left_copied : (w : World V) (o : Answered V) (all es : Entries) (y : Actor) (z : Copy V) → Left w.words w.blocks y z es
+  left_copied : (w : World V) (o : CallWithOutcome V) (all es : Entries) (y : Actor) (z : Copy V) → Left w.words w.blocks y z es
       → ((d : ℕ × ℕ) → Contains es d → Contains all d) → Copied w (Loading o all) es
   left_copied w o all [] y z h sub = tt
   left_copied w o all (d ∷ es) y z h sub = (
@@ -336,7 +331,7 @@ module _ {V : Type 0} where
     left_copied w o all es y z h.3 (λ e m. sub e (Contains-append_right (d ∷ []) es e m)),
   )
 
-  now_copied : (w : World V) (asked : Asked V) (editions : ℕ → ℕ) (ls : List ℕ) → ((l : ℕ) → w.boosted.editions l ≡ editions l)
+  now_copied : (w : World V) (asked : CollectionCall V) (editions : ℕ → ℕ) (ls : List ℕ) → ((l : ℕ) → w.boosted.editions l ≡ editions l)
       → ((l : ℕ) → IsIn l ls → is_plain w.words w.blocks l ≡ false) → Copied w (Copying asked) (with_editions editions ls)
   now_copied w asked editions [] is pl = tt
   now_copied w asked editions (l ∷ ls) is pl = (pl l (inl refl), is l, now_copied w asked editions ls is (λ i m. pl i (inr m)))

@@ -4,6 +4,7 @@
 use Rattle.std.proofs.Common.{◌≡◌, ◌≢◌, ℕ, zero, suc, Bool, true, false, cond, ◌&&◌, List, [], ◌∷◌, ◌++◌, length, Option, Some, None}
 use Rattle.std.proofs.Common.{inl, inr, refl, sym, ◌∙◌, ap, subst, eqb}
 use Rattle.std.specs.Prelude.{nat_lt}
+use Rattle.std.proofs.lemmas.Option.{same_Some, none-some}
 use Rattle.tx_sets.specs.Entries.{Entries, lookup}
 use Rattle.tx_machine.specs.Requests as word
 use Rattle.tx_machine.specs.Notices as told
@@ -22,8 +23,9 @@ use Rattle.seq_model.specs.declared.event.Answer.TheVariants as answer
 use Rattle.seq_model.specs.declared.event.Notice.{Notice}
 use Rattle.seq_model.specs.declared.event.Notice.TheVariants.{Quiet, Answered, Refused}
 use Rattle.seq_model.specs.declared.limits.TheConstants.{CALL_LIMIT}
+use Rattle.seq_model.proofs.LogicLemmas.{some-none}
 use Rattle.tx_machine.specs.Boosted.{TakeGate, PutGate, Accept, GoHome, is_none}
-use Rattle.replay_log.specs.Contents.{Asked, Answered as Outcomes, content}
+use Rattle.replay_log.specs.Contents.{CollectionCall, CallWithOutcome as Outcomes, content}
 use Rattle.replay_log.specs.Pieces.{piece_at, covers_at}
 use Rattle.replay_log.specs.Worlds.{World, Seat, Stage, Idle, Beginning, Open, Locking, Releasing, Closing, Cancelling, Leaving, Reading}
 use Rattle.replay_log.specs.Worlds.{Trying, Copying, Loading, Gating, Ready, Storing, Homing, Returning, After, has_room, sized_by}
@@ -104,7 +106,7 @@ module _ {V : Type 0} where
       (made_seated u a call x (at_stage before Open) (Refused a refusal.TooLong) (refl, old))
 
   -- ---- as it is asked
-  made_calls_on : (w : World V) (a : ℕ) (x : Seat V) (asked : Asked V) → Made a (as_call asked) x (calls_on w a x asked)
+  made_calls_on : (w : World V) (a : ℕ) (x : Seat V) (asked : CollectionCall V) → Made a (as_call asked) x (calls_on w a x asked)
   made_calls_on w a x asked =
       let o = outcome_at w a asked in
       made_choose a (as_call asked) x (x.copied asked.collection (piece_at w.blocks asked)) _ _
@@ -162,7 +164,7 @@ module _ {V : Type 0} where
   made_loaded u a call x o d es (told.Moved i found) seat at is = made_given_up u a call x (because x (refusal.Moved i found)) [] refl
   made_loaded u a call x o d es n seat at is = made_stays u a call x (Loading o (d ∷ es)) seat at (ap (λ c. Some c) is)
 
-  made_tried : (u : World V) (a : ℕ) (call : Call V) (x : Seat V) (free : Bool) (k : ℕ) (asked : Asked V) (tries : ℕ)
+  made_tried : (u : World V) (a : ℕ) (call : Call V) (x : Seat V) (free : Bool) (k : ℕ) (asked : CollectionCall V) (tries : ℕ)
       → as_call asked ≡ call
       → Made a call x (has_tried u a x free k [] (λ n. Trying asked n) (Copying asked) tries)
   made_tried u a call x free k asked zero is =
@@ -172,28 +174,22 @@ module _ {V : Type 0} where
       made_choose a call x free _ _ (made_seated u a call x (at_stage x (Copying asked)) Quiet (refl, inl (ap (λ c. Some c) is)))
       (made_seated u a call x (at_stage x (Trying asked m)) Quiet (refl, inl (ap (λ c. Some c) is)))
 
-  some_call : (c d : Call V) → Some c ≡ Some d → c ≡ d
-  some_call c d e = cc
-
-  none_call : (d : Call V) → None ≡ Some d → ⊥
-  none_call d e = cc
-
   step_made : (w : World V) (a : ℕ) (x : Seat V) (st : Stage V) (call : Call V) → w.seats a ≡ x → x.stage ≡ st → call_at st ≡ Some call
       → Made a call x (step_at w a x st)
   step_made w a x (Reading l) call seat at is =
-      made_read (acted w (moves a ∷ [])) a call x l (word_notice w a) seat at (some_call _ call is)
+      made_read (acted w (moves a ∷ [])) a call x l (word_notice w a) seat at (same_Some _ call is)
   step_made w a x (Trying asked tries) call seat at is =
       made_tried (acted w (TakeGate a asked.collection ∷ [])) a call x (is_none (w.boosted.gates asked.collection)) asked.collection asked
-      tries (some_call _ call is)
+      tries (same_Some _ call is)
   step_made w a x (Copying asked) call seat at is =
       let u = acted w (PutGate a asked.collection (covers_at w.words w.blocks asked) ∷ []) in
       let o = outcome_at u a asked in
       made_answers u a call x x (with_piece x asked.collection (piece_at w.blocks asked)) (sized_by u a asked o) o u.boosted.editions refl
-      refl (some_call _ call is)
+      refl (same_Some _ call is)
   step_made w a x (Loading o []) call seat at is = made_stays w a call x (Loading o []) seat at is
   step_made w a x (Loading o (d ∷ es)) call seat at is =
-      made_loaded (acted w (moves a ∷ [])) a call x o d es (word_notice w a) seat at (some_call _ call is)
-  step_made w a x st call seat at is = absurd (none_call call is)
+      made_loaded (acted w (moves a ∷ [])) a call x o d es (word_notice w a) seat at (same_Some _ call is)
+  step_made w a x st call seat at is = absurd (none-some call is)
 
   pub stepped_made : (w : World V) (a : ℕ) (call : Call V) → call_at (w.seats a).stage ≡ Some call
       → let r = happens w (Step a) in IsMade a call (w.seats a) (r.0.seats a) r.1
@@ -271,17 +267,14 @@ module _ {V : Type 0} where
   why_kept a x y None e is = inr (e, is)
   why_kept a x y (Some r) e is = inr (e, is)
 
-  some_none : (c : Call V) → Some c ≡ None → ⊥
-  some_none c e = cc
-
   step_kept : (w : World V) (a : ℕ) (x : Seat V) (st : Stage V) → w.seats a ≡ x → call_at st ≡ None → Kept a st x (step_at w a x st)
   step_kept w a x Idle seat is = kept_refused w a Idle x refusal.NoTransaction seat
   step_kept w a x Open seat is = kept_refused w a Open x refusal.NoTransaction seat
   step_kept w a x Beginning seat is = kept_begun (acted w (moves a ∷ [])) a x (word_notice w a) seat
-  step_kept w a x (Reading l) seat is = absurd (some_none _ is)
-  step_kept w a x (Trying asked tries) seat is = absurd (some_none _ is)
-  step_kept w a x (Copying asked) seat is = absurd (some_none _ is)
-  step_kept w a x (Loading o es) seat is = absurd (some_none _ is)
+  step_kept w a x (Reading l) seat is = absurd (some-none _ is)
+  step_kept w a x (Trying asked tries) seat is = absurd (some-none _ is)
+  step_kept w a x (Copying asked) seat is = absurd (some-none _ is)
+  step_kept w a x (Loading o es) seat is = absurd (some-none _ is)
   step_kept w a x Locking seat is = kept_locked (acted w (moves a ∷ [])) a x (word_notice w a) seat
   step_kept w a x (Gating got [] tries) seat is = kept_stays w a (Gating got [] tries) x seat
   step_kept w a x (Gating got (k ∷ ks) tries) seat is =

@@ -4,7 +4,7 @@
 use Rattle.std.proofs.Common.{◌≡◌, ℕ, zero, suc, Bool, true, false, ◌&&◌, List, [], ◌∷◌, ◌++◌, Option, Some, None, refl, sym, ap, ◌∙◌}
 use Rattle.std.proofs.Common.{subst, eqb, ltb, length}
 use Rattle.std.specs.Prelude.{get_or, not, if◌then◌else◌}
-use Rattle.std.proofs.lemmas.Bool.{cond_both}
+use Rattle.std.proofs.lemmas.Bool.{cond_both, and_parts}
 use Rattle.tx_sets.specs.Entries.{Entries, lookup, locations}
 use Rattle.tx_machine.specs.Requests as word
 use Rattle.tx_machine.specs.World as machine
@@ -26,11 +26,11 @@ use Rattle.tx_machine.specs.Boosted.{Boosted, Action, OnWords, TakeGate, PutGate
 use Rattle.tx_machine.specs.Boosted.{is_open, is_stored, is_committing, is_held, is_given, is_sound, every, may_write, on_words}
 use Rattle.tx_machine.specs.Boosted.{on_ask, shadows_after, recorded, word_step, gated, copied, homed, writes_asked, longer}
 use Rattle.tx_machine.specs.Boosted.{accepted, changes}
-use Rattle.tx_machine.proofs.BoostedQuiet.{both, open_is}
+use Rattle.tx_machine.proofs.BoostedQuiet.{open_is}
 use Rattle.replay_log.proofs.ActionLemmas.{does_rest, is_undeclared, writes_wrote}
 use Rattle.tx_machine.specs.Serial.{after_actions}
 use Rattle.replay_log.specs.Base.{Shown}
-use Rattle.replay_log.specs.Contents.{Block, Asked, Answered, content}
+use Rattle.replay_log.specs.Contents.{Block, CollectionCall, CallWithOutcome, content}
 use Rattle.replay_log.specs.Collections.{shown_at}
 use Rattle.replay_log.specs.Pieces.{piece_at, covers_at}
 use Rattle.replay_log.specs.WorldProgress.{whose}
@@ -46,7 +46,7 @@ use Rattle.replay_log.specs.Worlds.{opened}
 pub record Reached {V : Type 0} (v u : World V) : Type 0 where
   pub words : u.words ≡ v.words
   pub blocks : u.blocks ≡ v.blocks
-  pub actions : List (Action (Asked V))
+  pub actions : List (Action (CollectionCall V))
   pub is : u.boosted ≡ act_all (content v.words v.blocks) actions v.boosted
 
 -- an action of actor a
@@ -73,7 +73,7 @@ pub record ReachedBy {V : Type 0} (a : ℕ) (v u : World V) : Type 0 where
   pub seats : (b : ℕ) → (b ≡ a → ⊥) → u.seats b ≡ v.seats b
   pub actors : (b : ℕ) → (b ≡ a → ⊥) → u.boosted.words.actors b ≡ v.boosted.words.actors b
 
-noted_actors : (t : machine.World) (o : machine.Outcome) → (machine.noted t o).actors ≡ t.actors
+noted_actors : (t : machine.World) (o : machine.StepEnd) → (machine.noted t o).actors ≡ t.actors
 noted_actors t machine.GoesOn = refl
 noted_actors t (machine.Commits r) = refl
 noted_actors t (machine.Aborts e) = refl
@@ -89,11 +89,11 @@ module _ {X Op Out : Type 0} (c : Content X Op Out) (a b : ℕ) (ne : b ≡ a �
   stepped_other s p =
       let x = s.words.actors a in
       let d = machine.plan x p in
-      let o = machine.outcome a x p in
+      let o = machine.step_end a x p in
       noted_boosted (record s { words = machine.step s.words a x p; shadows = shadows_after s a p }) (s.shadows a).outcomes o
       ∙ ap (λ (f : ℕ → Actor). f b) (noted_actors (machine.does s.words a d) o) ∙ (does_rest s.words a d).actors b ne
     where
-      noted_boosted : (t : Boosted X Out) (os : List Out) (o : machine.Outcome) → (recorded t os o).words.actors b ≡ t.words.actors b
+      noted_boosted : (t : Boosted X Out) (os : List Out) (o : machine.StepEnd) → (recorded t os o).words.actors b ≡ t.words.actors b
       noted_boosted t os machine.GoesOn = refl
       noted_boosted t os (machine.Commits r) = refl
       noted_boosted t os (machine.Aborts e) = refl
@@ -130,10 +130,10 @@ module _ {X Op Out : Type 0} (c : Content X Op Out) (a b : ℕ) (ne : b ≡ a �
             (longer (s.shadows a) o);
       }) s (Others s)
       (λ t. (
-      let g = both (is_open x.place) rest t in
+      let g = and_parts (is_open x.place) rest t in
       (writes_wrote c s.words a (s.shadows a).editions (c.writes o) (open_is x.place g.0)
       (λ l m. is_undeclared x.declared (c.writes o) l
-      (both (may_write x.declared (c.writes o)) (every (is_sound c s a) (c.reads o)) g.1).0 m)).1 b ne))
+      (and_parts (may_write x.declared (c.writes o)) (every (is_sound c s a) (c.reads o)) g.1).0 m)).1 b ne))
       (λ _. refl)
 
   -- an action of a leaves the record of b
@@ -159,7 +159,7 @@ all_other : {X Op Out : Type 0} → (c : Content X Op Out) (a b : ℕ) → (b �
 all_other c a b ne [] s own = refl
 all_other c a b ne (e ∷ es) s own = all_other c a b ne es (acts c s e) own.1 ∙ own_other c a b ne s e own.0
 
-act_all-append : {V : Type 0} → (w : ℕ) (bs : List Block) (es fs : List (Action (Asked V))) (s : Boosted (Shown V) (Answered V))
+act_all-append : {V : Type 0} → (w : ℕ) (bs : List Block) (es fs : List (Action (CollectionCall V))) (s : Boosted (Shown V) (CallWithOutcome V))
     → act_all (content w bs) (es ++ fs) s ≡ act_all (content w bs) fs (act_all (content w bs) es s)
 act_all-append w bs [] fs s = refl
 act_all-append w bs (e ∷ es) fs s = act_all-append w bs es fs (acts (content w bs) s e)
@@ -173,7 +173,7 @@ module _ {V : Type 0} where
     actors = λ b ne. refl;
   }
 
-  by : (a : ℕ) (v u : World V) (es : List (Action (Asked V))) → AllOf a es → ReachedBy a v u → ReachedBy a v (acted u es)
+  by : (a : ℕ) (v u : World V) (es : List (Action (CollectionCall V))) → AllOf a es → ReachedBy a v u → ReachedBy a v (acted u es)
   by a v u es own r =
       let g = r.reached in record {
         reached = record {
@@ -198,7 +198,7 @@ module _ {V : Type 0} where
         reached = record { words = e1 ∙ g.words; blocks = e2 ∙ g.blocks; actions = g.actions; is = e3 ∙ g.is };
         own = r.own;
         seats = λ b ne. e4 b ne ∙ r.seats b ne;
-        actors = λ b ne. ap (λ (s : Boosted (Shown V) (Answered V)). s.words.actors b) e3 ∙ r.actors b ne;
+        actors = λ b ne. ap (λ (s : Boosted (Shown V) (CallWithOutcome V)). s.words.actors b) e3 ∙ r.actors b ne;
       }
 
   cancels_by : (v u : World V) (a : ℕ) (x : Seat V) → ReachedBy a v u → ReachedBy a v (cancels u a x)
@@ -210,7 +210,7 @@ module _ {V : Type 0} where
   gives_up_by v u a x [] g = cancels_by v u a x g
   gives_up_by v u a x (k ∷ ks) g = same a v u _ refl refl refl (λ b ne. put-other _ a _ b ne) g
 
-  one_by : (v u : World V) (a : ℕ) (x : Seat V) (e : Action (Asked V)) → IsOf a e → ReachedBy a v u
+  one_by : (v u : World V) (a : ℕ) (x : Seat V) (e : Action (CollectionCall V)) → IsOf a e → ReachedBy a v u
       → ReachedBy a v (seated (acted u (e ∷ [])) a x)
   one_by v u a x e own g = same a v _ _ refl refl refl (λ b ne. put-other _ a _ b ne) (by a v u (e ∷ []) (own, tt) g)
 
@@ -220,17 +220,17 @@ module _ {V : Type 0} where
       cond_both {A = After V} (eqb d.1 i) next _ (λ z. ReachedBy a v z.0) (λ _. h)
       (λ _. gives_up_by v u a (because x (refusal.Stale d.0 d.1 i)) [] g)
 
-  judges_by : (v u : World V) (a : ℕ) (x : Seat V) (o : Answered V) (d : ℕ × ℕ) (es : Entries) (next : After V) (r : Option ℕ)
+  judges_by : (v u : World V) (a : ℕ) (x : Seat V) (o : CallWithOutcome V) (d : ℕ × ℕ) (es : Entries) (next : After V) (r : Option ℕ)
       → ReachedBy a v u
       → ReachedBy a v next.0 → ReachedBy a v (judges u a x o d es next r).0
   judges_by v u a x o d es next None g h = one_by v u a _ (asks a (word.AskRead d.0)) refl g
   judges_by v u a x o d es next (Some i) g h = fresh_by v u a x d i next g h
 
-  loads_by : (v u : World V) (a : ℕ) (x : Seat V) (o : Answered V) (es : Entries) → ReachedBy a v u → ReachedBy a v (loads u a x o es).0
+  loads_by : (v u : World V) (a : ℕ) (x : Seat V) (o : CallWithOutcome V) (es : Entries) → ReachedBy a v u → ReachedBy a v (loads u a x o es).0
   loads_by v u a x o [] g = one_by v u a _ (Accept a o.asked) refl g
   loads_by v u a x o (d ∷ es) g = judges_by v u a x o d es (loads u a x o es) (lookup (actor_of u a).reads d.0) g (loads_by v u a x o es g)
 
-  answers_by : (v u : World V) (a : ℕ) (before x : Seat V) (sized o : Answered V) (editions : ℕ → ℕ) → ReachedBy a v u
+  answers_by : (v u : World V) (a : ℕ) (before x : Seat V) (sized o : CallWithOutcome V) (editions : ℕ → ℕ) → ReachedBy a v u
       → ReachedBy a v (answers u a before x sized o editions).0
   answers_by v u a before x sized o editions g =
       let c = content u.words u.blocks in
@@ -243,7 +243,7 @@ module _ {V : Type 0} where
   reads_by v u a x l (told.Number i) g = one_by v u a _ (asks a (word.AskRead l)) refl g
   reads_by v u a x l n g = one_by v u a _ (asks a (word.AskRead l)) refl g
 
-  calls_on_by : (v u : World V) (a : ℕ) (x : Seat V) (asked : Asked V) → ReachedBy a v u → ReachedBy a v (calls_on u a x asked).0
+  calls_on_by : (v u : World V) (a : ℕ) (x : Seat V) (asked : CollectionCall V) → ReachedBy a v u → ReachedBy a v (calls_on u a x asked).0
   calls_on_by v u a x asked g =
       let editions = (u.boosted.shadows a).editions in
       let o = outcome_at u a asked in
@@ -302,7 +302,7 @@ module _ {V : Type 0} where
       (λ _. same a v u _ refl refl refl (λ b ne. put-other _ a _ b ne) g)
       (λ _. same a v u _ refl refl refl (λ b ne. put-other _ a _ b ne) g)
 
-  loaded_by : (v u : World V) (a : ℕ) (x : Seat V) (o : Answered V) (d : ℕ × ℕ) (es : Entries) (n : told.Notice) → ReachedBy a v u
+  loaded_by : (v u : World V) (a : ℕ) (x : Seat V) (o : CallWithOutcome V) (d : ℕ × ℕ) (es : Entries) (n : told.Notice) → ReachedBy a v u
       → ReachedBy a v (has_loaded u a x o d es n).0
   loaded_by v u a x o d es (told.Number i) g = fresh_by v u a x d i (loads u a x o es) g (loads_by v u a x o es g)
   loaded_by v u a x o d es (told.Moved i w) g = gives_up_by v u a (because x (refusal.Moved i w)) [] g
@@ -331,7 +331,7 @@ module _ {V : Type 0} where
   cancelled_by v u a x told.Cancelled g = one_by v u a _ (asks a word.AskAbort) refl g
   cancelled_by v u a x n g = g
 
-  move : (a : ℕ) (v : World V) (e : Action (Asked V)) → IsOf a e → ReachedBy a v (acted v (e ∷ []))
+  move : (a : ℕ) (v : World V) (e : Action (CollectionCall V)) → IsOf a e → ReachedBy a v (acted v (e ∷ []))
   move a v e own = by a v v (e ∷ []) (own, tt) (nothing a v)
 
   step_by : (v : World V) (a : ℕ) (x : Seat V) (p : Stage V) → ReachedBy a v (step_at v a x p).0
@@ -402,13 +402,13 @@ module _ {V : Type 0} where
 
 module _ {V : Type 0} (blocks : List Block) (clock : ℕ) (values : List ℕ) (held : List (Held V)) (events : List (Event V)) where
   -- the actions that led there from the opening
-  pub actions_of : (actions : List (Action (Asked V))) × ((run (opened blocks clock values held) events).boosted ≡ after_actions
+  pub actions_of : (actions : List (Action (CollectionCall V))) × ((run (opened blocks clock values held) events).boosted ≡ after_actions
       (content (length values) blocks) clock (λ l. get_or values l 0) (shown_at (length values) blocks held) actions)
   actions_of = let r = run_by events (opened blocks clock values held) in (r.actions, r.is)
 
   -- and those of the events that follow
   pub later_actions : (later : List (Event V)) → let w = run (opened blocks clock values held) events in
-      (actions : List (Action (Asked V))) × ((run w later).boosted ≡ act_all (content (length values) blocks) actions w.boosted)
+      (actions : List (Action (CollectionCall V))) × ((run w later).boosted ≡ act_all (content (length values) blocks) actions w.boosted)
   later_actions later =
       let w = run (opened blocks clock values held) events in
       let o = run_by events (opened blocks clock values held) in

@@ -12,7 +12,7 @@ use Rattle.seq_model.specs.declared.event.Event.TheVariants.{Step}
 use Rattle.seq_model.specs.declared.event.Notice.TheVariants.{Refused}
 use Rattle.tx_machine.specs.Boosted.{PutGate}
 use Rattle.replay_log.specs.Base.{Shown}
-use Rattle.replay_log.specs.Contents.{Asked, Answered, content}
+use Rattle.replay_log.specs.Contents.{CollectionCall, CallWithOutcome, content}
 use Rattle.replay_log.specs.Pieces.{piece_at, covers_at}
 use Rattle.replay_log.specs.Worlds.{World, Seat, Stage, Copying, differs, is_stale, has_room, with_editions, acted, actor_of, loads}
 use Rattle.replay_log.specs.Worlds.{answers}
@@ -50,7 +50,7 @@ fresh_found reads f [] h = refl
 fresh_found reads f (l ∷ ls) h = fresh_first reads f l ls (lookup reads l) refl h (fresh_found reads f ls)
 
 module _ {V : Type 0} where
-  answers_room : (u : World V) (a : ℕ) (before x : Seat V) (sized o : Answered V) (editions : ℕ → ℕ)
+  answers_room : (u : World V) (a : ℕ) (before x : Seat V) (sized o : CallWithOutcome V) (editions : ℕ → ℕ)
       → let c = content u.words u.blocks in
       IsTooLongUnless a (has_room (actor_of u a) (c.reads sized) (c.writes sized)) (answers u a before x sized o editions).1
   answers_room u a before x sized o editions =
@@ -64,11 +64,11 @@ module _ {V : Type 0} where
       ]
 
   -- the gate of a call is put back
-  abbrev put_back : World V → ℕ → Asked V → World V
+  abbrev put_back : World V → ℕ → CollectionCall V → World V
   put_back w a asked = acted w (PutGate a asked.collection (covers_at w.words w.blocks asked) ∷ [])
 
   -- the room that a step at this stage asks for is that of o
-  room_of : (w : World V) (a : ℕ) (asked : Asked V) (o : Answered V) → (w.seats a).stage ≡ Copying asked
+  room_of : (w : World V) (a : ℕ) (asked : CollectionCall V) (o : CallWithOutcome V) → (w.seats a).stage ≡ Copying asked
       → sized_by (put_back w a asked) a asked (copied_outcome w a asked) ≡ o
       → let c = content w.words w.blocks in
       IsTooLongUnless a (has_room (actor_of w a) (c.reads o) (c.writes o)) (happens w (Step a)).1
@@ -83,10 +83,10 @@ module _ {V : Type 0} where
       u.boosted.editions in
       subst (λ (st : Stage V). IsTooLongUnless a (has_room (actor_of w a) (c.reads o) (c.writes o)) (step_at w a x st).1) (sym at)
       (subst (λ (y : Actor). IsTooLongUnless a (has_room y (c.reads o) (c.writes o)) (has_copied u a x asked).1) same
-      (subst (λ (s : Answered V). IsTooLongUnless a (has_room (actor_of u a) (c.reads s) (c.writes s)) (has_copied u a x asked).1) is room))
+      (subst (λ (s : CallWithOutcome V). IsTooLongUnless a (has_room (actor_of u a) (c.reads s) (c.writes s)) (has_copied u a x asked).1) is room))
 
   -- what is found in the world in which the gate is put back
-  put_finds : (w : World V) (a : ℕ) (asked : Asked V) (b : Bool)
+  put_finds : (w : World V) (a : ℕ) (asked : CollectionCall V) (b : Bool)
       → is_stale (actor_of w a).reads (with_editions w.boosted.editions ((content w.words w.blocks).reads (copied_outcome w a asked))) ≡ b
       → is_stale (actor_of (put_back w a asked) a).reads
       (with_editions (put_back w a asked).boosted.editions ((content w.words w.blocks).reads (copied_outcome w a asked)))
@@ -100,7 +100,7 @@ module _ {V : Type 0} where
       (put_words c w.boosted a asked.collection which)
       ∙ ap (λ (f : ℕ → ℕ). is_stale (actor_of w a).reads (with_editions f ls)) (put_keeps c w.boosted a asked.collection which).2 ∙ e
 
-  pub room_copied : (w : World V) (a : ℕ) (asked : Asked V) → (w.seats a).stage ≡ Copying asked
+  pub room_copied : (w : World V) (a : ℕ) (asked : CollectionCall V) → (w.seats a).stage ≡ Copying asked
       → let c = content w.words w.blocks in
       let o = copied_outcome w a asked in
       (IsStale (actor_of w a).reads w.boosted.editions (c.reads o) → ⊥)
@@ -111,7 +111,7 @@ module _ {V : Type 0} where
       (cond-false _ (outcome_now (put_back w a asked) asked) o
       (put_finds w a asked false (fresh_found (actor_of w a).reads w.boosted.editions _ fresh)))
 
-  pub room_stale : (w : World V) (a : ℕ) (asked : Asked V) → (w.seats a).stage ≡ Copying asked
+  pub room_stale : (w : World V) (a : ℕ) (asked : CollectionCall V) → (w.seats a).stage ≡ Copying asked
       → let c = content w.words w.blocks in
       let o = c.outcome w.boosted.parts asked in
       IsStale (actor_of w a).reads w.boosted.editions (c.reads (copied_outcome w a asked))

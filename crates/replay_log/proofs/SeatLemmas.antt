@@ -29,7 +29,7 @@ use Rattle.tx_machine.proofs.BoostedInvariant.{Inv}
 use Rattle.tx_machine.proofs.BoostedSchedules.{acts_led}
 use Rattle.tx_machine.proofs.Steady.{IsFreeAsk}
 use Rattle.replay_log.specs.Base.{Shown}
-use Rattle.replay_log.specs.Contents.{Block, Asked, Answered, block_of, first_of, home_of, is_plain, HaveStripes, content}
+use Rattle.replay_log.specs.Contents.{Block, CollectionCall, CallWithOutcome, block_of, first_of, home_of, is_plain, HaveStripes, content}
 use Rattle.replay_log.specs.Pieces.{Piece, covers_in}
 use Rattle.replay_log.specs.Worlds.{World, Seat, Stage, Idle, Beginning, Open, Locking, Releasing, Closing, Cancelling, Leaving, Reading}
 use Rattle.replay_log.specs.Worlds.{Trying, Copying, Loading, Gating, Ready, Storing, Homing, Returning, Ended, at_stage, seated, acted}
@@ -140,7 +140,7 @@ left_at y machine.Close e h = (machine.Close, e, record { rv = refl; wv = refl; 
 left_at y p e h = absurd h
 
 abbrev pub Copy : Type 0 → Type 0
-Copy V = Shadow (Shown V) (Answered V)
+Copy V = Shadow (Shown V) (CallWithOutcome V)
 
 abbrev pub IsLeft : ℕ → Entries → Type 0
 IsLeft l [] = ⊥
@@ -184,7 +184,7 @@ module _ {V : Type 0} where
     pub pieces : HasPieces n bs x z
 
   -- a call on a collection, of its kind, and no change where its transaction is a declared reader
-  abbrev pub KnownAsk : List Block → Actor → Asked V → Type 0
+  abbrev pub KnownAsk : List Block → Actor → CollectionCall V → Type 0
   KnownAsk bs y asked = (is_word_op asked.op ≡ false) × (is_known (block_of bs asked.collection) asked.op ≡ true)
       × (may_ask y asked.op ≡ true)
 
@@ -194,7 +194,7 @@ module _ {V : Type 0} where
   Left n bs y z (d ∷ es) = (is_plain n bs d.0 ≡ false) × (z.copied d.0 ≡ true) × (first_read y.calls d.0 ≡ None → z.editions d.0 ≡ d.1)
       × Left n bs y z es
 
-  pub record LoadOk (n : ℕ) (bs : List Block) (y : Actor) (z : Copy V) (o : Answered V) (es : Entries) : Type 0 where
+  pub record LoadOk (n : ℕ) (bs : List Block) (y : Actor) (z : Copy V) (o : CallWithOutcome V) (es : Entries) : Type 0 where
     pub is : o ≡ (content n bs).outcome (changes (content n bs) z.outcomes z.parts) o.asked
     pub kind : is_word_op o.asked.op ≡ false
     pub known : (r : Outcome V) × (o.outcome ≡ Some r)
@@ -247,12 +247,12 @@ module _ {V : Type 0} where
     pub stage : StageOk n bs x y z x.stage y.place
 
   -- ---- a world
-  abbrev pub SameEnded : ℕ → List (Ended V) → List (Aborted (Answered V)) → Type 0
+  abbrev pub SameEnded : ℕ → List (Ended V) → List (Aborted (CallWithOutcome V)) → Type 0
   SameEnded n [] [] = Unit {0}
   SameEnded n (e ∷ es) (f ∷ fs) = (e.rv ≡ f.word.rv) × Parts n e.calls f.word.calls f.outcomes × SameEnded n es fs
   SameEnded n es fs = ⊥
 
-  pub SameEnded-push : (n : ℕ) (es : List (Ended V)) (fs : List (Aborted (Answered V))) (e : Ended V) (f : Aborted (Answered V))
+  pub SameEnded-push : (n : ℕ) (es : List (Ended V)) (fs : List (Aborted (CallWithOutcome V))) (e : Ended V) (f : Aborted (CallWithOutcome V))
       → SameEnded n es fs
       → e.rv ≡ f.word.rv
       → Parts n e.calls f.word.calls f.outcomes → SameEnded n (es ++ e ∷ []) (fs ++ f ∷ [])
@@ -330,7 +330,7 @@ module _ {V : Type 0} where
       (mine w.boosted b) (mine v.boosted b)
       (p.actors b ne) (p.shadows b ne) (λ k. p.gates b k ne) (h b ne))
 
-  pub at_by : (w : World V) (a : ℕ) (y y1 y2 : Actor) (z z1 z2 : Copy V) (g g1 g2 : ℕ → Bool) (e : Action (Asked V)) → At w a y z g
+  pub at_by : (w : World V) (a : ℕ) (y y1 y2 : Actor) (z z1 z2 : Copy V) (g g1 g2 : ℕ → Bool) (e : Action (CollectionCall V)) → At w a y z g
       → Goes w.boosted (acts (content w.words w.blocks) w.boosted e) a y1 z1 g1
       → y1 ≡ y2 → z1 ≡ z2 → ((k : ℕ) → g1 k ≡ g2 k) → At (acted w (e ∷ [])) a y2 z2 g2
   at_by w a y y1 y2 z z1 z2 g g1 g2 e k t ey ez eg = record {
@@ -411,7 +411,7 @@ module _ {V : Type 0} where
       turned true = refl
       turned false = refl
 
-  pub word_joins : (n : ℕ) (done : List (Call V × Reply V)) (cs : List machine.Call) (os : List (Answered V)) (v : machine.Call)
+  pub word_joins : (n : ℕ) (done : List (Call V × Reply V)) (cs : List machine.Call) (os : List (CallWithOutcome V)) (v : machine.Call)
       → is_of_word n v ≡ true
       → Parts n done cs os
       → Parts n (done ++ pair_of v ∷ []) (cs ++ v ∷ []) os
@@ -424,7 +424,7 @@ module _ {V : Type 0} where
       }
 
   -- a word call at a location of a collection is none of the transaction's own
-  pub edition_joins : (n : ℕ) (done : List (Call V × Reply V)) (cs : List machine.Call) (os : List (Answered V)) (v : machine.Call)
+  pub edition_joins : (n : ℕ) (done : List (Call V × Reply V)) (cs : List machine.Call) (os : List (CallWithOutcome V)) (v : machine.Call)
       → is_of_word n v ≡ false
       → Parts n done cs os → Parts n done (cs ++ v ∷ []) os
   edition_joins n done cs os v e p = record {
@@ -432,8 +432,8 @@ module _ {V : Type 0} where
     held = p.held;
   }
 
-  pub held_joins : (n : ℕ) (done : List (Call V × Reply V)) (cs : List machine.Call) (os : List (Answered V)) (c : Call V × Reply V)
-      (o : Answered V)
+  pub held_joins : (n : ℕ) (done : List (Call V × Reply V)) (cs : List machine.Call) (os : List (CallWithOutcome V)) (c : Call V × Reply V)
+      (o : CallWithOutcome V)
       → is_on_word c ≡ false
       → c.0 ≡ call_of o → option_map (λ r. r.reply) o.outcome ≡ Some c.1 → Parts n done cs os → Parts n (done ++ c ∷ []) cs (os ++ o ∷ [])
   held_joins n done cs os c o e is told p =

@@ -29,11 +29,11 @@ use Rattle.tx_machine.specs.Serial.{AllAborted, after_actions, ended}
 use Rattle.tx_machine.specs.Serial as serial
 use Rattle.tx_machine.proofs.BoostedInvariant.{Inv}
 use Rattle.tx_machine.proofs.States.{Model}
-use Rattle.tx_machine.proofs.Stated.{states_serial, states_left, states_saw, states_aborted}
+use Rattle.tx_machine.proofs.SequentialRuns.{states_serial, states_left, states_saw, states_aborted}
 use Rattle.tx_machine.proofs.Models.{fits_all}
 use Rattle.tx_machine.proofs.BoostedSchedules.{edition_few, all_ok, all-opening, all_words_saw, opens_ok}
 use Rattle.replay_log.specs.Base.{Shown}
-use Rattle.replay_log.specs.Contents.{Block, Asked, Answered, HaveStripes, is_plain, content}
+use Rattle.replay_log.specs.Contents.{Block, CollectionCall, CallWithOutcome, HaveStripes, is_plain, content}
 use Rattle.replay_log.proofs.CollectionRuns as runs_on
 use Rattle.replay_log.specs.Collections.{Suit, shown_at}
 use Rattle.replay_log.proofs.CollectionRuns.{AreReplies, IsRunOn, held_at, sequential}
@@ -56,6 +56,7 @@ use Rattle.replay_log.proofs.TraceLemmas.{shows_state}
 use Rattle.replay_log.specs.WorldSerial.{AreUpTo, Holds, SawAt, AllSaw, HasWritten, IsSerial, commits_at}
 use Rattle.replay_log.proofs.ContentLemmas.{content_frame}
 use Rattle.std.proofs.lemmas.Bool.Decides.{nat_tests}
+use Rattle.seq_model.proofs.LogicLemmas.{nat_lt-false}
 use Rattle.replay_log.proofs.CallLemmas.{no_word_at}
 use Rattle.replay_log.proofs.CollectionLemmas.{collections}
 use Rattle.replay_log.proofs.RequestLemmas.{run_by, actions_of, later_actions}
@@ -142,9 +143,6 @@ storing_in : (s : world.World) (y : Actor) (p : Place) → AtStoring p → Place
 storing_in s y (machine.Store (l ∷ ls)) h pl = (l ∷ ls, pl.0)
 storing_in s y p h pl = absurd h
 
-not_below : (l n : ℕ) → nat_lt l n ≡ false → n ≤ l
-not_below l n h = grind (arith, nat_tests)
-
 get_or-none : (xs : List ℕ) (i : ℕ) → length xs ≤ i → get_or xs i 0 ≡ 0
 get_or-none [] i h = refl
 get_or-none (x ∷ xs) zero h = absurd (omega (arith, h))
@@ -215,7 +213,7 @@ module _ {V : Type 0} where
   done_of s n bs x y z st p h half pl = absurd (true≢false (sym half))
 
   -- What the machine promises, by its words and its collections.
-  record Facts (n : ℕ) (bs : List Block) (m : Memory) (hs : List (Held V)) (s : Boosted (Shown V) (Answered V)) : Type 0 where
+  record Facts (n : ℕ) (bs : List Block) (m : Memory) (hs : List (Held V)) (s : Boosted (Shown V) (CallWithOutcome V)) : Type 0 where
     order : IsInOrder (serial.words s.history)
     run_words : IsRun m (serial.words s.history)
     run_held : IsRunOn hs s.history
@@ -227,14 +225,14 @@ module _ {V : Type 0} where
         × AreReplies (held_at s.history e.word.rv hs) e.outcomes) s.aborted
 
   -- what the open transaction of a in s saw, seen from t
-  abbrev SawFrom : Memory → List (Held V) → Boosted (Shown V) (Answered V) → Boosted (Shown V) (Answered V) → ℕ → Type 0
+  abbrev SawFrom : Memory → List (Held V) → Boosted (Shown V) (CallWithOutcome V) → Boosted (Shown V) (CallWithOutcome V) → ℕ → Type 0
   SawFrom m hs s t a =
       IsLegal (memory_after m (upto (s.words.actors a).rv (serial.words t.history))) (s.words.actors a).calls
       × AreReplies (held_at t.history (s.words.actors a).rv hs) (s.shadows a).outcomes
 
   module _ (n : ℕ) (bs : List Block) (stripes : HaveStripes bs) (clock : ℕ) (m : Memory) (hs : List (Held V)) (suit : Suit bs hs)
-      (actions : List (Action (Asked V))) where
-    abbrev after_them : Boosted (Shown V) (Answered V)
+      (actions : List (Action (CollectionCall V))) where
+    abbrev after_them : Boosted (Shown V) (CallWithOutcome V)
     after_them = after_actions (content n bs) clock m (shown_at n bs hs) actions
 
     abbrev model : Model (content {V = V} n bs) sequential (Suit bs)
@@ -273,7 +271,7 @@ module _ {V : Type 0} where
         }
 
     -- and what an open transaction saw, whatever happens later
-    saw : (later : List (Action (Asked V))) (a : ℕ) → SawFrom m hs after_them (act_all (content n bs) later after_them) a
+    saw : (later : List (Action (CollectionCall V))) (a : ℕ) → SawFrom m hs after_them (act_all (content n bs) later after_them) a
     saw later a =
         let s = after_them in
         let c = content n bs in
@@ -318,7 +316,7 @@ module _ {V : Type 0} where
     world_facts : Facts n bs m hs w.boosted
     world_facts =
         let z = actions_of bs clock values hs events in
-        subst (λ (s : Boosted (Shown V) (Answered V)). Facts n bs m hs s) (sym z.1) (facts n bs stripes clock m hs suit z.0)
+        subst (λ (s : Boosted (Shown V) (CallWithOutcome V)). Facts n bs m hs s) (sym z.1) (facts n bs stripes clock m hs suit z.0)
 
     same_records : SameRecords n w.records w.boosted.history
     same_records = subst (λ i. SameRecords i w.records w.boosted.history) words_are linked.base.records
@@ -334,7 +332,7 @@ module _ {V : Type 0} where
         (subst (λ (cs : List Block). StageOk w.words cs (w.seats a) (w.boosted.words.actors a) (w.boosted.shadows a) (w.seats a).stage
         (w.boosted.words.actors a).place) blocks_are (linked.seats a).stage)
 
-    ended_saw : (es : List (Ended V)) (fs : List (Aborted (Answered V))) → SameEnded n es fs
+    ended_saw : (es : List (Ended V)) (fs : List (Aborted (CallWithOutcome V))) → SameEnded n es fs
         → AllAborted (λ e. IsLegal (memory_after m (upto e.word.rv (serial.words w.boosted.history))) e.word.calls
         × AreReplies (held_at w.boosted.history e.word.rv hs) e.outcomes) fs → AllSaw opening w.records es
     ended_saw [] fs h g = tt
@@ -389,8 +387,8 @@ module _ {V : Type 0} where
         let ac = actions_of bs clock values hs events in
         let lt = later_actions bs clock values hs events later in
         let seen : SawFrom m hs s t.boosted a =
-        subst (λ (u : Boosted (Shown V) (Answered V)). SawFrom m hs s u a) (sym lt.1)
-        (subst (λ (u : Boosted (Shown V) (Answered V)). SawFrom m hs u (act_all (content n bs) lt.0 u) a) (sym ac.1)
+        subst (λ (u : Boosted (Shown V) (CallWithOutcome V)). SawFrom m hs s u a) (sym lt.1)
+        (subst (λ (u : Boosted (Shown V) (CallWithOutcome V)). SawFrom m hs u (act_all (content n bs) lt.0 u) a) (sym ac.1)
         (saw n bs stripes clock m hs suit ac.0 lt.0 a)) in
         stage_saw n bs x y z x.stage y.place opening t.records
         (λ tx. subst (λ i. AreLegal x.calls (state_at i t.records opening)) (sym tx.0)
@@ -424,7 +422,7 @@ module _ {V : Type 0} where
         }
 
     -- ---- what began later has a number that is at least each one before
-    up_to : (k : ℕ) (rs : List (ℕ × Record V)) (qs : List (Committed (Answered V))) → SameRecords n rs qs → AllRecords (λ r. r.number ≤ k)
+    up_to : (k : ℕ) (rs : List (ℕ × Record V)) (qs : List (Committed (CallWithOutcome V))) → SameRecords n rs qs → AllRecords (λ r. r.number ≤ k)
         (serial.words qs) → AreUpTo k rs
     up_to k [] qs g h = tt
     up_to k (r ∷ rs) [] g h = absurd g
@@ -447,8 +445,8 @@ module _ {V : Type 0} where
         let first_ok = opens_ok c f clock m (shown_at n bs hs) in
         let few = edition_few c f (act_all c ac.0 o) l (all_ok c f ac.0 o first_ok) pl in
         let first = ap (λ (z : Memory). z l) (all-opening c f ac.0 o first_ok).1 in
-        let none = get_or-none values l (not_below l n (no_word_at n bs l pl)) in
-        subst (λ (t : Boosted (Shown V) (Answered V)). t.editions l ≤ t.words.clock) (sym ac.1) (omega (arith, few, first, none))
+        let none = get_or-none values l (nat_lt-false l n (no_word_at n bs l pl)) in
+        subst (λ (t : Boosted (Shown V) (CallWithOutcome V)). t.editions l ≤ t.words.clock) (sym ac.1) (omega (arith, few, first, none))
 
     pub begins_above : (a rv : ℕ) → (w.seats a).stage ≡ Beginning → (happens w (Step a)).1 ≡ note.Answered a (answer.Begun rv)
         → AreUpTo rv w.records

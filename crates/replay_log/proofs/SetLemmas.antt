@@ -5,6 +5,7 @@ use Rattle.std.proofs.Common.{◌≡◌, ℕ, ◌+◌, ◌≤◌, Bool, true, fa
 use Rattle.std.proofs.Common.{refl, sym, ◌∙◌, ap, subst, true≢false, arith, eqb}
 use Rattle.std.specs.Prelude.{nat_le, not, if◌then◌else◌}
 use Rattle.std.proofs.lemmas.Bool.{cond_both, cond-true}
+use Rattle.seq_model.proofs.LogicLemmas.{some-none}
 use Rattle.vlock_word.specs.declared.lock_word.LockWord.{LockWord}
 use Rattle.vlock_word.specs.declared.lock_word.LockWord.TheVariants.{Free, Locked}
 use Rattle.tx_sets.specs.Entries.{Entries, IsRising, lookup, with_entry, locations}
@@ -14,7 +15,7 @@ use Rattle.tx_machine.specs.Actor.{Place, Actor, goes}
 use Rattle.tx_machine.specs.Requests as word
 use Rattle.tx_machine.specs.Requests.{Request, ask, wrote}
 use Rattle.tx_machine.specs.World as world
-use Rattle.tx_machine.specs.World.{World as Words, plan, put, Outcome}
+use Rattle.tx_machine.specs.World.{World as Words, plan, put, StepEnd}
 use Rattle.tx_machine.proofs.Sets.{put-same}
 use Rattle.tx_machine.specs.Content.{Content}
 use Rattle.tx_machine.specs.Boosted.{Boosted, OnWords, TakeGate, PutGate, GoHome, word_step, writes_asked, on_words, gated, copied}
@@ -110,9 +111,6 @@ new_one es l v ls rising = by (lookup es l) refl
     fewer : length (new_in (with_entry es l v) ls) ≤ length (new_in es ls)
     fewer = new_fewer es l v ls
 
-    some_no : (u : ℕ) → Some u ≡ None → ⊥
-    some_no u e = cc
-
     by : (o : Option ℕ) → lookup es l ≡ o → length (with_entry es l v) + length (new_in (with_entry es l v) ls) ≤ length es + length
         (new_in es (l ∷ ls))
     by None e =
@@ -120,7 +118,7 @@ new_one es l v ls rising = by (lookup es l) refl
         let more = ap length (cond-true (is_none (lookup es l)) (l ∷ new_in es ls) (new_in es ls) (ap is_none e)) in
         omega (arith, fewer, grown, more)
     by (Some u) e =
-        let same = length-with_entry_there es l v rising (λ none. some_no u (sym e ∙ none)) in
+        let same = length-with_entry_there es l v rising (λ none. some-none u (sym e ∙ none)) in
         let more = new_rest es l ls in
         omega (arith, fewer, same, more)
 
@@ -220,7 +218,7 @@ step_sets s y machine.Leave h = (refl, refl)
 step_sets s y machine.Close h = (refl, refl)
 
 -- ---- actions
-noted_actors : (s : Words) (q : Outcome) → (world.noted s q).actors ≡ s.actors
+noted_actors : (s : Words) (q : StepEnd) → (world.noted s q).actors ≡ s.actors
 noted_actors s world.GoesOn = refl
 noted_actors s (world.Commits r) = refl
 noted_actors s (world.Aborts e) = refl
@@ -230,8 +228,8 @@ module _ {X Out : Type 0} where
   pub moved_is : (s : Boosted X Out) (a : ℕ) (x : Actor) (p : Place) → s.words.actors a ≡ x
       → (word_step s a x p).words.actors a ≡ learns s.words x (plan x p)
   moved_is s a x p e =
-      ap (λ (t : Words). t.actors a) (recorded_words _ (s.shadows a).outcomes (world.outcome a x p))
-      ∙ ap (λ (f : ℕ → Actor). f a) (noted_actors (world.does s.words a (plan x p)) (world.outcome a x p))
+      ap (λ (t : Words). t.actors a) (recorded_words _ (s.shadows a).outcomes (world.step_end a x p))
+      ∙ ap (λ (f : ℕ → Actor). f a) (noted_actors (world.does s.words a (plan x p)) (world.step_end a x p))
       ∙ does_learns s.words a (plan x p) ∙ ap (λ (u : Actor). learns s.words u (plan x p)) e
 
 module _ {X Op Out : Type 0} (c : Content X Op Out) where

@@ -7,7 +7,7 @@
 use Rattle.std.proofs.Common.{◌≡◌, ℕ, zero, suc, ◌+◌, ◌<◌, ◌≤◌, Bool, true, false, cond, true≢false, not, ◌&&◌, ◌||◌, List, [], ◌∷◌, ◌++◌}
 use Rattle.std.proofs.Common.{length, Option, Some, None, ◌⊎◌, inl, inr, refl, sym, ◌∙◌, ap, subst, arith, eqb}
 use Rattle.std.specs.Prelude.{nat_lt, nat_le, if◌then◌else◌}
-use Rattle.std.proofs.lemmas.Bool.{cond_both, cond-true, cond-false, cases_eq}
+use Rattle.std.proofs.lemmas.Bool.{cond_both, cond-true, cond-false, cases_eq, and_parts}
 use Rattle.std.proofs.lemmas.Bool.Decides.{nat_tests}
 use Rattle.tx_sets.specs.Entries.{Entries, lookup, locations}
 use Rattle.tx_sets.proofs.EntryLemmas.{length-with_entry_new}
@@ -30,11 +30,12 @@ use Rattle.seq_model.specs.declared.event.Request.{Request}
 use Rattle.seq_model.specs.declared.event.Request.TheVariants as request
 use Rattle.seq_model.specs.declared.event.Notice.TheVariants.{Refused}
 use Rattle.seq_model.specs.declared.limits.TheConstants.{CALL_LIMIT}
+use Rattle.seq_model.proofs.LogicLemmas.{nat_le-true, some-none}
 use Rattle.tx_machine.specs.Content.{Content}
 use Rattle.tx_machine.specs.Boosted.{Boosted, TakeGate, PutGate, GoHome, Accept, accepted, longer, writes_asked, is_open, is_none}
 use Rattle.tx_machine.specs.Boosted.{is_sound, is_held, every, may_write, changes, on_words}
 use Rattle.replay_log.specs.Base.{Shown}
-use Rattle.replay_log.specs.Contents.{Block, Asked, Answered, HaveStripes, content}
+use Rattle.replay_log.specs.Contents.{Block, CollectionCall, CallWithOutcome, HaveStripes, content}
 use Rattle.replay_log.specs.Pieces.{piece_at, covers_at}
 use Rattle.replay_log.specs.Worlds.{World, Seat, Stage, Idle, Beginning, Open, Locking, Releasing, Closing, Cancelling, Leaving, Reading}
 use Rattle.replay_log.specs.Worlds.{Trying, Copying, Loading, Gating, Ready, Storing, Homing, Returning, After, new_in, fits, has_room}
@@ -50,15 +51,12 @@ use Rattle.replay_log.proofs.RequestLemmas.{happens_by}
 use Rattle.replay_log.proofs.PlaceLemmas.{SameTx, AfterRead, read_after, reading_quiet}
 use Rattle.replay_log.proofs.SeatLemmas.{Copy, AtLocking, AtStoring, StageOk, Linked, at_of}
 use Rattle.replay_log.proofs.StageLemmas.{at_move}
-use Rattle.replay_log.proofs.CallLemmas.{both_true, reading_none}
+use Rattle.replay_log.proofs.CallLemmas.{reading_none}
 use Rattle.replay_log.proofs.EventLemmas.{happens_linked, opened_linked}
 use Rattle.replay_log.proofs.CountLemmas.{read_fewer, locations_of, locations-cons}
 use Rattle.replay_log.proofs.ProgressLemmas.{world_few}
 use Rattle.replay_log.proofs.SetLemmas.{AreSmallSets, SameSets, small_same, IsNoWrite, IsNoRead, FitsWrites, writes_small}
 use Rattle.replay_log.proofs.SetLemmas.{asked_write_small, moved_is, take_words, put_words, home_words, asked_sets, moved_sets}
-
-at_most : (m n : ℕ) → nat_le m n ≡ true → m ≤ n
-at_most m n h = grind (arith, nat_tests)
 
 -- one more location fits the read set, or none is kept
 abbrev HasRoom : Actor → Type 0
@@ -68,9 +66,6 @@ HasRoom y = (y.declared ≡ true) ⊎ (length y.reads < 4096)
 abbrev Fit : Actor → (rs ws : List ℕ) → Type 0
 Fit y rs ws = (y.declared ≡ true) ⊎ ((length y.reads + length (new_in y.reads rs) ≤ 4096)
     × (length y.writes + length (new_in y.writes ws) ≤ 4096))
-
-no_some : (v : ℕ) → Some v ≡ None → ⊥
-no_some v e = cc
 
 read_longer : (declared : Bool) (es : Entries) (l v : ℕ) → lookup es l ≡ None → length (machine.with_read declared es l v) ≤ length es + 1
 read_longer true es l v none = omega arith
@@ -141,7 +136,7 @@ room_fits y rs ws h = by y.declared refl h
   where
     by : (b : Bool) → y.declared ≡ b → (b || (fits y.reads rs && fits y.writes ws)) ≡ true → Fit y rs ws
     by true e h = inl e
-    by false e h = inr (let q = both_true (fits y.reads rs) (fits y.writes ws) h in (at_most _ 4096 q.0, at_most _ 4096 q.1))
+    by false e h = inr (let q = and_parts (fits y.reads rs) (fits y.writes ws) h in (nat_le-true _ 4096 q.0, nat_le-true _ 4096 q.1))
 
 -- a read keeps what its actor declared
 ask_read_declared : (y : Actor) (l : ℕ) (own seen : Option ℕ) → (word.read y l own seen).declared ≡ y.declared
@@ -222,20 +217,20 @@ module _ {V : Type 0} where
   gives_up_sized u a x (k ∷ ks) h = seated_sized u a (at_stage x (Returning (k ∷ ks))) h
 
   -- ---- a call on a collection
-  accept_small : (u : World V) (a : ℕ) (o : Answered V) → o ≡ outcome_at u a o.asked → SmallAt u a
+  accept_small : (u : World V) (a : ℕ) (o : CallWithOutcome V) → o ≡ outcome_at u a o.asked → SmallAt u a
       → FitsWrites (u.boosted.words.actors a) ((content u.words u.blocks).writes o) → SmallAt (acted u (Accept a o.asked ∷ [])) a
   accept_small u a o is h f =
       let c = content u.words u.blocks in
       let s = u.boosted in
       let y = s.words.actors a in
-      let written : Boosted (Shown V) (Answered V) = record s {
+      let written : Boosted (Shown V) (CallWithOutcome V) = record s {
         words = world.run
             (writes_asked a (s.shadows a).editions (c.writes o)) s.words;
         shadows = world.put s.shadows a (longer (s.shadows a) o);
       } in
       subst (λ q. AreSmallSets ((accepted c s a q).words.actors a)) is
       (cond_both (is_open y.place && (may_write y.declared (c.writes o) && every (is_sound c s a) (c.reads o))) written s
-      (λ (t : Boosted (Shown V) (Answered V)). AreSmallSets (t.words.actors a))
+      (λ (t : Boosted (Shown V) (CallWithOutcome V)). AreSmallSets (t.words.actors a))
       (λ _. writes_small s.words a (s.shadows a).editions (c.writes o) h f) (λ _. h))
 
   fresh_sized : (u : World V) (a : ℕ) (x : Seat V) (d : ℕ × ℕ) (v : ℕ) (next : After V) → SmallAt u a → SizedAt next.0 a
@@ -243,7 +238,7 @@ module _ {V : Type 0} where
   fresh_sized u a x d v next h n = choose_sized a (eqb d.1 v) next _ (λ _. n)
       (λ _. cancels_sized u a (because x (refusal.Stale d.0 d.1 v)) h)
 
-  judges_sized : (u : World V) (a : ℕ) (x : Seat V) (o : Answered V) (d : ℕ × ℕ) (es : Entries) (next : After V) (r : Option ℕ)
+  judges_sized : (u : World V) (a : ℕ) (x : Seat V) (o : CallWithOutcome V) (d : ℕ × ℕ) (es : Entries) (next : After V) (r : Option ℕ)
       → (u.boosted.words.actors a).place ≡ machine.Open → lookup (u.boosted.words.actors a).reads d.0 ≡ r
       → SmallAt u a → Fit (u.boosted.words.actors a) (locations (d ∷ es)) ((content u.words u.blocks).writes o)
       → ((v : ℕ) → r ≡ Some v → SizedAt next.0 a) → SizedAt (judges u a x o d es next r).0 a
@@ -263,7 +258,7 @@ module _ {V : Type 0} where
       )
   judges_sized u a x o d es next (Some v) e is h f n = fresh_sized u a x d v next h (n v refl)
 
-  loads_sized : (es : Entries) (u : World V) (a : ℕ) (x : Seat V) (o : Answered V) → (u.boosted.words.actors a).place ≡ machine.Open
+  loads_sized : (es : Entries) (u : World V) (a : ℕ) (x : Seat V) (o : CallWithOutcome V) → (u.boosted.words.actors a).place ≡ machine.Open
       → o ≡ outcome_at u a o.asked
       → SmallAt u a → Fit (u.boosted.words.actors a) (locations es) ((content u.words u.blocks).writes o) → SizedAt (loads u a x o es).0 a
   loads_sized [] u a x o e is h f =
@@ -276,7 +271,7 @@ module _ {V : Type 0} where
       (λ v old. loads_sized es u a x o e is h (fit_old y d.0 v (locations es) ws old (subst (λ ls. Fit y ls ws) (locations-cons d es) f)))
 
   -- with a stale one among those that are judged without a step, the call is aborted at once
-  differs_sized : (u : World V) (a : ℕ) (x : Seat V) (o : Answered V) (d : ℕ × ℕ) (es : Entries) (next : After V) (others : Bool)
+  differs_sized : (u : World V) (a : ℕ) (x : Seat V) (o : CallWithOutcome V) (d : ℕ × ℕ) (es : Entries) (next : After V) (others : Bool)
       (r : Option ℕ) → SmallAt u a → (others ≡ true → SizedAt next.0 a) → differs d others r ≡ true
       → SizedAt (judges u a x o d es next r).0 a
   differs_sized u a x o d es next others None h n e = absurd (true≢false (sym e))
@@ -284,7 +279,7 @@ module _ {V : Type 0} where
       choose_sized a (eqb d.1 v) next _ (λ same. n (sym (cond-true (eqb d.1 v) others true same) ∙ e))
       (λ _. cancels_sized u a (because x (refusal.Stale d.0 d.1 v)) h)
 
-  stale_sized : (es : Entries) (u : World V) (a : ℕ) (x : Seat V) (o : Answered V) → SmallAt u a
+  stale_sized : (es : Entries) (u : World V) (a : ℕ) (x : Seat V) (o : CallWithOutcome V) → SmallAt u a
       → is_stale (u.boosted.words.actors a).reads es ≡ true → SizedAt (loads u a x o es).0 a
   stale_sized [] u a x o h e = absurd (true≢false (sym e))
   stale_sized (d ∷ es) u a x o h e =
@@ -292,16 +287,16 @@ module _ {V : Type 0} where
       differs_sized u a x o d es (loads u a x o es) (is_stale reads es) (lookup reads d.0) h (stale_sized es u a x o h) e
 
   -- the locations of a call fit the sets, or it is aborted at once
-  abbrev FitsOrEnds : Content (Shown V) (Asked V) (Answered V) → Actor → Answered V → (ℕ → ℕ) → Type 0
+  abbrev FitsOrEnds : Content (Shown V) (CollectionCall V) (CallWithOutcome V) → Actor → CallWithOutcome V → (ℕ → ℕ) → Type 0
   FitsOrEnds c y o editions = Fit y (c.reads o) (c.writes o) ⊎ (is_stale y.reads (with_editions editions (c.reads o)) ≡ true)
 
-  sized_fits : (c : Content (Shown V) (Asked V) (Answered V)) (y : Actor) (now o : Answered V) (editions : ℕ → ℕ) (b : Bool)
+  sized_fits : (c : Content (Shown V) (CollectionCall V) (CallWithOutcome V)) (y : Actor) (now o : CallWithOutcome V) (editions : ℕ → ℕ) (b : Bool)
       → is_stale y.reads (with_editions editions (c.reads o)) ≡ b
       → let sized = if b then now else o in has_room y (c.reads sized) (c.writes sized) ≡ true → FitsOrEnds c y o editions
   sized_fits c y now o editions true e room = inr e
   sized_fits c y now o editions false e room = inl (room_fits y (c.reads o) (c.writes o) room)
 
-  answers_sized : (u : World V) (a : ℕ) (before x : Seat V) (asked : Asked V) (sized : Answered V) (editions : ℕ → ℕ)
+  answers_sized : (u : World V) (a : ℕ) (before x : Seat V) (asked : CollectionCall V) (sized : CallWithOutcome V) (editions : ℕ → ℕ)
       → (u.boosted.words.actors a).place ≡ machine.Open → SmallAt u a
       → (let c = content u.words u.blocks in
       let y = u.boosted.words.actors a in
@@ -320,7 +315,7 @@ module _ {V : Type 0} where
       ])
       (λ _. seated_sized u a (at_stage before Open) h)
 
-  calls_on_sized : (u : World V) (a : ℕ) (x : Seat V) (asked : Asked V) → (u.boosted.words.actors a).place ≡ machine.Open → SmallAt u a
+  calls_on_sized : (u : World V) (a : ℕ) (x : Seat V) (asked : CollectionCall V) → (u.boosted.words.actors a).place ≡ machine.Open → SmallAt u a
       → SizedAt (calls_on u a x asked).0 a
   calls_on_sized u a x asked e h =
       choose_sized a (x.copied asked.collection (piece_at u.blocks asked)) _ _
@@ -331,7 +326,7 @@ module _ {V : Type 0} where
       (λ _. seated_sized u a (at_stage x (Trying asked more_tries)) h)
 
   -- a load of a call: z is the actor after it
-  has_loaded_sized : (u : World V) (a : ℕ) (x : Seat V) (y z : Actor) (o : Answered V) (d : ℕ × ℕ) (es : Entries) (n : told.Notice)
+  has_loaded_sized : (u : World V) (a : ℕ) (x : Seat V) (y z : Actor) (o : CallWithOutcome V) (d : ℕ × ℕ) (es : Entries) (n : told.Notice)
       → u.boosted.words.actors a ≡ z
       → u.seats a ≡ x → x.stage ≡ Loading o (d ∷ es) → AreSmallSets y → Fit y (locations (d ∷ es)) ((content u.words u.blocks).writes o)
       → lookup y.reads d.0 ≡ None → o ≡ outcome_at u a o.asked → AfterRead d.0 y z n → SizedAt (has_loaded u a x o d es n).0 a
@@ -395,14 +390,14 @@ module _ {V : Type 0} where
       by true d room = inl d
       by false d room =
           let y = w.boosted.words.actors a in
-          let few = at_most (length y.reads + length (new_in y.reads (l ∷ []))) 4096 room in
+          let few = nat_le-true (length y.reads + length (new_in y.reads (l ∷ []))) 4096 room in
           let one = new_cons y.reads l [] is2 in inr (omega (arith, few, one))
 
   allowed_sized : (w : World V) (a : ℕ) (x : Seat V) (known room : Bool) (next : After V) → SizedAt w a → (room ≡ true → SizedAt next.0 a)
       → SizedAt (if_allowed w a x known room next).0 a
   allowed_sized w a x known room next h n =
       choose_sized a known _ _ (λ _. choose_sized a (nat_lt (length x.calls) CALL_LIMIT && room) next _
-      (λ both. n (both_true (nat_lt (length x.calls) CALL_LIMIT) room both).1) (λ _. h)) (λ _. h)
+      (λ both. n (and_parts (nat_lt (length x.calls) CALL_LIMIT) room both).1) (λ _. h)) (λ _. h)
 
   write_sized : (w : World V) (a : ℕ) (x : Seat V) (l v : ℕ) → SmallAt w a → fits (w.boosted.words.actors a).writes (l ∷ []) ≡ true
       → SizedAt (seated (acted w (asks a (word.AskWrite l v) ∷ [])) a (with_call x (record { target = l; op = Write v }) reply.Done)) a
@@ -411,11 +406,11 @@ module _ {V : Type 0} where
       let s = w.boosted in
       let y = s.words.actors a in
       let z = word.ask y y.place (word.AskWrite l v) in
-      let few = at_most (length y.writes + length (new_in y.writes (l ∷ []))) 4096 room in
+      let few = nat_le-true (length y.writes + length (new_in y.writes (l ∷ []))) 4096 room in
       let small : AreSmallSets z = asked_write_small y y.place l v h (inr few) in
       seated_sized (acted w (asks a (word.AskWrite l v) ∷ [])) a (with_call x (record { target = l; op = Write v }) reply.Done)
       (cond_both (c.plain l) (record s { words = world.now s.words a z }) s
-      (λ (t : Boosted (Shown V) (Answered V)). AreSmallSets (t.words.actors a))
+      (λ (t : Boosted (Shown V) (CallWithOutcome V)). AreSmallSets (t.words.actors a))
       (λ _. subst AreSmallSets (sym (put-same s.words.actors a z)) small) (λ _. h))
 
   op_sized : (w : World V) (a : ℕ) (x : Seat V) (t : ℕ) (op : Op V) → SizedAt w a → SmallAt w a
@@ -525,7 +520,7 @@ module _ {V : Type 0} where
       let y = s.words.actors a in
       let z = word.ask y y.place word.AskStore in
       cond_both (every (is_held c s a) (locations y.writes)) (on_words s (world.now s.words a z)) s
-      (λ (t : Boosted (Shown V) (Answered V)). IsNoRead (t.words.actors a).place)
+      (λ (t : Boosted (Shown V) (CallWithOutcome V)). IsNoRead (t.words.actors a).place)
       (λ _. subst (λ (q : Actor). IsNoRead q.place) (sym (put-same s.words.actors a z ∙ ap (λ p. word.ask y p word.AskStore) e)) tt)
       (λ _. subst IsNoRead (sym e) tt)
 

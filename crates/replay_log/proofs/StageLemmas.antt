@@ -7,12 +7,13 @@ use Rattle.std.specs.Prelude.{nat_lt, if◌then◌else◌, ◌==◌}
 use Rattle.std.proofs.lemmas.Bool.{cases_eq, cases_Bool, cond_both, cond-true, cond-false}
 use Rattle.std.proofs.lemmas.Bool.Decides.{nat_tests}
 use Rattle.std.proofs.lemmas.List.{append-nil, append_assoc}
+use Rattle.std.proofs.lemmas.Option.{none-some}
 use Rattle.tx_sets.specs.Entries.{Entries, lookup, locations}
 use Rattle.tx_machine.specs.Actor as machine
 use Rattle.tx_machine.specs.Actor.{Place, Actor, goes}
 use Rattle.tx_machine.specs.Requests as word
 use Rattle.tx_machine.specs.World as world
-use Rattle.tx_machine.specs.World.{plan, outcome}
+use Rattle.tx_machine.specs.World.{plan, step_end}
 use Rattle.tx_machine.specs.Notices as told
 use Rattle.tx_machine.specs.Notices.{notice}
 use Rattle.tx_machine.proofs.Sets.{Member, member_locations, locations_member}
@@ -24,12 +25,13 @@ use Rattle.seq_model.specs.declared.refusal.Refusal.{Refusal}
 use Rattle.seq_model.specs.declared.refusal.Refusal.TheVariants as refusal
 use Rattle.seq_model.specs.declared.event.Notice.TheVariants.{Quiet}
 use Rattle.seq_model.specs.Runs.{insert_record}
+use Rattle.seq_model.proofs.LogicLemmas.{nat_lt-true, lt-nat_lt}
 use Rattle.tx_machine.specs.Content.{IsIn, has}
 use Rattle.tx_machine.specs.Boosted.{Boosted, TakeGate, PutGate, GoHome, shadows_after, is_open, is_stored, is_committing, is_actor}
 use Rattle.tx_machine.specs.Boosted.{is_held, is_given, every, fresh, copied, acts, is_none}
 use Rattle.tx_machine.proofs.BoostedSchedules.{acts_led}
 use Rattle.replay_log.specs.Base.{Shown}
-use Rattle.replay_log.specs.Contents.{Block, Asked, Answered, end_of, home_of, is_plain, content}
+use Rattle.replay_log.specs.Contents.{Block, CollectionCall, CallWithOutcome, end_of, home_of, is_plain, content}
 use Rattle.replay_log.specs.Worlds.{World, Seat, Stage, Open, Locking, Releasing, Cancelling, Leaving, Reading, Trying, Copying, Gating}
 use Rattle.replay_log.specs.Worlds.{Ready, Storing, Homing, Ended, After, at_stage, because, seated, acted, asks, moves, word_notice}
 use Rattle.replay_log.specs.Worlds.{no_one, recorded, with_call, has_begun, has_read, has_tried, takes_gates, has_locked, goes_home}
@@ -45,12 +47,6 @@ use Rattle.replay_log.proofs.PlaceLemmas.{first_after, AfterRelease, AfterUndo}
 use Rattle.replay_log.proofs.SeatLemmas.{Copy, CanLeave, Differ, Differ-front, InTx, Sound, Live, KnownAsk, Covers, CommitOk, gates_of}
 use Rattle.replay_log.proofs.SeatLemmas.{StageOk, SeatOk, SameEnded, SameEnded-push, Linked, At, at_of, linked_same, linked_seated}
 use Rattle.replay_log.proofs.SeatLemmas.{others_by, at_by, at_ask, cancels_linked, gives_up_linked, word_joins}
-
-pub below : (l n : ℕ) → nat_lt l n ≡ true → l < n
-below l n h = grind (arith, nat_tests)
-
-pub is_below : (l n : ℕ) → l < n → nat_lt l n ≡ true
-is_below l n h = grind (arith, nat_tests)
 
 -- ---- lists of gates
 pub push_has : (ks : List ℕ) (k j : ℕ) → (if j == k then true else has ks j) ≡ has (ks ++ k ∷ []) j
@@ -112,7 +108,7 @@ some_entry [] some = absurd some
 some_entry (d ∷ es) some = (d, es, refl)
 
 pub plain_word : (n : ℕ) (bs : List Block) (l : ℕ) → l < n → is_plain n bs l ≡ true
-plain_word n bs l lt = ap (λ b. b || not (nat_lt l (end_of n bs))) (is_below l n lt)
+plain_word n bs l lt = ap (λ b. b || not (nat_lt l (end_of n bs))) (lt-nat_lt l n lt)
 
 Homes-ok : (n : ℕ) (bs : List Block) (y : Actor) → Covers n bs y (distinct
     (all_of (home_of n bs) (filter (λ l. not (is_plain n bs l)) (locations y.writes))))
@@ -122,9 +118,6 @@ Homes-ok n bs y l v pl h = in_distinct (all_of (home_of n bs) (filter (λ i. not
 -- a word's location is none of a collection
 pub no_word : (n : ℕ) (bs : List Block) (l i : ℕ) → l < n → is_plain n bs i ≡ false → i ≡ l → ⊥
 no_word n bs l i lt pl same = true≢false (sym (plain_word n bs l lt) ∙ ap (is_plain n bs) (sym same) ∙ pl)
-
-no_some : (v : ℕ) → None ≡ Some v → ⊥
-no_some v e = cc
 
 nothing_kept : (declared : Bool) (l : ℕ) → lookup [] l ≡ in_set declared None
 unfolding lookup
@@ -182,7 +175,7 @@ module _ {V : Type 0} where
   same_in_tx n x y y2 z s t = (t.0 ∙ sym s.rv, subst (λ (cs : List machine.Call). Parts n x.calls cs z.outcomes) (sym s.calls) t.1)
 
   -- ---- begin
-  begun_linked : (u : World V) (s : Boosted (Shown V) (Answered V)) (a : ℕ) (x : Seat V) (y : Actor) (g : ℕ → Bool) (clock : ℕ) (b : Bool)
+  begun_linked : (u : World V) (s : Boosted (Shown V) (CallWithOutcome V)) (a : ℕ) (x : Seat V) (y : Actor) (g : ℕ → Bool) (clock : ℕ) (b : Bool)
       → ((k : ℕ) → g k ≡ false)
       → At u a (cond b (machine.opened y.declared clock) (goes y machine.Idle)) (cond b (fresh s) (s.shadows a)) g
       → Linked (has_begun u a x (cond b (told.Begun clock) (told.Exhausted clock))).0
@@ -193,7 +186,7 @@ module _ {V : Type 0} where
           refl,
           record {
             tx = (refl, record { words = refl; held = tt });
-            sound = λ l e pl h. absurd (no_some e h);
+            sound = λ l e pl h. absurd (none-some e h);
             kept = λ l pl. nothing_kept y.declared l;
             pieces = λ i p h. absurd (true≢false (sym h));
           },
@@ -227,7 +220,7 @@ module _ {V : Type 0} where
   read_live : (n : ℕ) (bs : List Block) (x : Seat V) (y : Actor) (z : Copy V) (l v : ℕ) → l < n → Live n bs x y z
       → Live n bs (with_call x (record { target = l; op = Read }) (reply.Number v)) (machine.has_read y l v) z
   read_live n bs x y z l v lt h = record {
-    tx = (h.tx.0, word_joins n x.calls y.calls z.outcomes (machine.Read l v) (is_below l n lt) h.tx.1);
+    tx = (h.tx.0, word_joins n x.calls y.calls z.outcomes (machine.Read l v) (lt-nat_lt l n lt) h.tx.1);
     sound = sound_word n bs y z l v lt h.sound;
     kept = λ i p. kept_at y.declared y.reads y.calls l v i (h.kept i p) (λ same. absurd (no_word n bs l i lt p same))
         (λ same. absurd (no_word n bs l i lt p same));
@@ -334,7 +327,7 @@ module _ {V : Type 0} where
   tried_linked u a x free i got again next (suc m) won last more =
       choose free (seated u a (at_stage x next), Quiet) (seated u a (at_stage x (again m)), Quiet) won (λ e. more e m)
 
-  pub trying_step : (w : World V) (a : ℕ) (x : Seat V) (y : Actor) (z : Copy V) (g : ℕ → Bool) (asked : Asked V) (tries : ℕ)
+  pub trying_step : (w : World V) (a : ℕ) (x : Seat V) (y : Actor) (z : Copy V) (g : ℕ → Bool) (asked : CollectionCall V) (tries : ℕ)
       → At w a y z g → ((k : ℕ) → g k ≡ false) → y.place ≡ machine.Open
       → Live w.words w.blocks x y z → KnownAsk w.blocks y asked
       → Linked (has_tried (acted w (TakeGate a asked.collection ∷ [])) a x
@@ -470,8 +463,8 @@ module _ {V : Type 0} where
   -- ---- the steps that end a transaction
   pub at_commit : (w : World V) (a : ℕ) (y : Actor) (z : Copy V) (g : ℕ → Bool) (p : Place) (r : world.Record) (q : ℕ × Record V)
       → At w a y z g
-      → y.place ≡ p → outcome a y p ≡ world.Commits r
-      → ((s : Boosted (Shown V) (Answered V)) → shadows_after s a p ≡ s.shadows) → SameRecord w.words q
+      → y.place ≡ p → step_end a y p ≡ world.Commits r
+      → ((s : Boosted (Shown V) (CallWithOutcome V)) → shadows_after s a p ≡ s.shadows) → SameRecord w.words q
       (record { word = r; outcomes = z.outcomes })
       → At (record (acted w (moves a ∷ [])) { records = insert_record q w.records }) a (learns w.boosted.words y (plan y p)) z g
   at_commit w a y z g p r q k e o sh same =
@@ -479,7 +472,7 @@ module _ {V : Type 0} where
       let c = content w.words w.blocks in
       let u = s.words.actors a in
       let t : Commits s (acts c s (moves a)) a (learns s.words u (plan u p)) (s.shadows a) (mine s a) r =
-      step_commits s a p r (ap (λ (v : Actor). v.place) k.own.actor ∙ e) (ap (λ (v : Actor). outcome a v p) k.own.actor ∙ o) (sh s) in
+      step_commits s a p r (ap (λ (v : Actor). v.place) k.own.actor ∙ e) (ap (λ (v : Actor). step_end a v p) k.own.actor ∙ o) (sh s) in
       record {
         base = record {
           stripes = k.base.stripes;
@@ -596,7 +589,7 @@ module _ {V : Type 0} where
       let q : ℕ × Record V = (a, record { number = x.wv; writes = true; calls = x.calls }) in
       let k2 : At (recorded (acted ready (moves a ∷ [])) a x true x.wv) a
       (learns ready.boosted.words y1 (world.first_store y1 y.writes)) z g =
-      at_commit ready a y1 z g machine.First r q k1 refl (ap (λ (es : Entries). world.first_outcome a y1 es) entry.2) (λ u. refl)
+      at_commit ready a y1 z g machine.First r q k1 refl (ap (λ (es : Entries). world.first_step_end a y1 es) entry.2) (λ u. refl)
       (record { actor = refl; number = h.wv; writes = refl; parts = h.tx.1 }) in
       record {
         entry = entry.0;

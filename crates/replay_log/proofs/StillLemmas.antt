@@ -17,7 +17,7 @@ use Rattle.seq_model.specs.declared.limits.TheConstants.{CALL_LIMIT}
 use Rattle.tx_machine.specs.Content.{Content}
 use Rattle.tx_machine.specs.Boosted.{Boosted, OnWords, on_words, is_open, is_held, is_given, is_sound, every, may_write, longer}
 use Rattle.tx_machine.specs.Boosted.{writes_asked, accepted, acts}
-use Rattle.replay_log.specs.Contents.{Asked, Answered, content}
+use Rattle.replay_log.specs.Contents.{CollectionCall, CallWithOutcome, content}
 use Rattle.replay_log.specs.Pieces.{piece_at}
 use Rattle.replay_log.specs.WorldStill.{Still}
 use Rattle.replay_log.specs.Worlds.{World, Seat, Stage, Idle, Beginning, Open, Locking, Closing, Reading, Trying, Copying, Loading, Gating}
@@ -128,27 +128,27 @@ module _ {V : Type 0} where
       → StillIn a v (is_fresh u a x d i next).0
   fresh_still v u a x d i next h n = choose_still a v (eqb d.1 i) next _ n (cancels_still v u a (because x (refusal.Stale d.0 d.1 i)) h)
 
-  judges_still : (v u : World V) (a : ℕ) (x : Seat V) (o : Answered V) (d : ℕ × ℕ) (es : Entries) (next : After V) (r : Option ℕ)
+  judges_still : (v u : World V) (a : ℕ) (x : Seat V) (o : CallWithOutcome V) (d : ℕ × ℕ) (es : Entries) (next : After V) (r : Option ℕ)
       → StillIn a v u → StillIn a v next.0
       → StillIn a v (judges u a x o d es next r).0
   judges_still v u a x o d es next None h n = ask_still v u a (word.AskRead d.0) h
   judges_still v u a x o d es next (Some i) h n = fresh_still v u a x d i next h n
 
-  pub loads_still : (es : Entries) (v u : World V) (a : ℕ) (x : Seat V) (o : Answered V) → StillIn a v u → StillIn a v (loads u a x o es).0
+  pub loads_still : (es : Entries) (v u : World V) (a : ℕ) (x : Seat V) (o : CallWithOutcome V) → StillIn a v u → StillIn a v (loads u a x o es).0
   loads_still [] v u a x o h =
       let c = content u.words u.blocks in
       still_then a v.boosted u.boosted _ h (accepted_still c u.boosted a (outcome_at u a o.asked))
   loads_still (d ∷ es) v u a x o h = judges_still v u a x o d es (loads u a x o es) (lookup (actor_of u a).reads d.0) h
       (loads_still es v u a x o h)
 
-  pub answers_still : (v u : World V) (a : ℕ) (before x : Seat V) (sized o : Answered V) (editions : ℕ → ℕ) → StillIn a v u
+  pub answers_still : (v u : World V) (a : ℕ) (before x : Seat V) (sized o : CallWithOutcome V) (editions : ℕ → ℕ) → StillIn a v u
       → StillIn a v (answers u a before x sized o editions).0
   answers_still v u a before x sized o editions h =
       let c = content u.words u.blocks in
       choose_still a v (has_room (actor_of u a) (c.reads sized) (c.writes sized)) (loads u a x o (with_editions editions (c.reads o))) _
       (loads_still (with_editions editions (c.reads o)) v u a x o h) h
 
-  calls_on_still : (v u : World V) (a : ℕ) (x : Seat V) (asked : Asked V) → StillIn a v u → StillIn a v (calls_on u a x asked).0
+  calls_on_still : (v u : World V) (a : ℕ) (x : Seat V) (asked : CollectionCall V) → StillIn a v u → StillIn a v (calls_on u a x asked).0
   calls_on_still v u a x asked h =
       choose_still a v (x.copied asked.collection (piece_at u.blocks asked)) _ _
       (answers_still v u a x x (outcome_at u a asked) (outcome_at u a asked) (u.boosted.shadows a).editions h) h

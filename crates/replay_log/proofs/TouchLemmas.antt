@@ -12,7 +12,7 @@ use Rattle.seq_model.specs.Counts.{Multiset}
 use Rattle.base_pq.specs.Conflicts as pq
 use Rattle.base_queue.specs.Conflicts as queue
 use Rattle.replay_log.specs.Base.{Shown, OfMap, OfBag, OfPq, OfQueue}
-use Rattle.replay_log.specs.declared.touch.Touched.TheVariants.{Total}
+use Rattle.replay_log.specs.declared.touch.TouchedKey.TheVariants.{Total}
 use Rattle.replay_log.specs.Touches.{editions_at, map_summed_by, summed, summed_by, touched_by}
 
 module _ (es : List ℕ) where

@@ -28,7 +28,7 @@ use Rattle.base_queue.specs.FrameLemmas as queue_laws
 use Rattle.tx_machine.specs.Boosted.{TakeGate, PutGate, GoHome, is_none}
 use Rattle.replay_log.specs.Base.{Shown, held_of}
 use Rattle.replay_log.specs.Parts.{part, whole}
-use Rattle.replay_log.specs.Contents.{Block, Asked, Answered, block_of, size, end_of, is_plain, HaveStripes, seen, content}
+use Rattle.replay_log.specs.Contents.{Block, CollectionCall, CallWithOutcome, block_of, size, end_of, is_plain, HaveStripes, seen, content}
 use Rattle.replay_log.specs.Collections.{viewed, Suit, shown_from}
 use Rattle.replay_log.specs.Pieces.{piece_at, covers_at}
 use Rattle.replay_log.specs.Seats.{World, Seat, Ended, After, Stage, Idle, Open, Beginning, Reading, Trying, Copying, Loading, Locking}
@@ -113,23 +113,23 @@ module _ {V : Type 0} where
   fresh_adds : (w : World V) (a : ℕ) (x : Seat V) (d : ℕ × ℕ) (v : ℕ) (next : After V) → Adds w next.0 → Adds w (is_fresh w a x d v next).0
   fresh_adds w a x d v next g = choose_adds w (d.1 == v) next _ g (gives_up_adds w a (because x (refusal.Stale d.0 d.1 v)) [])
 
-  judges_adds : (w : World V) (a : ℕ) (x : Seat V) (o : Answered V) (d : ℕ × ℕ) (es : Entries) (next : After V) (v : Option ℕ)
+  judges_adds : (w : World V) (a : ℕ) (x : Seat V) (o : CallWithOutcome V) (d : ℕ × ℕ) (es : Entries) (next : After V) (v : Option ℕ)
       → Adds w next.0 → Adds w (judges w a x o d es next v).0
   judges_adds w a x o d es next None g = (refl, refl)
   judges_adds w a x o d es next (Some v) g = fresh_adds w a x d v next g
 
-  loads_adds : (w : World V) (a : ℕ) (x : Seat V) (o : Answered V) (es : Entries) → Adds w (loads w a x o es).0
+  loads_adds : (w : World V) (a : ℕ) (x : Seat V) (o : CallWithOutcome V) (es : Entries) → Adds w (loads w a x o es).0
   loads_adds w a x o [] = (refl, refl)
   loads_adds w a x o (d ∷ es) = judges_adds w a x o d es (loads w a x o es) (lookup (actor_of w a).reads d.0) (loads_adds w a x o es)
 
-  answers_adds : (w : World V) (a : ℕ) (before x : Seat V) (sized o : Answered V) (editions : ℕ → ℕ)
+  answers_adds : (w : World V) (a : ℕ) (before x : Seat V) (sized o : CallWithOutcome V) (editions : ℕ → ℕ)
       → Adds w (answers w a before x sized o editions).0
   answers_adds w a before x sized o editions =
       let c = content {V = V} w.words w.blocks in
       choose_adds w (has_room (actor_of w a) (c.reads sized) (c.writes sized)) (loads w a x o (with_editions editions (c.reads o))) _
       (loads_adds w a x o (with_editions editions (c.reads o))) (refl, refl)
 
-  calls_on_adds : (w : World V) (a : ℕ) (x : Seat V) (asked : Asked V) → Adds w (calls_on w a x asked).0
+  calls_on_adds : (w : World V) (a : ℕ) (x : Seat V) (asked : CollectionCall V) → Adds w (calls_on w a x asked).0
   calls_on_adds w a x asked =
       choose_adds w (x.copied asked.collection (piece_at w.blocks asked))
       (answers w a x x (outcome_at w a asked) (outcome_at w a asked) (w.boosted.shadows a).editions) _
@@ -210,7 +210,7 @@ module _ {V : Type 0} where
   tried_adds w a x false k got again next zero = gives_up_adds w a (because x (refusal.GateBusy k)) got
   tried_adds w a x false k got again next (suc n) = (refl, refl)
 
-  loaded_adds : (w : World V) (a : ℕ) (x : Seat V) (o : Answered V) (d : ℕ × ℕ) (es : Entries) (n : told.Notice)
+  loaded_adds : (w : World V) (a : ℕ) (x : Seat V) (o : CallWithOutcome V) (d : ℕ × ℕ) (es : Entries) (n : told.Notice)
       → Adds w (has_loaded w a x o d es n).0
   loaded_adds w a x o d es (told.Number v) = fresh_adds w a x d v (loads w a x o es) (loads_adds w a x o es)
   loaded_adds w a x o d es (told.Moved i word) = (refl, refl)

@@ -57,12 +57,12 @@ shifted f [] = []
 shifted f (i ∷ is) = (f + i) ∷ shifted f is
 
 -- A call on a collection, and what it answers; none, if the collection isn't there or is of another kind.
-pub record Asked (V : Type 0) : Type 0 where
+pub record CollectionCall (V : Type 0) : Type 0 where
   pub collection : ℕ
   pub op : Op V
 
-pub record Answered (V : Type 0) : Type 0 where
-  pub asked : Asked V
+pub record CallWithOutcome (V : Type 0) : Type 0 where
+  pub asked : CollectionCall V
   pub outcome : Option (Outcome V)
 
 module _ {V : Type 0} where
@@ -94,7 +94,7 @@ module _ {V : Type 0} where
   changed b f o v l = v l
 
   -- the content of w words and these blocks
-  abbrev pub content : ℕ → List Block → Content (Shown V) (Asked V) (Answered V)
+  abbrev pub content : ℕ → List Block → Content (Shown V) (CollectionCall V) (CallWithOutcome V)
   content w bs = record {
     plain = is_plain w bs;
     home = home_of w bs;

@@ -9,7 +9,7 @@ use Rattle.tx_machine.specs.Notices as told
 use Rattle.tx_machine.specs.Content.{Content}
 use Rattle.tx_machine.specs.Boosted.{Boosted, Action, OnWords, TakeGate, PutGate, Accept, GoHome, is_open, is_stored, is_committing}
 use Rattle.tx_machine.specs.Boosted.{is_actor, is_held, is_given, is_sound, every, may_write, changes}
-use Rattle.replay_log.specs.Contents.{Asked, content}
+use Rattle.replay_log.specs.Contents.{CollectionCall, content}
 use Rattle.replay_log.specs.Pieces.{covers_at}
 use Rattle.replay_log.specs.Worlds.{World, Stage, Idle, Open, Trying, Copying, Loading, Gating, Ready, Homing, Returning, asks, moves}
 
@@ -34,7 +34,7 @@ Allows c s (GoHome a k) = (is_actor a (s.gates k) ≡ true) × (is_stored (s.wor
 
 module _ {V : Type 0} where
   -- the action that the next step of a does, at this stage; none, where no request is under way
-  abbrev pub step_action : World V → ℕ → Stage V → Option (Action (Asked V))
+  abbrev pub step_action : World V → ℕ → Stage V → Option (Action (CollectionCall V))
   step_action w a Idle = None
   step_action w a Open = None
   step_action w a (Trying asked tries) = Some (TakeGate a asked.collection)
@@ -55,6 +55,6 @@ module _ {V : Type 0} where
   IsAtRest stage = ⊥
 
   -- where a request is under way, its next step does an action that the machine does
-  abbrev pub IsAllowed : World V → Stage V → Option (Action (Asked V)) → Type 0
+  abbrev pub IsAllowed : World V → Stage V → Option (Action (CollectionCall V)) → Type 0
   IsAllowed w stage None = IsAtRest stage
   IsAllowed w stage (Some e) = Allows (content w.words w.blocks) w.boosted e

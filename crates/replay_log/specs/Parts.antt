@@ -7,7 +7,7 @@ use Rattle.seq_model.specs.declared.call.Op.{Op}
 use Rattle.seq_model.specs.Counts.{Multiset}
 use Rattle.conflict.specs.declared.change.Change.{Change}
 use Rattle.conflict.specs.declared.outcome.Outcome.{Outcome}
-use Rattle.conflict.specs.Footprints.{key_place, least_place, stripe_place, head_place, tail_place, cell_place}
+use Rattle.conflict.specs.Footprints.{key_location, least_location, stripe_location, head_location, tail_location, cell_location}
 use Rattle.base_pq.specs.Conflicts as pq
 use Rattle.base_queue.specs.Conflicts as queue
 use Rattle.replay_log.specs.Base.{Shown, OfMap, OfBag, OfPq, OfQueue, after, changes_of, outcome_of, reads_of, writes_of}
@@ -55,27 +55,27 @@ module _ {V : Type 0} where
 
   -- the part that location l of n stripes covers
   abbrev pub part : ℕ → ℕ → Shown V → Shown V
-  part n l (OfMap m) = OfMap (kept (key_place n) l m)
-  part n l (OfBag m) = OfBag (kept (key_place n) l m)
-  part n l (OfPq s) = OfPq (record { elements = kept (stripe_place n) l s.elements; least = if least_place == l then s.least else None })
+  part n l (OfMap m) = OfMap (kept (key_location n) l m)
+  part n l (OfBag m) = OfBag (kept (key_location n) l m)
+  part n l (OfPq s) = OfPq (record { elements = kept (stripe_location n) l s.elements; least = if least_location == l then s.least else None })
   part n l (OfQueue s) =
       OfQueue (record {
-        cells = kept (cell_place n) l s.cells;
-        head = if head_place == l then s.head else 0;
-        tail = if tail_place == l then s.tail else 0;
+        cells = kept (cell_location n) l s.cells;
+        head = if head_location == l then s.head else 0;
+        tail = if tail_location == l then s.tail else 0;
       })
 
   -- the whole of one kind that has these parts
   abbrev pub whole : ℕ → Kind → (ℕ → Shown V) → Shown V
-  whole n MapKind v = OfMap (joined (key_place n) n (λ l. as_map (v l)))
-  whole n BagKind v = OfBag (joined (key_place n) n (λ l. as_bag (v l)))
+  whole n MapKind v = OfMap (joined (key_location n) n (λ l. as_map (v l)))
+  whole n BagKind v = OfBag (joined (key_location n) n (λ l. as_bag (v l)))
   whole n PqKind v =
-      OfPq (record { elements = joined (stripe_place n) (suc n) (λ l. (as_pq (v l)).elements); least = (as_pq (v least_place)).least })
+      OfPq (record { elements = joined (stripe_location n) (suc n) (λ l. (as_pq (v l)).elements); least = (as_pq (v least_location)).least })
   whole n QueueKind v =
       OfQueue (record {
-        cells = joined (cell_place n) (suc (suc n)) (λ l. (as_queue (v l)).cells);
-        head = (as_queue (v head_place)).head;
-        tail = (as_queue (v tail_place)).tail;
+        cells = joined (cell_location n) (suc (suc n)) (λ l. (as_queue (v l)).cells);
+        head = (as_queue (v head_location)).head;
+        tail = (as_queue (v tail_location)).tail;
       })
 
 -- a base is the whole of its parts

@@ -3,9 +3,9 @@
 use Rattle.std.specs.Prelude.{ℕ, ◌+◌, ◌==◌, Bool, true, false, List, Option, Some, None}
 use Rattle.seq_model.specs.declared.call.Op.{Op}
 use Rattle.seq_model.specs.declared.call.Op.TheVariants.{Get, Put, Remove, Count, Add, Take}
-use Rattle.conflict.specs.Footprints.{key_place}
+use Rattle.conflict.specs.Footprints.{key_location}
 use Rattle.replay_log.specs.Parts.{Kind, MapKind, BagKind}
-use Rattle.replay_log.specs.Contents.{Block, Asked, block_of, first_of}
+use Rattle.replay_log.specs.Contents.{Block, CollectionCall, block_of, first_of}
 
 pub data Piece : Type 0 where
   Entry : (key : ℕ) → Piece
@@ -31,7 +31,7 @@ piece_of k op = Whole
 
 -- the locations of a piece, in a collection of so many stripes whose first location is f: that of its key, or all
 abbrev pub covers : (stripes f : ℕ) → Piece → ℕ → Bool
-covers n f (Entry k) l = l == f + key_place n k
+covers n f (Entry k) l = l == f + key_location n k
 covers n f p l = true
 
 abbrev pub covers_in : Option Block → (f : ℕ) → Piece → ℕ → Bool
@@ -44,8 +44,8 @@ module _ {V : Type 0} where
   piece_in None op = Whole
 
   -- the piece that a call touches, and its locations, in a world of w words and these blocks
-  abbrev pub piece_at : List Block → Asked V → Piece
+  abbrev pub piece_at : List Block → CollectionCall V → Piece
   piece_at bs asked = piece_in (block_of bs asked.collection) asked.op
 
-  abbrev pub covers_at : (w : ℕ) → List Block → Asked V → ℕ → Bool
+  abbrev pub covers_at : (w : ℕ) → List Block → CollectionCall V → ℕ → Bool
   covers_at w bs asked = covers_in (block_of bs asked.collection) (first_of w bs asked.collection) (piece_at bs asked)

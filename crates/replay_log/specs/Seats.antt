@@ -12,7 +12,7 @@ use Rattle.seq_model.specs.declared.refusal.Refusal.{Refusal}
 use Rattle.seq_model.specs.declared.event.Notice.{Notice}
 use Rattle.tx_machine.specs.Boosted.{Boosted, Action, OnWords, act_all}
 use Rattle.replay_log.specs.Base.{Shown}
-use Rattle.replay_log.specs.Contents.{Block, Asked, content}
+use Rattle.replay_log.specs.Contents.{Block, CollectionCall, content}
 use Rattle.replay_log.specs.Contents as contents
 use Rattle.replay_log.specs.Pieces.{Piece}
 
@@ -20,9 +20,9 @@ use Rattle.replay_log.specs.Pieces.{Piece}
 pub data Stage (V : Type 0) : Type 0 where
   Idle Beginning Open Locking Releasing Closing Cancelling Leaving : Stage V
   Reading : (l : ℕ) → Stage V  -- a word is being read
-  Trying : (asked : Asked V) → (tries : ℕ) → Stage V  -- the gate of a call is tried; so many tries are left after this one
-  Copying : (asked : Asked V) → Stage V  -- the gate is held: what the call touches is copied, and the gate put back
-  Loading : (outcome : contents.Answered V) → (left : Entries) → Stage V  -- the first of these is read; the editions are those copied
+  Trying : (asked : CollectionCall V) → (tries : ℕ) → Stage V  -- the gate of a call is tried; so many tries are left after this one
+  Copying : (asked : CollectionCall V) → Stage V  -- the gate is held: what the call touches is copied, and the gate put back
+  Loading : (outcome : contents.CallWithOutcome V) → (left : Entries) → Stage V  -- the first of these is read; the editions are those copied
   Gating : (got ks : List ℕ) → (tries : ℕ) → Stage V  -- the gate of the first of ks is tried
   Ready : (ks : List ℕ) → Stage V  -- all is locked, checked and held: the first value store, which commits
   Storing : (ks : List ℕ) → Stage V  -- the next value store
@@ -48,7 +48,7 @@ pub record Ended (V : Type 0) : Type 0 where
 pub record World (V : Type 0) : Type 0 where
   pub words : ℕ  -- how many plain words there are
   pub blocks : List Block
-  pub boosted : Boosted (Shown V) (contents.Answered V)
+  pub boosted : Boosted (Shown V) (contents.CallWithOutcome V)
   pub seats : ℕ → Seat V
   pub records : List (ℕ × Record V)  -- committed, in commit order
   pub aborted : List (Ended V)  -- in the order of their ending
@@ -72,13 +72,13 @@ module _ {V : Type 0} where
   seated w a x = record w { seats = machine.put w.seats a x }
 
   -- these actions are done
-  abbrev pub acted : World V → List (Action (Asked V)) → World V
+  abbrev pub acted : World V → List (Action (CollectionCall V)) → World V
   acted w actions = record w { boosted = act_all (content w.words w.blocks) actions w.boosted }
 
-  abbrev pub asks : ℕ → word.Request → Action (Asked V)
+  abbrev pub asks : ℕ → word.Request → Action (CollectionCall V)
   asks a q = OnWords (machine.Ask a q)
 
-  abbrev pub moves : ℕ → Action (Asked V)
+  abbrev pub moves : ℕ → Action (CollectionCall V)
   moves a = OnWords (machine.Step a)
 
   abbrev pub actor_of : World V → ℕ → Actor

@@ -13,7 +13,7 @@ use Rattle.seq_model.specs.declared.refusal.Refusal.TheVariants.{Exhausted, TooL
 use Rattle.seq_model.specs.declared.event.Notice.{Notice}
 use Rattle.seq_model.specs.declared.event.Notice.TheVariants.{Quiet, Refused}
 use Rattle.tx_machine.specs.Boosted.{PutGate, is_none}
-use Rattle.replay_log.specs.Contents.{Asked, Answered, block_of}
+use Rattle.replay_log.specs.Contents.{CollectionCall, CallWithOutcome, block_of}
 use Rattle.replay_log.specs.Pieces.{covers_at}
 use Rattle.replay_log.specs.WorldRefusals.{is_ending}
 use Rattle.replay_log.specs.WorldStill.{Same}
@@ -73,7 +73,7 @@ module _ {V : Type 0} where
   RefusedBy a P n = Unit {0}
 
   -- the outcome that a call has of what its transaction has copied, once its gate is put back
-  abbrev pub copied_outcome : World V → ℕ → Asked V → Answered V
+  abbrev pub copied_outcome : World V → ℕ → CollectionCall V → CallWithOutcome V
   copied_outcome w a asked = outcome_at (acted w (PutGate a asked.collection (covers_at w.words w.blocks asked) ∷ [])) a asked
 
   -- TooLong is answered where there is no room, and no refusal where there is

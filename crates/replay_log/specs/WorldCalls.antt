@@ -18,7 +18,7 @@ use Rattle.seq_model.specs.declared.limits.TheConstants.{CALL_LIMIT}
 use Rattle.conflict.specs.declared.outcome.Outcome.{Outcome}
 use Rattle.tx_machine.specs.Boosted.{Accept, changes, is_none}
 use Rattle.replay_log.specs.Base.{outcome_of}
-use Rattle.replay_log.specs.Contents.{Block, Asked, block_of, blank, content}
+use Rattle.replay_log.specs.Contents.{Block, CollectionCall, block_of, blank, content}
 use Rattle.replay_log.specs.Contents as contents
 use Rattle.replay_log.specs.Pieces.{Piece, is_piece, piece_at}
 use Rattle.replay_log.specs.Seats.{Open, Reading, Trying, Loading, Seat, World, After, at_stage, because, seated, acted, asks, actor_of}
@@ -70,20 +70,20 @@ module _ {V : Type 0} where
   reads w a x l n = (seated (acted w (asks a (word.AskRead l) ∷ [])) a (at_stage x (Reading l)), Quiet)
 
   -- the outcome that a call has after the transaction's own ones
-  abbrev pub outcome_at : World V → ℕ → Asked V → contents.Answered V
+  abbrev pub outcome_at : World V → ℕ → CollectionCall V → contents.CallWithOutcome V
   outcome_at w a asked =
       let c = content w.words w.blocks in
       let shadow = w.boosted.shadows a in
       c.outcome (changes c shadow.outcomes shadow.parts) asked
 
-  abbrev pub reply_of : contents.Answered V → Reply V
+  abbrev pub reply_of : contents.CallWithOutcome V → Reply V
   reply_of o = get_reply o.outcome
     where
       get_reply : Option (Outcome V) → Reply V
       get_reply (Some r) = r.reply
       get_reply None = reply.Nothing
 
-  abbrev pub call_of : contents.Answered V → Call V
+  abbrev pub call_of : contents.CallWithOutcome V → Call V
   call_of o = record { target = o.asked.collection; op = o.asked.op }
 
   -- a location was read: its edition is the copied one, or the copy is stale
@@ -91,24 +91,24 @@ module _ {V : Type 0} where
   is_fresh w a x d v next = if d.1 == v then next else gives_up w a (because x (refusal.Stale d.0 d.1 v)) []
 
   -- one that the read set does not have is read first; a declared reader has no read set, and reads each
-  abbrev pub judges : World V → ℕ → Seat V → contents.Answered V → ℕ × ℕ → Entries → After V → Option ℕ → After V
+  abbrev pub judges : World V → ℕ → Seat V → contents.CallWithOutcome V → ℕ × ℕ → Entries → After V → Option ℕ → After V
   judges w a x o d es next None = (seated (acted w (asks a (word.AskRead d.0) ∷ [])) a (at_stage x (Loading o (d ∷ es))), Quiet)
   judges w a x o d es next (Some v) = is_fresh w a x d v next
 
   -- the locations that are still to be judged, rising, with the editions that were copied; with none left the call is accepted
-  abbrev pub loads : World V → ℕ → Seat V → contents.Answered V → Entries → After V
+  abbrev pub loads : World V → ℕ → Seat V → contents.CallWithOutcome V → Entries → After V
   loads w a x o [] = replied (acted w (Accept a o.asked ∷ [])) a x (call_of o) (reply_of o)
   loads w a x o (d ∷ es) = judges w a x o d es (loads w a x o es) (lookup (actor_of w a).reads d.0)
 
   -- a call whose locations don't fit the sets is TooLong, and the transaction, `before` now, is as before; they are those of `sized`
-  abbrev pub answers : World V → ℕ → Seat V → Seat V → (sized o : contents.Answered V) → (editions : ℕ → ℕ) → After V
+  abbrev pub answers : World V → ℕ → Seat V → Seat V → (sized o : contents.CallWithOutcome V) → (editions : ℕ → ℕ) → After V
   answers w a before x sized o editions =
       let c = content w.words w.blocks in
       if has_room (actor_of w a) (c.reads sized) (c.writes sized) then loads w a x o (with_editions editions (c.reads o))
       else (seated w a (at_stage before Open), Refused a refusal.TooLong)
 
   -- a call that touches what was not copied yet tries its gate
-  abbrev pub calls_on : World V → ℕ → Seat V → Asked V → After V
+  abbrev pub calls_on : World V → ℕ → Seat V → CollectionCall V → After V
   calls_on w a x asked =
       let o = outcome_at w a asked in
       if x.copied asked.collection (piece_at w.blocks asked) then answers w a x x o o (w.boosted.shadows a).editions
@@ -168,22 +168,22 @@ module _ {V : Type 0} where
   with_piece x k p = record x { copied = λ j q. if j == k && is_piece p q then true else x.copied j q }
 
   -- the outcome that a call has of what the bases show now
-  abbrev pub outcome_now : World V → Asked V → contents.Answered V
+  abbrev pub outcome_now : World V → CollectionCall V → contents.CallWithOutcome V
   outcome_now w asked = (content w.words w.blocks).outcome w.boosted.parts asked
 
   -- The outcome whose locations are to fit the sets, once what the call touches has been copied. Where that copy is found stale without a
   -- step, it differs from what was copied of its location before, and the call has the outcome that it has of the new copy.
-  abbrev pub sized_by : World V → ℕ → Asked V → contents.Answered V → contents.Answered V
+  abbrev pub sized_by : World V → ℕ → CollectionCall V → contents.CallWithOutcome V → contents.CallWithOutcome V
   sized_by w a asked o =
       let c = content w.words w.blocks in
       if is_stale (actor_of w a).reads (with_editions w.boosted.editions (c.reads o)) then outcome_now w asked else o
 
-  abbrev pub has_copied : World V → ℕ → Seat V → Asked V → After V
+  abbrev pub has_copied : World V → ℕ → Seat V → CollectionCall V → After V
   has_copied w a x asked =
       let o = outcome_at w a asked in
       answers w a x (with_piece x asked.collection (piece_at w.blocks asked)) (sized_by w a asked o) o w.boosted.editions
 
-  abbrev pub has_loaded : World V → ℕ → Seat V → contents.Answered V → ℕ × ℕ → Entries → told.Notice → After V
+  abbrev pub has_loaded : World V → ℕ → Seat V → contents.CallWithOutcome V → ℕ × ℕ → Entries → told.Notice → After V
   has_loaded w a x o d es (told.Number v) = is_fresh w a x d v (loads w a x o es)
   has_loaded w a x o d es (told.Moved i word) = gives_up w a (because x (refusal.Moved i word)) []
   has_loaded w a x o d es n = (w, Quiet)

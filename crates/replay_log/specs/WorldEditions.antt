@@ -7,7 +7,7 @@ use Rattle.seq_model.specs.Contents.{Contents}
 use Rattle.seq_model.specs.Runs.{after_call, after_calls}
 use Rattle.tx_machine.specs.Content.{IsIn, has}
 use Rattle.replay_log.specs.Base.{Shown}
-use Rattle.replay_log.specs.Contents.{Block, Answered, content}
+use Rattle.replay_log.specs.Contents.{Block, CallWithOutcome, content}
 use Rattle.replay_log.specs.Collections.{shown_at}
 use Rattle.replay_log.specs.Worlds.{Stage, Idle, Beginning, Storing, Homing, Releasing}
 
@@ -26,7 +26,7 @@ module _ {V : Type 0} where
   part_at n bs s l = shown_at n bs s.held l
 
   -- the outcome of a call on a collection in a state; none, where it is on a word
-  abbrev pub outcome_in : (n : ℕ) → List Block → Contents V → Call V → Answered V
+  abbrev pub outcome_in : (n : ℕ) → List Block → Contents V → Call V → CallWithOutcome V
   outcome_in n bs s call = (content n bs).outcome (part_at n bs s) (record { collection = call.target; op = call.op })
 
   -- one of these calls, made one after another from this state, reads l

@@ -5,12 +5,12 @@ use Rattle.seq_model.specs.declared.call.Op.TheVariants.{Read}
 use Rattle.seq_model.specs.declared.event.Answer.TheVariants as answer
 use Rattle.seq_model.specs.declared.event.Notice.{Notice}
 use Rattle.seq_model.specs.declared.event.Notice.TheVariants.{Quiet, Answered, Refused}
-use Rattle.replay_log.specs.Contents.{Asked}
+use Rattle.replay_log.specs.Contents.{CollectionCall}
 use Rattle.replay_log.specs.Worlds.{Stage, Seat, Idle, Beginning, Open, Reading, Trying, Copying, Loading, Closing, call_of}
 use Rattle.replay_log.specs.WorldRefusals.{is_ending}
 
 module _ {V : Type 0} where
-  abbrev pub as_call : Asked V → Call V
+  abbrev pub as_call : CollectionCall V → Call V
   as_call asked = record { target = asked.collection; op = asked.op }
 
   -- the call that is under way at this stage

@@ -23,7 +23,7 @@ ghost use Rattle.replay_log.specs.Base.{
   view_of,
   writes_of,
 };
-ghost use Rattle.replay_log.specs.Touches.{editions_at, summed_by, touched_by, touched_places};
+ghost use Rattle.replay_log.specs.Touches.{editions_at, summed_by, touched_by, touched_locations};
 
 use crate::location_editions::LocationEditions;
 use crate::touch::{Touch, touch_bag, touch_map, touch_map_summed};
@@ -238,7 +238,7 @@ impl<V: Value> Base<V> {
     /// queue, is refused as NoSuch.
     pub fn touch(&self, op: &Op<V>) -> Result<Touch<V>, Refusal>
         ensures editions { IfOk result (λ touch. touch.editions
-            ≡ editions_at (touched_places (stripes_of self.now) touch.held) (editions_of self.now)) }
+            ≡ editions_at (touched_locations (stripes_of self.now) touch.held) (editions_of self.now)) }
         ensures held { IfOk result (λ touch. touched_by (stripes_of self.now) op.now (shown_of self.now) ≡ Some touch.held) }
         ensures refused { IfErr result (λ refusal. IsRefusal refusal (touched_by (stripes_of self.now) op.now (shown_of self.now) ≡ None)) }
     {
@@ -254,7 +254,7 @@ impl<V: Value> Base<V> {
     /// it is left as it is.
     pub fn touch_summed(&self, op: &Op<V>, lent: &mut LocationEditions) -> Result<Touch<V>, Refusal>
         ensures editions { IfOk result (λ touch. touch.editions
-            ≡ editions_at (touched_places (stripes_of self.now) touch.held) (editions_of self.now)) }
+            ≡ editions_at (touched_locations (stripes_of self.now) touch.held) (editions_of self.now)) }
         ensures held { IfOk result (λ touch. summed_by (stripes_of self.now) op.now (shown_of self.now) ≡ Some touch.held) }
         ensures refused { IfErr result (λ refusal. IsRefusal refusal (summed_by (stripes_of self.now) op.now (shown_of self.now) ≡ None)) }
     {

@@ -26,7 +26,7 @@ ghost use Rattle.replay_log.specs.Base.{Shown, Commute, after};
 ghost use Rattle.tx_machine.specs.Content.{Frame};
 ghost use Rattle.tx_machine.specs.Boosted.{Action};
 ghost use Rattle.tx_machine.specs.Serial.{after_actions};
-ghost use Rattle.replay_log.specs.Contents.{Block, Asked, HaveStripes, content, is_plain};
+ghost use Rattle.replay_log.specs.Contents.{Block, CollectionCall, HaveStripes, content, is_plain};
 ghost use Rattle.replay_log.specs.Collections.{Suit, shown_at};
 ghost use Rattle.replay_log.specs.Log.{RaisesEach, KeepsOthers};
 ghost use Rattle.replay_log.specs.Parts.{AnswersByParts, ChangesAreWithinWrites, ChangesByPart, DisjointChangesCommute, IsWhole};
@@ -101,7 +101,7 @@ pub fn contents<V: Value>()
 /// machine's actions alone, whatever its events. So what `tx_machine::boosted_laws` says of every list of actions holds of it.
 pub fn requests<V: Value>()
     ensures actions { (blocks : List Block) (clock : ℕ) (values : List ℕ) (held : List (Held V)) (events : List (Event V)) →
-        (actions : List (Action (Asked V)))
+        (actions : List (Action (CollectionCall V)))
         × ((run (opened blocks clock values held) events).boosted
         ≡ after_actions (content (length values) blocks) clock (λ l. get_or values l 0) (shown_at (length values) blocks held) actions) }
 {}
@@ -289,12 +289,12 @@ pub fn answers<V: Value>()
 /// a location that was read before has another edition by now, they are those of the outcome that it has of the bases as they are:
 /// what was copied of that location before says nothing of the key that is copied now.
 pub fn rooms<V: Value>()
-    ensures copied { (w : World V) (a : ℕ) (asked : Asked V) → (w.seats a).stage ≡ Copying asked →
+    ensures copied { (w : World V) (a : ℕ) (asked : CollectionCall V) → (w.seats a).stage ≡ Copying asked →
         let c = content w.words w.blocks in
         let o = copied_outcome w a asked in
         (IsStale (actor_of w a).reads w.boosted.editions (c.reads o) → ⊥) →
         IsTooLongUnless a (has_room (actor_of w a) (c.reads o) (c.writes o)) (happens w (Step a)).1 }
-    ensures stale { (w : World V) (a : ℕ) (asked : Asked V) → (w.seats a).stage ≡ Copying asked →
+    ensures stale { (w : World V) (a : ℕ) (asked : CollectionCall V) → (w.seats a).stage ≡ Copying asked →
         let c = content w.words w.blocks in
         let o = c.outcome w.boosted.parts asked in
         IsStale (actor_of w a).reads w.boosted.editions (c.reads (copied_outcome w a asked)) →

@@ -23,4 +23,4 @@ mod touch;
 pub use base::Base;
 pub use location_editions::LocationEditions;
 pub use log::Log;
-pub use touch::{Touch, Touched};
+pub use touch::{Touch, TouchedKey};

@@ -3,10 +3,10 @@ ghost use Rattle.std.specs.Prelude.{◌≡◌, ◌∷◌, [], Some, None, IfOk, 
 ghost use Rattle.std.specs.FinMap.{get};
 ghost use Rattle.seq_model.specs.Calls.{IsRefusal};
 ghost use Rattle.seq_model.specs.declared.call.Op.TheVariants.{Len};
-ghost use Rattle.conflict.specs.Footprints.{all_below, key_place};
+ghost use Rattle.conflict.specs.Footprints.{all_below, key_location};
 ghost use Rattle.replay_log.specs.Base.{OfMap, OfBag};
-ghost use Rattle.replay_log.specs.Touches.{editions_at, summed_by, touched_by, touched_places};
-ghost use Rattle.replay_log.specs.declared.touch.Touched.TheVariants as touched;
+ghost use Rattle.replay_log.specs.Touches.{editions_at, summed_by, touched_by, touched_locations};
+ghost use Rattle.replay_log.specs.declared.touch.TouchedKey.TheVariants as touched;
 
 use crate::location_editions::LocationEditions;
 use base_bag::BagBase;
@@ -16,7 +16,7 @@ use std::mem;
 
 /// What is copied.
 #[derive(Drop)]
-pub enum Touched<V> {
+pub enum TouchedKey<V> {
     /// In a map, the key with its value, if it has one.
     Entry(u64, Option<V>),
     /// In a multiset, the element with the number of its copies.
@@ -31,12 +31,12 @@ pub enum Touched<V> {
 #[derive(Drop)]
 pub struct Touch<V> {
     pub editions: LocationEditions,
-    pub held: Touched<V>,
+    pub held: TouchedKey<V>,
 }
 
 pub(crate) fn touch_map<V: Value>(base: &MapBase<V>, op: &Op<V>) -> Result<Touch<V>, Refusal>
     ensures editions { IfOk result
-        (λ touch. touch.editions ≡ editions_at (touched_places base.now.stripes touch.held) base.now.editions) }
+        (λ touch. touch.editions ≡ editions_at (touched_locations base.now.stripes touch.held) base.now.editions) }
     ensures held { IfOk result (λ touch. touched_by base.now.stripes op.now (OfMap base.now.shown) ≡ Some touch.held) }
     ensures refused { IfErr result (λ refusal. IsRefusal refusal (touched_by base.now.stripes op.now (OfMap base.now.shown) ≡ None)) }
 {
@@ -55,7 +55,7 @@ pub(crate) fn touch_map_summed<V: Value>(
     lent: &mut LocationEditions,
 ) -> Result<Touch<V>, Refusal>
     ensures editions { IfOk result
-        (λ touch. touch.editions ≡ editions_at (touched_places base.now.stripes touch.held) base.now.editions) }
+        (λ touch. touch.editions ≡ editions_at (touched_locations base.now.stripes touch.held) base.now.editions) }
     ensures held { IfOk result (λ touch. summed_by base.now.stripes op.now (OfMap base.now.shown) ≡ Some touch.held) }
     ensures refused { IfErr result (λ refusal. IsRefusal refusal (summed_by base.now.stripes op.now (OfMap base.now.shown) ≡ None)) }
 {
@@ -69,33 +69,33 @@ pub(crate) fn touch_map_summed<V: Value>(
 
 fn touch_key<V: Value>(base: &MapBase<V>, key: u64) -> Result<Touch<V>, Memory>
     ensures editions { IfOk result
-        (λ touch. touch.editions ≡ editions_at (key_place base.now.stripes key ∷ []) base.now.editions) }
+        (λ touch. touch.editions ≡ editions_at (key_location base.now.stripes key ∷ []) base.now.editions) }
     ensures held { IfOk result (λ touch. touch.held ≡ touched.Entry key (get base.now.shown key)) }
 {
-    let location = base.place(key);
+    let location = base.location_of(key);
     let editions = LocationEditions::single(base.allocator(), location, base.edition(location));
-    let held = Touched::Entry(key, base.entry(key)?);
+    let held = TouchedKey::Entry(key, base.entry(key)?);
     Ok(Touch { editions, held })
 }
 
 fn touch_counts<V: Value>(base: &MapBase<V>) -> Result<Touch<V>, Memory>
     ensures editions { IfOk result
-        (λ touch. touch.editions ≡ editions_at (touched_places base.now.stripes touch.held) base.now.editions) }
+        (λ touch. touch.editions ≡ editions_at (touched_locations base.now.stripes touch.held) base.now.editions) }
     ensures held { IfOk result (λ touch. touched_by base.now.stripes Len (OfMap base.now.shown) ≡ Some touch.held) }
 {
     let mut fresh = LocationEditions::new(base.allocator());
     let editions = all_editions(base, &mut fresh)?;
-    let held = Touched::Counts(base.counts()?);
+    let held = TouchedKey::Counts(base.counts()?);
     Ok(Touch { editions, held })
 }
 
 fn touch_total<V: Value>(base: &MapBase<V>, lent: &mut LocationEditions) -> Result<Touch<V>, Memory>
     ensures editions { IfOk result
-        (λ touch. touch.editions ≡ editions_at (touched_places base.now.stripes touch.held) base.now.editions) }
+        (λ touch. touch.editions ≡ editions_at (touched_locations base.now.stripes touch.held) base.now.editions) }
     ensures held { IfOk result (λ touch. summed_by base.now.stripes Len (OfMap base.now.shown) ≡ Some touch.held) }
 {
     let editions = all_editions(base, lent)?;
-    let held = Touched::Total(base.len() as u64);
+    let held = TouchedKey::Total(base.len() as u64);
     Ok(Touch { editions, held })
 }
 
@@ -115,7 +115,7 @@ fn all_editions<V: Value>(
 
 pub(crate) fn touch_bag<V: Value>(base: &BagBase, op: &Op<V>) -> Result<Touch<V>, Refusal>
     ensures editions { IfOk result
-        (λ touch. touch.editions ≡ editions_at (touched_places base.now.stripes touch.held) base.now.editions) }
+        (λ touch. touch.editions ≡ editions_at (touched_locations base.now.stripes touch.held) base.now.editions) }
     ensures held { IfOk result (λ touch. touched_by base.now.stripes op.now (OfBag base.now.shown) ≡ Some touch.held) }
     ensures refused { IfErr result (λ refusal. IsRefusal refusal (touched_by base.now.stripes op.now (OfBag base.now.shown) ≡ None)) }
 {
@@ -123,8 +123,8 @@ pub(crate) fn touch_bag<V: Value>(base: &BagBase, op: &Op<V>) -> Result<Touch<V>
         Op::Count(element) | Op::Add(element) | Op::Take(element) => *element,
         _ => return Err(Refusal::NoSuch),
     };
-    let location = base.place(element);
+    let location = base.location_of(element);
     let editions = LocationEditions::single(base.allocator(), location, base.edition(location));
-    let held = Touched::Copies(element, base.copies(element));
+    let held = TouchedKey::Copies(element, base.copies(element));
     Ok(Touch { editions, held })
 }

@@ -11,9 +11,9 @@ use Rattle.seq_model.specs.declared.call.Reply.{Reply}
 use Rattle.seq_model.specs.declared.record.Record.{Record}
 use Rattle.seq_model.specs.Contents.{Contents}
 use Rattle.seq_model.specs.Runs.{reply_of, after_call, IsLegal, after_calls, comes_before, insert_record, IsRun, after_run}
-use Rattle.seq_model.specs.Turns.{Turn, turn_of, turns_from, is_before, put_turn, sort_turns, NoneIsBefore, AreInTurn, writes_at}
+use Rattle.seq_model.specs.Ranks.{Rank, rank_of, ranks_from, is_before, put_rank, sort_ranks, NoneIsBefore, AreRanked, writes_at}
 use Rattle.seq_model.specs.Audit.{in_run_order, writers_at, IsLeastDouble, IsFirstWrong, IsFirstWrongAt}
-use Rattle.seq_model.proofs.TurnLemmas.{rising_numbers}
+use Rattle.seq_model.proofs.RankLemmas.{rising_numbers}
 
 -- ---- turns of records
 -- with its place below the other's, a record comes before it where its turn does
@@ -45,27 +45,27 @@ module _ {V : Type 0} where
       (placed_later p (p + 1) (in_run_order (p + 1) rs) (omega arith) (placed_order (p + 1) rs))
 
   turns_inserted : (e : ℕ × Record V) (es : List (ℕ × Record V)) → PlacedFrom (e.0 + 1) es
-      → map turn_of (insert_record e es) ≡ put_turn (turn_of e) (map turn_of es)
+      → map rank_of (insert_record e es) ≡ put_rank (rank_of e) (map rank_of es)
   turns_inserted e [] h = refl
   turns_inserted e (x ∷ xs) h =
       let same = ahead e.1.number x.1.number e.0 x.0 e.1.writes x.1.writes (omega (arith, h.0)) in
       elim (cases_Bool (comes_before e x)) [
-        | inl goes ↦ ap (map turn_of) (cond-true _ _ _ goes) ∙ sym (cond-true _ _ _ (sym same ∙ goes))
+        | inl goes ↦ ap (map rank_of) (cond-true _ _ _ goes) ∙ sym (cond-true _ _ _ (sym same ∙ goes))
         | inr stays ↦
-            ap (map turn_of) (cond-false _ _ _ stays) ∙ ap (λ l. turn_of x ∷ l) (turns_inserted e xs h.1)
+            ap (map rank_of) (cond-false _ _ _ stays) ∙ ap (λ l. rank_of x ∷ l) (turns_inserted e xs h.1)
             ∙ sym (cond-false _ _ _ (sym same ∙ stays))
       ]
 
-  pub turns_run_order : (p : ℕ) (rs : List (Record V)) → map turn_of (in_run_order p rs) ≡ sort_turns (turns_from p rs)
+  pub turns_run_order : (p : ℕ) (rs : List (Record V)) → map rank_of (in_run_order p rs) ≡ sort_ranks (ranks_from p rs)
   turns_run_order p [] = refl
   turns_run_order p (r ∷ rs) = turns_inserted (p, r) (in_run_order (p + 1) rs) (placed_order (p + 1) rs)
-      ∙ ap (put_turn (turn_of {V = V} (p, r))) (turns_run_order (p + 1) rs)
+      ∙ ap (put_rank (rank_of {V = V} (p, r))) (turns_run_order (p + 1) rs)
 
   pub turns_from-more : (place i p : ℕ) (rs : List (Record V)) (d : Record V) → i < length rs → p ≡ place + i
-      → turns_from place (take (suc i) rs) ≡ turns_from place (take i rs) ++ turn_of {V = V} (p, get_or rs i d) ∷ []
+      → ranks_from place (take (suc i) rs) ≡ ranks_from place (take i rs) ++ rank_of {V = V} (p, get_or rs i d) ∷ []
   turns_from-more place i p [] d lt e = absurd (omega arith)
-  turns_from-more place zero p (r ∷ rs) d lt e = let same : place ≡ p = omega arith in ap (λ q. turn_of {V = V} (q, r) ∷ []) same
-  turns_from-more place (suc i) p (r ∷ rs) d lt e = ap (λ l. turn_of {V = V} (place, r) ∷ l)
+  turns_from-more place zero p (r ∷ rs) d lt e = let same : place ≡ p = omega arith in ap (λ q. rank_of {V = V} (q, r) ∷ []) same
+  turns_from-more place (suc i) p (r ∷ rs) d lt e = ap (λ l. rank_of {V = V} (place, r) ∷ l)
       (turns_from-more (place + 1) i p rs d (omega arith) (omega arith))
 
   -- ---- each entry of the run order is a record that was handed in, at its place
@@ -153,31 +153,31 @@ exchange a b m n e = omega arith
 count-cons : {X : Type 0} (p : X → Bool) (x : X) (xs : List X) → count_by p (x ∷ xs) ≡ cond (p x) 1 0 + count_by p xs
 count-cons p x xs = sum_by-cons (λ y. cond (p y) 1 0) x xs
 
-pub counted_put : (p : Turn → Bool) (t : Turn) (ts : List Turn) → count_by p (put_turn t ts) ≡ count_by p (t ∷ ts)
+pub counted_put : (p : Rank → Bool) (t : Rank) (ts : List Rank) → count_by p (put_rank t ts) ≡ count_by p (t ∷ ts)
 counted_put p t [] = refl
 counted_put p t (u ∷ us) =
     elim (cases_Bool (is_before t u)) [
       | inl goes ↦ ap (count_by p) (cond-true _ _ _ goes)
       | inr stays ↦
-          ap (count_by p) (cond-false _ _ _ stays) ∙ count-cons p u (put_turn t us)
-          ∙ exchange (cond (p u) 1 0) (cond (p t) 1 0) (count_by p (put_turn t us)) (count_by p us) (counted_put p t us ∙ count-cons p t us)
+          ap (count_by p) (cond-false _ _ _ stays) ∙ count-cons p u (put_rank t us)
+          ∙ exchange (cond (p u) 1 0) (cond (p t) 1 0) (count_by p (put_rank t us)) (count_by p us) (counted_put p t us ∙ count-cons p t us)
           ∙ ap (λ n. cond (p t) 1 0 + n) (sym (count-cons p u us)) ∙ sym (count-cons p t (u ∷ us))
     ]
 
-pub counted_sorted : (p : Turn → Bool) (ts : List Turn) → count_by p (sort_turns ts) ≡ count_by p ts
+pub counted_sorted : (p : Rank → Bool) (ts : List Rank) → count_by p (sort_ranks ts) ≡ count_by p ts
 counted_sorted p [] = refl
-counted_sorted p (t ∷ ts) = counted_put p t (sort_turns ts) ∙ count-cons p t (sort_turns ts)
+counted_sorted p (t ∷ ts) = counted_put p t (sort_ranks ts) ∙ count-cons p t (sort_ranks ts)
     ∙ ap (λ n. cond (p t) 1 0 + n) (counted_sorted p ts) ∙ sym (count-cons p t ts)
 
 not_not : (w b : Bool) → (not (not w) && b) ≡ (w && b)
 not_not true b = refl
 not_not false b = refl
 
-pub counted_records : {V : Type 0} (n place : ℕ) (rs : List (Record V)) → count_by (writes_at n) (turns_from place rs) ≡ writers_at rs n
+pub counted_records : {V : Type 0} (n place : ℕ) (rs : List (Record V)) → count_by (writes_at n) (ranks_from place rs) ≡ writers_at rs n
 counted_records {V} n place [] = refl
 counted_records {V} n place (r ∷ rs) =
-    count-cons (writes_at n) (turn_of {V = V} (place, r)) (turns_from (place + 1) rs)
-    ∙ ap (λ b. cond b 1 0 + count_by (writes_at n) (turns_from (place + 1) rs)) (not_not r.writes (r.number == n))
+    count-cons (writes_at n) (rank_of {V = V} (place, r)) (ranks_from (place + 1) rs)
+    ∙ ap (λ b. cond b 1 0 + count_by (writes_at n) (ranks_from (place + 1) rs)) (not_not r.writes (r.number == n))
     ∙ ap (λ m. cond (r.writes && (r.number == n)) 1 0 + m) (counted_records {V = V} n (place + 1) rs)
     ∙ sym (count-cons (λ (x : Record V). x.writes && (x.number == n)) r rs)
 
@@ -191,34 +191,34 @@ number_is None n = false
 number_is (Some m) n = m == n
 
 -- the search, after a writer with the number last
-abbrev pub double_behind : Option ℕ → List Turn → Option ℕ
+abbrev pub double_behind : Option ℕ → List Rank → Option ℕ
 double_behind last [] = None
 double_behind last (t ∷ ts) = cond t.1 (double_behind last ts) (cond (number_is last t.0) (Some t.0) (double_behind (Some t.0) ts))
 
-abbrev AllFrom : ℕ → List Turn → Type 0
+abbrev AllFrom : ℕ → List Rank → Type 0
 AllFrom n [] = Unit {0}
 AllFrom n (t ∷ ts) = (n ≤ t.0) × AllFrom n ts
 
-abbrev AllBehind : Option ℕ → List Turn → Type 0
+abbrev AllBehind : Option ℕ → List Rank → Type 0
 AllBehind None ts = Unit {0}
 AllBehind (Some n) ts = AllFrom n ts
 
-abbrev Rise : List Turn → Type 0
+abbrev Rise : List Rank → Type 0
 Rise [] = Unit {0}
 Rise (t ∷ ts) = AllFrom t.0 ts × Rise ts
 
-abbrev counted : Option ℕ → List Turn → ℕ → ℕ
+abbrev counted : Option ℕ → List Rank → ℕ → ℕ
 counted last ts n = cond (number_is last n) 1 0 + count_by (writes_at n) ts
 
-all_from : (t : Turn) (ts : List Turn) → NoneIsBefore t ts → AllFrom t.0 ts
+all_from : (t : Rank) (ts : List Rank) → NoneIsBefore t ts → AllFrom t.0 ts
 all_from t [] h = tt
 all_from t (u ∷ us) h = (rising_numbers u.0 t.0 u.2 t.2 u.1 t.1 h.0, all_from t us h.1)
 
-rise : (ts : List Turn) → AreInTurn ts → Rise ts
+rise : (ts : List Rank) → AreRanked ts → Rise ts
 rise [] h = tt
 rise (t ∷ ts) h = (all_from t ts h.0, rise ts h.1)
 
-all_behind : (last : Option ℕ) (t : Turn) (ts : List Turn) → AllBehind last (t ∷ ts) → AllBehind last ts
+all_behind : (last : Option ℕ) (t : Rank) (ts : List Rank) → AllBehind last (t ∷ ts) → AllBehind last ts
 all_behind None t ts h = tt
 all_behind (Some n) t ts h = h.1
 
@@ -238,7 +238,7 @@ uncounted : (r : Bool) (n : ℕ) → n ≡ 0 → cond (not r && false) 1 0 + n �
 uncounted true n h = omega arith
 uncounted false n h = omega arith
 
-none_below : (n m : ℕ) (ts : List Turn) → m < n → AllFrom n ts → count_by (writes_at m) ts ≡ 0
+none_below : (n m : ℕ) (ts : List Rank) → m < n → AllFrom n ts → count_by (writes_at m) ts ≡ 0
 none_below n m [] lt h = refl
 none_below n m (t ∷ ts) lt h =
     let ne : t.0 ≢ m = omega (arith, h.0) in
@@ -287,22 +287,22 @@ abbrev NotBelow : Option ℕ → ℕ → Type 0
 NotBelow None k = Unit {0}
 NotBelow (Some w) k = w ≤ k
 
-first_behind : (last : Option ℕ) (t : Turn) (ts : List Turn) → AllBehind last (t ∷ ts) → NotBelow last t.0
+first_behind : (last : Option ℕ) (t : Rank) (ts : List Rank) → AllBehind last (t ∷ ts) → NotBelow last t.0
 first_behind None t ts h = tt
 first_behind (Some w) t ts h = h.0
 
 -- the counts after a writer, with those of a writer before it
-abbrev both : Option ℕ → ℕ → List Turn → ℕ → ℕ
+abbrev both : Option ℕ → ℕ → List Rank → ℕ → ℕ
 both last k ts n = cond (number_is last n) 1 0 + (cond (k == n) 1 0 + count_by (writes_at n) ts)
 
-twice : (w k : ℕ) (ts : List Turn) → (w == k) ≡ true → AllFrom k ts → IsLeastDouble (both (Some w) k ts) (Some k)
+twice : (w k : ℕ) (ts : List Rank) → (w == k) ≡ true → AllFrom k ts → IsLeastDouble (both (Some w) k ts) (Some k)
 twice w k ts same from = (
   two (w == k) (k == k) (count_by (writes_at k) ts) same (tested_same k),
   λ m lt. let ne : k ≢ m = omega arith in at_most_one (w == m) (k == m) (count_by (writes_at m) ts) (tested_other k m ne)
       (none_below k m ts lt from),
 )
 
-behind_writer : (last : Option ℕ) (k : ℕ) (ts : List Turn) → NotBelow last k → AllFrom k ts
+behind_writer : (last : Option ℕ) (k : ℕ) (ts : List Rank) → NotBelow last k → AllFrom k ts
     → IsLeastDouble (counted (Some k) ts) (double_behind (Some k) ts)
     → IsLeastDouble (both last k ts) (cond (number_is last k) (Some k) (double_behind (Some k) ts))
 behind_writer None k ts h from rest = least_alike (counted (Some k) ts) (both None k ts) (double_behind (Some k) ts) (λ n. omega arith) rest
@@ -321,7 +321,7 @@ behind_writer (Some w) k ts h from rest =
           (at_most_one (w == w) (k == w) (count_by (writes_at w) ts) (tested_other k w back) none) rest)
     ]
 
-scanned : (last : Option ℕ) (ts : List Turn) → AllBehind last ts → Rise ts → IsLeastDouble (counted last ts) (double_behind last ts)
+scanned : (last : Option ℕ) (ts : List Rank) → AllBehind last ts → Rise ts → IsLeastDouble (counted last ts) (double_behind last ts)
 scanned last [] h up = λ n. one_at_most (number_is last n) 0 refl
 scanned last (t ∷ ts) h up =
     least_alike (λ n. cond (number_is last n) 1 0 + (cond (not t.1 && (t.0 == n)) 1 0 + count_by (writes_at n) ts)) (counted last (t ∷ ts))
@@ -334,6 +334,6 @@ scanned last (t ∷ ts) h up =
       | false ↦ behind_writer last t.0 ts (first_behind last t ts h) up.0 (scanned (Some t.0) ts up.0 up.1)
     ])
 
-pub least_double : (ts : List Turn) → AreInTurn ts → IsLeastDouble (λ n. count_by (writes_at n) ts) (double_behind None ts)
+pub least_double : (ts : List Rank) → AreRanked ts → IsLeastDouble (λ n. count_by (writes_at n) ts) (double_behind None ts)
 least_double ts h = least_alike (counted None ts) (λ n. count_by (writes_at n) ts) (double_behind None ts) (λ n. omega arith)
     (scanned None ts tt (rise ts h))

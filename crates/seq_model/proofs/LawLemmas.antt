@@ -14,11 +14,9 @@ use Rattle.seq_model.specs.Audit.{IsLeastDouble, IsFirstWrong, IsFirstWrongAt, r
 use Rattle.seq_model.specs.Laws.{CallsDetermineReplies, CallsCompose, RunsCompose, HasItsOwnNumber, AreReaders, AreReadersBehind}
 use Rattle.seq_model.specs.Laws.{RunsHaveNoFault, FaultsAreDetermined}
 use Rattle.seq_model.proofs.RunLemmas.{IsLegal-append, after_calls-append, IsRun-append, after_run-append, NoClash, AllRead, AllReadBehind}
+use Rattle.seq_model.proofs.LogicLemmas.{nat_lt-true}
 
 -- ---- one least number
-less : (n m : ℕ) → nat_lt n m ≡ true → n < m
-less n m h = grind (arith, nat_tests)
-
 neither : (n m : ℕ) → nat_lt m n ≡ false → nat_lt n m ≡ false → n ≡ m
 neither n m h g = grind (arith, nat_tests)
 
@@ -28,8 +26,8 @@ not_below count n m h g lt = let low = h.1 m lt in omega (arith, low, g.0)
 one_least : (count : ℕ → ℕ) (n m : ℕ) → IsLeastDouble count (Some n) → IsLeastDouble count (Some m) → n ≡ m
 one_least count n m h g =
     elim (cases_Bool (nat_lt m n)) [
-      | inl lt ↦ absurd (not_below count n m h g (less m n lt))
-      | inr ge ↦ elim (cases_Bool (nat_lt n m)) [ inl lt ↦ absurd (not_below count m n g h (less n m lt)) | inr le ↦ neither n m ge le ]
+      | inl lt ↦ absurd (not_below count n m h g (nat_lt-true m n lt))
+      | inr ge ↦ elim (cases_Bool (nat_lt n m)) [ inl lt ↦ absurd (not_below count m n g h (nat_lt-true n m lt)) | inr le ↦ neither n m ge le ]
     ]
 
 not_double : (count : ℕ → ℕ) (n : ℕ) → IsLeastDouble count (Some n) → IsLeastDouble count None → ⊥

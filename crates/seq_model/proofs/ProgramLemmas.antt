@@ -3,6 +3,7 @@
 use Rattle.std.proofs.Common.{◌≡◌, zero, suc, arith, Option, Some, None, refl, List, [], ◌∷◌, sym, ◌∙◌, ap}
 use Rattle.std.specs.Prelude.{option_and_then, option_map}
 use Rattle.std.specs.Option.{option_map_or}
+use Rattle.std.proofs.lemmas.Option.{none-some, same_Some}
 use Rattle.seq_model.specs.declared.call.Call.{Call}
 use Rattle.seq_model.specs.declared.call.Reply.{Reply}
 use Rattle.seq_model.specs.Contents.{Contents, call_of}
@@ -10,19 +11,13 @@ use Rattle.seq_model.specs.Runs.{reply_of, after_call, IsLegal, after_calls}
 use Rattle.seq_model.specs.declared.job.Ask.TheVariants as ask
 use Rattle.seq_model.specs.Programs.{after, replies_of, AreAsked, Program, Asks, Answers, GivesUp, run, Follows}
 
-pub none_some : {A : Type 0} (x : A) → ◌≡◌ {A = Option A} None (Some x) → ⊥
-none_some x e = cc
-
-pub some_same : {A : Type 0} (x y : A) → Some x ≡ Some y → x ≡ y
-some_same x y e = cc
-
 call_is : {V : Type 0} (call : Call V) (s : Contents V) (reply : Reply V) → reply_of call s ≡ Some reply
     → call_of call s ≡ Some (reply, after_call call s)
 call_is {V} call s reply =
     elim (call_of call s) as (λ o. option_map (λ (r : Reply V × Contents V). r.0) o ≡ Some reply
     → o ≡ Some (reply, option_map_or (λ (r : Reply V × Contents V). r.1) o s)) [
-      | None ↦ λ e. absurd (none_some reply e)
-      | Some x ↦ λ e. (λ j. Some (some_same x.0 reply e j, x.1))
+      | None ↦ λ e. absurd (none-some reply e)
+      | Some x ↦ λ e. (λ j. Some (same_Some x.0 reply e j, x.1))
     ]
 
 pub followed_run : {V A : Type 0} (calls : List (Call V × Reply V)) (p q : Program V A) (s : Contents V) → Follows p calls q

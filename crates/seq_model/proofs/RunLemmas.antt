@@ -4,6 +4,7 @@ use Rattle.std.proofs.Common.{arith}
 use Rattle.std.specs.Prelude.{nat_lt, nat_le, option_map, filter}
 use Rattle.std.specs.Option.{option_map_or}
 use Rattle.std.proofs.lemmas.Bool.Decides.{nat_tests}
+use Rattle.std.proofs.lemmas.Bool.{or_parts}
 use Rattle.seq_model.specs.declared.call.Call.{Call}
 use Rattle.seq_model.specs.declared.call.Reply.{Reply}
 use Rattle.seq_model.specs.declared.record.Record.{Record}
@@ -13,10 +14,6 @@ use Rattle.seq_model.specs.Runs.{IsRun, after_run, is_writer}
 use Rattle.seq_model.specs.Changes.{changes}
 use Rattle.seq_model.proofs.ChangeLemmas.{unchanged}
 use Rattle.seq_model.proofs.RecordLemmas.{before, later}
-
-either : (a b : Bool) → (a || b) ≡ false → (a ≡ false) × (b ≡ false)
-either true b h = cc
-either false b h = (refl, h)
 
 not_both : (n m : ℕ) (w v : Bool) (a b : ℕ) → before n w a m v b ≡ true → (w ≡ true → v ≡ true → n ≢ m) → before m v b n w a ≡ false
 not_both n m true true a b h clash = let apart : n ≢ m = clash refl refl in grind (arith, nat_tests)
@@ -43,7 +40,7 @@ module _ {V : Type 0} where
   pub after_reads : (cs : List (Call V × Reply V)) (s : Contents V) → is_writer cs ≡ false → IsLegal cs s → after_calls cs s ≡ s
   after_reads [] s reads h = refl
   after_reads (c ∷ cs) s reads h =
-      let parts = either (changes c.0.op c.1) (is_writer cs) reads in
+      let parts = or_parts (changes c.0.op c.1) (is_writer cs) reads in
       let same = unchanged c.0 c.1 s h.0 parts.0 in
       ap (after_calls cs) same ∙ after_reads cs s parts.1 (subst (IsLegal cs) same h.1)
 

@@ -1,7 +1,7 @@
 //! Whether records are a run from one state to another.
 ghost use Rattle.std.specs.Prelude.{◌≡◌, ◌↔◌, ◌<◌, IsTrue, IfOk, IfErr, OnOk, Some, MatchOption, map, count_by};
 ghost use Rattle.seq_model.specs.Runs.{reply_of, after_call, IsLegal, after_calls, IsRun, after_run};
-ghost use Rattle.seq_model.specs.Turns.{turn_of, AreInTurn, writes_at};
+ghost use Rattle.seq_model.specs.Ranks.{rank_of, AreRanked, writes_at};
 ghost use Rattle.seq_model.specs.Texts.{audit_fault_text};
 ghost use Rattle.seq_model.specs.Audit.{run_order, IsLeastDouble, IsFirstWrong, IsReplayFault, IsRunBetween, IsAuditFault};
 
@@ -19,7 +19,7 @@ use thiserror::Error;
 pub enum AuditFault {
     /// The least number that two writers share.
     DoubleNumber(u64),
-    /// The first call, in the order of the run, whose reply is wrong: its record's place, and its own in the record.
+    /// The first call, in the order of the run, whose reply is wrong: the position of its record, and its own in the record.
     WrongReply { entry: u64, call: u64 },
     /// The run leaves another state.
     WrongState,
@@ -52,7 +52,7 @@ impl From<Memory> for AuditFault {
 /// The order of a run is by number; at one number the writer comes first, then readers in the order in which they were
 /// handed in. The faults, in the order in which they are looked for: `DoubleNumber` with the least number that two
 /// writers share; `WrongReply` with the first call, in the order of the run, whose reply is not the sequential call's or
-/// that has none, by the places (from 0) of its record in `records` and of the call in the record; `WrongState` where
+/// that has none, by the positions (from 0) of its record in `records` and of the call in the record; `WrongState` where
 /// the run leaves another state. `Memory` may come at any point.
 pub fn audit<V: Value>(
     alloc: Global,
@@ -75,9 +75,9 @@ pub fn audit<V: Value>(
     Ok(())
 }
 
-// The turns of the records in the order of their run: each one's number, whether it only reads, and its place.
+// The ranks of the records in the order of their run: each one's number, whether it only reads, and its position.
 fn turns_of<V>(alloc: Global, records: &[Record<V>]) -> Result<Vec<(u64, bool, usize)>, Memory>
-    ensures turns { IfOk result (λ turns. turns.items ≡ map turn_of (run_order records.now)) }
+    ensures turns { IfOk result (λ turns. turns.items ≡ map rank_of (run_order records.now)) }
 {
     let mut turns = Vec::with_capacity(alloc, records.len())?;
     for (place, record) in records.iter().enumerate() {
@@ -89,7 +89,7 @@ fn turns_of<V>(alloc: Global, records: &[Record<V>]) -> Result<Vec<(u64, bool, u
 
 // The least number that two writers share.
 fn double_number(turns: &[(u64, bool, usize)]) -> Option<u64>
-    requires { AreInTurn turns.now }
+    requires { AreRanked turns.now }
     ensures { IsLeastDouble (λ n. count_by (writes_at n) turns.now) result }
 {
     let mut last = None;
@@ -110,7 +110,7 @@ fn replay<V: Value>(
     records: &[Record<V>],
     turns: &[(u64, bool, usize)],
 ) -> Result<(), AuditFault>
-    requires { turns.now ≡ map turn_of (run_order records.now) }
+    requires { turns.now ≡ map rank_of (run_order records.now) }
     ensures ok { OnOk result
         (IsRun (run_order records.now) state.old × (state.new ≡ after_run (run_order records.now) state.old)) }
     ensures fault { IfErr result (IsReplayFault (run_order records.now) state.old) }
@@ -127,7 +127,7 @@ fn replay<V: Value>(
     Ok(())
 }
 
-// Makes the calls in turn, up to the first whose reply is not the one beside it, and answers its place.
+// Makes the calls in turn, up to the first whose reply is not the one beside it, and answers its position.
 fn first_wrong<V: Value>(
     state: &mut State<V>,
     calls: &[(Call<V>, Reply<V>)],

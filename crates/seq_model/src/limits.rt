@@ -15,5 +15,5 @@ pub const CALL_LIMIT: usize = 4096;
 /// Actors are numbered from 1 to this.
 pub const ACTOR_LIMIT: u32 = 64;
 
-/// Lists by actor have so many places: an actor's number is its place, and the first is no actor's.
+/// Lists by actor have so many entries: an actor's number is its position, and the first is no actor's.
 pub const SEATS: usize = ACTOR_LIMIT as usize + 1;

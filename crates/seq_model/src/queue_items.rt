@@ -83,7 +83,7 @@ impl QueueItems {
         Ok(())
     }
 
-    /// The item at this place, where there is one.
+    /// The item at this position, where there is one.
     pub fn get(&self, place: usize) -> Option<u64>
         ensures { result ≡ first_of (drop place self.now) }
     {

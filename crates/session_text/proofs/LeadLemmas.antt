@@ -9,7 +9,7 @@ use Rattle.step_world.specs.Feeds.{Feeds, fed, fed_all}
 use Rattle.step_world.specs.Parts.{IsWorld}
 use Rattle.step_world.specs.declared.parts.Parts.{Parts}
 use Rattle.step_world.specs.Reached.{IsReached}
-use Rattle.step_world.proofs.FedLemmas.{reached_fed}
+use Rattle.step_world.proofs.ReachedLemmas.{reached_fed}
 use Rattle.session_text.specs.Worlds.{Leads, told_by}
 
 pub reached_all : (o : Contents ℕ) (w : World ℕ) (es : List (Event ℕ)) → IsReached o w → IsReached o (fed_all w es)

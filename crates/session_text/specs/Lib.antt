@@ -13,7 +13,7 @@ pub use Rattle.text_formats.specs.SessionLines
 pub use Rattle.text_formats.specs.SessionPrints as PrintedSessions
 pub use Rattle.text_formats.specs.Sessions as SessionTexts
 pub use Rattle.text_formats.specs.Openings as DrawnOpenings
-pub use Rattle.text_formats.specs.Drawing as DrawnSessions
+pub use Rattle.text_formats.specs.DrawnActions as DrawnSessions
 pub mod Receipts
 pub mod Outputs
 pub mod Runs

@@ -13,7 +13,7 @@ use text_formats::Line;
 use vac_model::Action;
 
 /// The result of each session, in the order of the actions: the number of its commit, and what it answered. Each receipt is one of
-/// the session of the action at its place.
+/// the session of the action at its position.
 pub fn lines_of(
     alloc: Global,
     actions: &[Action],

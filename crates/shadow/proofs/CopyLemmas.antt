@@ -6,6 +6,7 @@ use Rattle.std.specs.Cmp.{nat_cmp_total}
 use Rattle.std.specs.Ordering.{nat_cmp, eq_by_cmp}
 use Rattle.std.specs.List.{sum}
 use Rattle.std.specs.FinMap.{FinMap, empty, get, get-insert, insert, len}
+use Rattle.std.proofs.lemmas.Option.{same_Some, none-some}
 use Rattle.seq_model.specs.declared.call.Op.{Op}
 use Rattle.seq_model.specs.declared.call.Op.TheVariants.{Get, Put, Remove, Len, Count, Add, Take}
 use Rattle.seq_model.specs.declared.call.Reply.{Reply}
@@ -15,14 +16,14 @@ use Rattle.seq_model.specs.Counts.{Multiset, copies}
 use Rattle.conflict.specs.declared.change.Change.{Change}
 use Rattle.conflict.specs.declared.outcome.Outcome.{Outcome}
 use Rattle.conflict.proofs.CountLemmas.{counts_all}
-use Rattle.conflict.specs.Places.{key_itself, some_same, none_some}
+use Rattle.conflict.specs.Places.{key_itself}
 use Rattle.conflict.specs.Rules.{applied}
 use Rattle.base_map.specs.Conflicts as map
 use Rattle.base_bag.specs.Conflicts as bag
 use Rattle.replay_log.specs.Base.{Shown, OfMap, OfBag, OfPq, OfQueue, after, changes_of, outcome_of}
 use Rattle.replay_log.specs.Parts.{MapKind, BagKind, PqKind, QueueKind}
-use Rattle.replay_log.specs.declared.touch.Touched.{Touched}
-use Rattle.replay_log.specs.declared.touch.Touched.TheVariants.{Entry, Copies, Counts, Total}
+use Rattle.replay_log.specs.declared.touch.TouchedKey.{TouchedKey}
+use Rattle.replay_log.specs.declared.touch.TouchedKey.TheVariants.{Entry, Copies, Counts, Total}
 use Rattle.replay_log.specs.Touches.{summed_by, touched_by}
 use Rattle.shadow.specs.Memo.{IsAlike, IsCopyBy, IsCountedBy, IsOfBy, IsShown, answer_with, copies_kept, entries_after, entries_kept}
 use Rattle.shadow.specs.Memo.{grown_kept, has_key, holds_with, shrunk_kept, with_count, with_entry, with_key, with_number, with_total}
@@ -70,7 +71,7 @@ module _ {V : Type 0} where
 
   -- ---- nothing touched yet
   pub new_copy_map : (m : FinMap nat_cmp V) → IsCopyBy {V = V} (OfMap empty) empty empty None 0 0 [] (OfMap m)
-  new_copy_map m (OfMap t) alike = (new_map t, (refl, λ n e. absurd (none_some n e)))
+  new_copy_map m (OfMap t) alike = (new_map t, (refl, λ n e. absurd (none-some n e)))
   new_copy_map m (OfBag t) alike = absurd (let z : BagKind ≡ MapKind = alike.0 in let y : ⊥ = cc in y)
   new_copy_map m (OfPq t) alike = absurd (let z : PqKind ≡ MapKind = alike.0 in let y : ⊥ = cc in y)
   new_copy_map m (OfQueue t) alike = absurd (let z : QueueKind ≡ MapKind = alike.0 in let y : ⊥ = cc in y)
@@ -120,7 +121,7 @@ module _ {V : Type 0} where
     entry_copied b m es cs total k is (OfMap t) alike =
         let both = is (OfMap t) (alike.0, λ op held. alike.1 op (more_entry es cs total b k (get m k) op held)) in
         let here = alike.1 (Get k) (holds_itself es k (get m k)) in
-        let same : get t k ≡ get m k = value_same _ _ (ap (λ (o : Outcome V). o.reply) (some_same _ _ here)) in
+        let same : get t k ≡ get m k = value_same _ _ (ap (λ (o : Outcome V). o.reply) (same_Some _ _ here)) in
         (learnt get es t (applied (map.rules V) changes t) k (get m k) same both.0, both.1)
     entry_copied b m es cs total k is (OfBag t) alike = absurd (let z : BagKind ≡ MapKind = alike.0 in let y : ⊥ = cc in y)
     entry_copied b m es cs total k is (OfPq t) alike = absurd (let z : PqKind ≡ MapKind = alike.0 in let y : ⊥ = cc in y)
@@ -132,7 +133,7 @@ module _ {V : Type 0} where
     count_copied b m es cs total x is (OfBag t) alike =
         let both = is (OfBag t) (alike.0, λ op held. alike.1 op (more_count es cs total b x (copies m x) op held)) in
         let here = alike.1 (Count x) (holds_itself cs x (copies m x)) in
-        let same : copies t x ≡ copies m x = number_same _ _ (ap (λ (o : Outcome V). o.reply) (some_same _ _ here)) in
+        let same : copies t x ≡ copies m x = number_same _ _ (ap (λ (o : Outcome V). o.reply) (same_Some _ _ here)) in
         (learnt copies cs t (applied (bag.rules V) changes t) x (copies m x) same both.0, tt)
     count_copied b m es cs total x is (OfMap t) alike = absurd (let z : MapKind ≡ BagKind = alike.0 in let y : ⊥ = cc in y)
     count_copied b m es cs total x is (OfPq t) alike = absurd (let z : PqKind ≡ BagKind = alike.0 in let y : ⊥ = cc in y)
@@ -144,16 +145,16 @@ module _ {V : Type 0} where
     total_copied b m es cs total is (OfMap t) alike =
         let both = is (OfMap t) (alike.0, λ op held. alike.1 op (more_total es cs total b (len m) op held)) in
         let here = alike.1 Len (some_number (len m) total) in
-        let same : len t ≡ len m = number_same _ _ (ap (λ (o : Outcome V). o.reply) (some_same _ _ here)) in
+        let same : len t ≡ len m = number_same _ _ (ap (λ (o : Outcome V). o.reply) (same_Some _ _ here)) in
         (both.0, totalled (len m) total g h t (applied (map.rules V) changes t) same both.1)
     total_copied b m es cs total is (OfBag t) alike = absurd (let z : BagKind ≡ MapKind = alike.0 in let y : ⊥ = cc in y)
     total_copied b m es cs total is (OfPq t) alike = absurd (let z : PqKind ≡ MapKind = alike.0 in let y : ⊥ = cc in y)
     total_copied b m es cs total is (OfQueue t) alike = absurd (let z : QueueKind ≡ MapKind = alike.0 in let y : ⊥ = cc in y)
 
-    abbrev With : Shown V → FinMap nat_cmp (Option V) → FinMap nat_cmp ℕ → Option ℕ → Shown V → Touched V → Type 0
+    abbrev With : Shown V → FinMap nat_cmp (Option V) → FinMap nat_cmp ℕ → Option ℕ → Shown V → TouchedKey V → Type 0
     With b es cs total s t = IsCopyBy b (with_entry t es) (with_count t cs) (with_total t total) g h changes s
 
-    map_copied : (n : ℕ) (t : Touched V) (b m : FinMap nat_cmp V) (es : FinMap nat_cmp (Option V)) (cs : FinMap nat_cmp ℕ)
+    map_copied : (n : ℕ) (t : TouchedKey V) (b m : FinMap nat_cmp V) (es : FinMap nat_cmp (Option V)) (cs : FinMap nat_cmp ℕ)
         (total : Option ℕ)
         → 0 < n → IsShown n t (OfMap m) → IsCopyBy (OfMap b) es cs total g h changes (OfMap m) → With (OfMap b) es cs total (OfMap m) t
     map_copied n (Entry k o) b m es cs total pos shown is =
@@ -165,7 +166,7 @@ module _ {V : Type 0} where
         subst (λ x. With (OfMap b) es cs total (OfMap m) (Total x)) shown (total_copied b m es cs total is)
     map_copied n (Copies x c) b m es cs total pos shown is = absurd shown
 
-    bag_copied : (n : ℕ) (t : Touched V) (b m : Multiset) (es : FinMap nat_cmp (Option V)) (cs : FinMap nat_cmp ℕ) (total : Option ℕ)
+    bag_copied : (n : ℕ) (t : TouchedKey V) (b m : Multiset) (es : FinMap nat_cmp (Option V)) (cs : FinMap nat_cmp ℕ) (total : Option ℕ)
         → IsShown n t (OfBag m) → IsCopyBy (OfBag b) es cs total g h changes (OfBag m) → With (OfBag b) es cs total (OfBag m) t
     bag_copied n (Copies x c) b m es cs total shown is =
         subst (λ y. With (OfBag b) es cs total (OfBag m) (Copies x y)) shown (count_copied b m es cs total x is)
@@ -173,7 +174,7 @@ module _ {V : Type 0} where
     bag_copied n (Counts ns) b m es cs total shown is = absurd shown
     bag_copied n (Total t) b m es cs total shown is = absurd shown
 
-    shown_copy : (n : ℕ) (t : Touched V) (b s : Shown V) (es : FinMap nat_cmp (Option V)) (cs : FinMap nat_cmp ℕ)
+    shown_copy : (n : ℕ) (t : TouchedKey V) (b s : Shown V) (es : FinMap nat_cmp (Option V)) (cs : FinMap nat_cmp ℕ)
         (total : Option ℕ)
         → 0 < n → IsShown n t s → IsCopyBy b es cs total g h changes s → With b es cs total s t
     shown_copy n t (OfMap b) (OfMap m) es cs total pos shown is = map_copied n t b m es cs total pos shown is
@@ -187,12 +188,12 @@ module _ {V : Type 0} where
     shown_copy n t (OfPq b) s es cs total pos shown is = absurd (is s (itself (OfPq b) s es cs total)).0
     shown_copy n t (OfQueue b) s es cs total pos shown is = absurd (is s (itself (OfQueue b) s es cs total)).0
 
-    pub touched_copy : (n : ℕ) (op : Op V) (t : Touched V) (b s : Shown V) (es : FinMap nat_cmp (Option V)) (cs : FinMap nat_cmp ℕ)
+    pub touched_copy : (n : ℕ) (op : Op V) (t : TouchedKey V) (b s : Shown V) (es : FinMap nat_cmp (Option V)) (cs : FinMap nat_cmp ℕ)
         (total : Option ℕ)
         → 0 < n → touched_by n op s ≡ Some t → IsCopyBy b es cs total g h changes s → With b es cs total s t
     touched_copy n op t b s es cs total pos e is = shown_copy n t b s es cs total pos (is_shown n op s t e) is
 
-    pub summed_copy : (n : ℕ) (op : Op V) (t : Touched V) (b s : Shown V) (es : FinMap nat_cmp (Option V)) (cs : FinMap nat_cmp ℕ)
+    pub summed_copy : (n : ℕ) (op : Op V) (t : TouchedKey V) (b s : Shown V) (es : FinMap nat_cmp (Option V)) (cs : FinMap nat_cmp ℕ)
         (total : Option ℕ)
         → 0 < n → summed_by n op s ≡ Some t → IsCopyBy b es cs total g h changes s → With b es cs total s t
     summed_copy n op t b s es cs total pos e is = shown_copy n t b s es cs total pos (is_shown_summed n op s t e) is

@@ -7,6 +7,7 @@ use Rattle.std.specs.Cmp.{nat_cmp_total}
 use Rattle.std.specs.Ordering.{nat_cmp}
 use Rattle.std.specs.List.{sum}
 use Rattle.std.specs.FinMap.{FinMap, empty_of_len, get, get-empty, insert, len, len-insert, len-remove, remove}
+use Rattle.std.proofs.lemmas.Option.{same_Some, none-some}
 use Rattle.seq_model.specs.declared.call.Op.{Op}
 use Rattle.seq_model.specs.declared.call.Op.TheVariants.{Put, Remove, Len}
 use Rattle.seq_model.specs.declared.call.Reply.{Reply}
@@ -16,12 +17,11 @@ use Rattle.conflict.specs.declared.change.Change.{Change}
 use Rattle.conflict.specs.declared.outcome.Outcome.{Outcome}
 use Rattle.conflict.specs.declared.outcome.Note.TheVariants.{Plain}
 use Rattle.conflict.proofs.CountLemmas.{counts_all}
-use Rattle.conflict.specs.Places.{some_same, none_some}
 use Rattle.conflict.specs.Rules.{applied}
 use Rattle.base_map.specs.Conflicts as map
 use Rattle.replay_log.specs.Base.{Shown, OfMap, OfBag, OfPq, OfQueue, after, changes_of, outcome_of}
-use Rattle.replay_log.specs.declared.touch.Touched.{Touched}
-use Rattle.replay_log.specs.declared.touch.Touched.TheVariants.{Entry, Copies, Counts, Total}
+use Rattle.replay_log.specs.declared.touch.TouchedKey.{TouchedKey}
+use Rattle.replay_log.specs.declared.touch.TouchedKey.TheVariants.{Entry, Copies, Counts, Total}
 use Rattle.shadow.specs.Memo.{IsCounted, IsCountedBy, IsShown, answer_with, grown_after, grown_kept, holds_with, len_outcome, shrunk_after}
 use Rattle.shadow.specs.Memo.{shrunk_kept, with_number, with_total}
 use Rattle.shadow.proofs.MemoLemmas.{held_some, map_next}
@@ -45,7 +45,7 @@ module _ {V : Type 0} (now : FinMap nat_cmp V) (k : ℕ) where
   has_one v there = at (len now) refl
     where
       at : (n : ℕ) → len now ≡ n → 0 < n
-      at zero e = absurd (none_some v (sym (ap (λ m. get m k) (empty_of_len now e) ∙ get-empty {X = V} nat_cmp k) ∙ there))
+      at zero e = absurd (none-some v (sym (ap (λ m. get m k) (empty_of_len now e) ∙ get-empty {X = V} nat_cmp k) ∙ there))
       at (suc n) e = omega arith
 
   put_counted : (v : V) (o : Option V) (g h before : ℕ) → get now k ≡ o → len now + h ≡ before + g
@@ -71,7 +71,7 @@ module _ {V : Type 0} where
   plain op s = record { op = op; reply = s; note = Plain }
 
   reply_is : (op : Op V) (r : Reply V) (o : Outcome V) (s : Reply V) → Some (plain op s) ≡ Some o → o.reply ≡ r → s ≡ r
-  reply_is op r o s e is = ap (λ (x : Outcome V). x.reply) (some_same _ _ e) ∙ is
+  reply_is op r o s e is = ap (λ (x : Outcome V). x.reply) (same_Some _ _ e) ∙ is
 
   len_kept : (op : Op V) (r : Reply V) (o : Outcome V) (total : Option ℕ) (g h : ℕ) (m now : FinMap nat_cmp V)
       → map.outcome_of op now ≡ Some o → o.reply ≡ r → IsCounted total g h m now
@@ -106,10 +106,10 @@ module _ {V : Type 0} where
   -- ---- the number of all keys
   pub totalled : (n : ℕ) (total : Option ℕ) (g h : ℕ) (m now : FinMap nat_cmp V) → len m ≡ n → IsCounted total g h m now
       → IsCounted (with_number n total) g h m now
-  totalled n None g h m now e is = (is.0, λ t given. e ∙ some_same _ t given)
+  totalled n None g h m now e is = (is.0, λ t given. e ∙ same_Some _ t given)
   totalled n (Some t) g h m now e is = is
 
-  pub counted_added : (n : ℕ) (t : Touched V) (b s : Shown V) (total : Option ℕ) (g h : ℕ) (changes : List (Change V))
+  pub counted_added : (n : ℕ) (t : TouchedKey V) (b s : Shown V) (total : Option ℕ) (g h : ℕ) (changes : List (Change V))
       → 0 < n → IsCountedBy b total g h changes s → IsShown n t s → IsCountedBy b (with_total t total) g h changes s
   counted_added n (Counts cs) (OfMap b) (OfMap m) total g h changes pos is shown =
       totalled (sum cs) total g h m (applied (map.rules V) changes m) (sym (ap sum shown ∙ counts_all n pos m)) is

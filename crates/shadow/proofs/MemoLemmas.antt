@@ -8,26 +8,28 @@ use Rattle.std.specs.Ordering.{nat_cmp, eq_by_cmp}
 use Rattle.std.specs.FinMap.{FinMap, empty, get, get-empty, insert, get-insert, get-remove}
 use Rattle.std.proofs.lemmas.Bool.Decides.{nat_tests}
 use Rattle.std.proofs.lemmas.List.Sums.{fold-append}
+use Rattle.std.proofs.lemmas.Option.{same_Some, none-some}
 use Rattle.seq_model.specs.declared.call.Op.{Op}
 use Rattle.seq_model.specs.declared.call.Op.TheVariants.{Get, Put, Remove, Len, Count, Add, Take}
 use Rattle.seq_model.specs.declared.call.Reply.{Reply}
 use Rattle.seq_model.specs.declared.call.Reply.TheVariants.{Done, Full, Value, Number, Yes, No}
 use Rattle.seq_model.specs.declared.limits.TheConstants.{COPY_LIMIT}
 use Rattle.seq_model.specs.Counts.{Multiset, copies}
+use Rattle.seq_model.proofs.LogicLemmas.{some-none}
 use Rattle.conflict.specs.declared.change.Change.{Change}
 use Rattle.conflict.specs.declared.change.Change.TheVariants as change
 use Rattle.conflict.specs.declared.outcome.Outcome.{Outcome}
 use Rattle.conflict.specs.declared.outcome.Note.TheVariants.{Plain}
 use Rattle.conflict.specs.Multisets as multisets
-use Rattle.conflict.specs.Places.{same_key, some_same, some_none, none_some}
+use Rattle.conflict.specs.Places.{same_key}
 use Rattle.conflict.specs.Rules.{applied}
 use Rattle.base_map.specs.Conflicts as map
 use Rattle.base_bag.specs.Conflicts as bag
 use Rattle.base_pq.specs.Conflicts as pq
 use Rattle.base_queue.specs.Conflicts as queue
 use Rattle.replay_log.specs.Base.{Shown, OfMap, OfBag, OfPq, OfQueue, after, changes_of, outcome_of}
-use Rattle.replay_log.specs.declared.touch.Touched.{Touched}
-use Rattle.replay_log.specs.declared.touch.Touched.TheVariants.{Entry, Copies, Counts, Total}
+use Rattle.replay_log.specs.declared.touch.TouchedKey.{TouchedKey}
+use Rattle.replay_log.specs.declared.touch.TouchedKey.TheVariants.{Entry, Copies, Counts, Total}
 use Rattle.replay_log.specs.Touches.{summed_by, touched_by}
 use Rattle.shadow.specs.Memo.{IsKnown, IsOfBy, IsShown, has_key, with_key, with_entry, with_count, holds_by, entry_outcome, known_entry}
 use Rattle.shadow.specs.Memo.{map_answer, counted_up, copies_after, entries_after, answer_by, entries_kept, copies_kept}
@@ -38,12 +40,12 @@ module _ {C A : Type 0} (look : C → ℕ → A) where
   Known known before now = IsKnown look known before now
 
   pub nothing_known : (s : C) → Known empty s s
-  nothing_known s = (λ k a e. absurd (none_some a (sym (get-empty {X = A} nat_cmp k) ∙ e)), λ k e. refl)
+  nothing_known s = (λ k a e. absurd (none-some a (sym (get-empty {X = A} nat_cmp k) ∙ e)), λ k e. refl)
 
   -- a key of which something else is known
   known_there : (known : FinMap nat_cmp A) (k q : ℕ) (a b : A) → eq_by_cmp nat_cmp q k ≡ true → get (insert known k a) q ≡ Some b → a ≡ b
   known_there known k q a b same e =
-      some_same a b (sym (get-insert nat_cmp_total known k a q ∙ ap (λ t. cond t (Some a) (get known q)) same) ∙ e)
+      same_Some a b (sym (get-insert nat_cmp_total known k a q ∙ ap (λ t. cond t (Some a) (get known q)) same) ∙ e)
 
   known_elsewhere : (known : FinMap nat_cmp A) (k q : ℕ) (a : A) (o : Option A) → eq_by_cmp nat_cmp q k ≡ false
       → get (insert known k a) q ≡ o → get known q ≡ o
@@ -52,7 +54,7 @@ module _ {C A : Type 0} (look : C → ℕ → A) where
 
   none_there : (known : FinMap nat_cmp A) (k q : ℕ) (a : A) → eq_by_cmp nat_cmp q k ≡ true → get (insert known k a) q ≡ None → ⊥
   none_there known k q a same e =
-      some_none a (sym (get-insert nat_cmp_total known k a q ∙ ap (λ t. cond t (Some a) (get known q)) same) ∙ e)
+      some-none a (sym (get-insert nat_cmp_total known k a q ∙ ap (λ t. cond t (Some a) (get known q)) same) ∙ e)
 
   -- the collection shows something else at one key
   pub changed_known : (known : FinMap nat_cmp A) (s now after : C) (k : ℕ) (a : A)
@@ -231,9 +233,9 @@ module _ {V : Type 0} where
       (out : Outcome V)
       → holds_by b es cs op ≡ true → IsOfBy b es cs changes s → answer_by b es cs op ≡ Some out → outcome_of op (after changes s) ≡ Some out
   answered op (OfMap b) (OfMap m) es cs changes out held is given =
-      entry_answered op b es cs m (applied (map.rules V) changes m) out held is (λ o e. some_same out o (sym given ∙ e))
+      entry_answered op b es cs m (applied (map.rules V) changes m) out held is (λ o e. same_Some out o (sym given ∙ e))
   answered op (OfBag b) (OfBag m) es cs changes out held is given =
-      count_answered op b es cs m (applied (bag.rules V) changes m) out held is (λ o e. some_same out o (sym given ∙ e))
+      count_answered op b es cs m (applied (bag.rules V) changes m) out held is (λ o e. same_Some out o (sym given ∙ e))
   answered op (OfMap b) (OfBag m) es cs changes out held is given = absurd is
   answered op (OfMap b) (OfPq m) es cs changes out held is given = absurd is
   answered op (OfMap b) (OfQueue m) es cs changes out held is given = absurd is
@@ -309,7 +311,7 @@ module _ {V : Type 0} where
   accepted_holds o (OfQueue b) es cs op held = refl
 
   -- ---- one key more
-  pub added : (n : ℕ) (t : Touched V) (b s : Shown V) (es : FinMap nat_cmp (Option V)) (cs : FinMap nat_cmp ℕ) (changes : List (Change V))
+  pub added : (n : ℕ) (t : TouchedKey V) (b s : Shown V) (es : FinMap nat_cmp (Option V)) (cs : FinMap nat_cmp ℕ) (changes : List (Change V))
       → IsOfBy b es cs changes s → IsShown n t s → IsOfBy b (with_entry t es) (with_count t cs) changes s
   added n (Entry k o) (OfMap b) (OfMap m) es cs changes is shown = learnt get es m (applied (map.rules V) changes m) k o shown is
   added n (Copies x c) (OfBag b) (OfBag m) es cs changes is shown = learnt copies cs m (applied (bag.rules V) changes m) x c shown is
@@ -329,18 +331,18 @@ module _ {V : Type 0} where
   added n (Total t) b s es cs changes is shown = is
 
   -- ---- what a base gives to be held
-  shown_map : (n : ℕ) (op : Op V) (m : FinMap nat_cmp V) (t : Touched V) → touched_by n op (OfMap m) ≡ Some t → IsShown n t (OfMap m)
-  shown_map n (Get k) m t e = subst (λ x. IsShown n x (OfMap m)) (some_same _ _ e) refl
-  shown_map n (Put k v) m t e = subst (λ x. IsShown n x (OfMap m)) (some_same _ _ e) refl
-  shown_map n (Remove k) m t e = subst (λ x. IsShown n x (OfMap m)) (some_same _ _ e) refl
-  shown_map n Len m t e = subst (λ x. IsShown n x (OfMap m)) (some_same _ _ e) refl
-  shown_map n _ m t e = absurd (none_some t e)
+  shown_map : (n : ℕ) (op : Op V) (m : FinMap nat_cmp V) (t : TouchedKey V) → touched_by n op (OfMap m) ≡ Some t → IsShown n t (OfMap m)
+  shown_map n (Get k) m t e = subst (λ x. IsShown n x (OfMap m)) (same_Some _ _ e) refl
+  shown_map n (Put k v) m t e = subst (λ x. IsShown n x (OfMap m)) (same_Some _ _ e) refl
+  shown_map n (Remove k) m t e = subst (λ x. IsShown n x (OfMap m)) (same_Some _ _ e) refl
+  shown_map n Len m t e = subst (λ x. IsShown n x (OfMap m)) (same_Some _ _ e) refl
+  shown_map n _ m t e = absurd (none-some t e)
 
-  shown_bag : (n : ℕ) (op : Op V) (m : Multiset) (t : Touched V) → touched_by n op (OfBag m) ≡ Some t → IsShown n t (OfBag m)
-  shown_bag n (Count x) m t e = subst (λ y. IsShown n y (OfBag m)) (some_same _ _ e) refl
-  shown_bag n (Add x) m t e = subst (λ y. IsShown n y (OfBag m)) (some_same _ _ e) refl
-  shown_bag n (Take x) m t e = subst (λ y. IsShown n y (OfBag m)) (some_same _ _ e) refl
-  shown_bag n _ m t e = absurd (none_some t e)
+  shown_bag : (n : ℕ) (op : Op V) (m : Multiset) (t : TouchedKey V) → touched_by n op (OfBag m) ≡ Some t → IsShown n t (OfBag m)
+  shown_bag n (Count x) m t e = subst (λ y. IsShown n y (OfBag m)) (same_Some _ _ e) refl
+  shown_bag n (Add x) m t e = subst (λ y. IsShown n y (OfBag m)) (same_Some _ _ e) refl
+  shown_bag n (Take x) m t e = subst (λ y. IsShown n y (OfBag m)) (same_Some _ _ e) refl
+  shown_bag n _ m t e = absurd (none-some t e)
 
   no_pq : (n : ℕ) (op : Op V) (m : pq.Shown) → touched_by n op (OfPq m) ≡ None
   no_pq n (Get k) m = refl
@@ -350,20 +352,20 @@ module _ {V : Type 0} where
   no_queue n (Get k) m = refl
   no_queue n _ m = refl
 
-  pub is_shown : (n : ℕ) (op : Op V) (s : Shown V) (t : Touched V) → touched_by n op s ≡ Some t → IsShown n t s
+  pub is_shown : (n : ℕ) (op : Op V) (s : Shown V) (t : TouchedKey V) → touched_by n op s ≡ Some t → IsShown n t s
   is_shown n op (OfMap m) t e = shown_map n op m t e
   is_shown n op (OfBag m) t e = shown_bag n op m t e
-  is_shown n op (OfPq m) t e = absurd (none_some t (sym (no_pq n op m) ∙ e))
-  is_shown n op (OfQueue m) t e = absurd (none_some t (sym (no_queue n op m) ∙ e))
+  is_shown n op (OfPq m) t e = absurd (none-some t (sym (no_pq n op m) ∙ e))
+  is_shown n op (OfQueue m) t e = absurd (none-some t (sym (no_queue n op m) ∙ e))
 
-  summed_map : (n : ℕ) (op : Op V) (m : FinMap nat_cmp V) (t : Touched V) → summed_by n op (OfMap m) ≡ Some t → IsShown n t (OfMap m)
+  summed_map : (n : ℕ) (op : Op V) (m : FinMap nat_cmp V) (t : TouchedKey V) → summed_by n op (OfMap m) ≡ Some t → IsShown n t (OfMap m)
   summed_map n (Get k) m t e = shown_map n (Get k) m t e
   summed_map n (Put k v) m t e = shown_map n (Put k v) m t e
   summed_map n (Remove k) m t e = shown_map n (Remove k) m t e
-  summed_map n Len m t e = subst (λ x. IsShown n x (OfMap m)) (some_same _ _ e) refl
-  summed_map n _ m t e = absurd (none_some t e)
+  summed_map n Len m t e = subst (λ x. IsShown n x (OfMap m)) (same_Some _ _ e) refl
+  summed_map n _ m t e = absurd (none-some t e)
 
-  pub is_shown_summed : (n : ℕ) (op : Op V) (s : Shown V) (t : Touched V) → summed_by n op s ≡ Some t → IsShown n t s
+  pub is_shown_summed : (n : ℕ) (op : Op V) (s : Shown V) (t : TouchedKey V) → summed_by n op s ≡ Some t → IsShown n t s
   is_shown_summed n op (OfMap m) t e = summed_map n op m t e
   is_shown_summed n op (OfBag m) t e = is_shown n op (OfBag m) t e
   is_shown_summed n op (OfPq m) t e = is_shown n op (OfPq m) t e

@@ -1,3 +1,3 @@
 pub mod Shadow
 pub mod Memo
-pub mod KeyPlace
+pub mod KeyLocation

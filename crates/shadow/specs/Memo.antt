@@ -23,8 +23,8 @@ use Rattle.replay_log.specs.declared.base.Base.{Base}
 use Rattle.replay_log.specs.declared.base.Base.TheVariants as base
 use Rattle.replay_log.specs.Base.{Shown, OfMap, OfBag, changes_of, outcome_of, shown_of, stripes_of, writes_of}
 use Rattle.replay_log.specs.Parts.{kind_of}
-use Rattle.replay_log.specs.declared.touch.Touched.{Touched}
-use Rattle.replay_log.specs.declared.touch.Touched.TheVariants.{Entry, Copies, Counts, Total}
+use Rattle.replay_log.specs.declared.touch.TouchedKey.{TouchedKey}
+use Rattle.replay_log.specs.declared.touch.TouchedKey.TheVariants.{Entry, Copies, Counts, Total}
 use Rattle.seq_model.specs.declared.kind.Kind.{Kind}
 use Rattle.seq_model.specs.declared.kind.Kind.TheVariants as any_kind
 use Rattle.shadow.specs.declared.memo.MemoKind.{MemoKind}
@@ -109,15 +109,15 @@ module _ {V : Type 0} where
   holds m op = holds_with (shown_of m.blank) m.entries m.copies m.total op
 
   -- with what was touched
-  abbrev pub with_entry : Touched V → FinMap nat_cmp (Option V) → FinMap nat_cmp (Option V)
+  abbrev pub with_entry : TouchedKey V → FinMap nat_cmp (Option V) → FinMap nat_cmp (Option V)
   with_entry (Entry k o) es = with_key es k o
   with_entry t es = es
 
-  abbrev pub with_count : Touched V → FinMap nat_cmp ℕ → FinMap nat_cmp ℕ
+  abbrev pub with_count : TouchedKey V → FinMap nat_cmp ℕ → FinMap nat_cmp ℕ
   with_count (Copies x n) cs = with_key cs x n
   with_count t cs = cs
 
-  abbrev pub with_total : Touched V → Option ℕ → Option ℕ
+  abbrev pub with_total : TouchedKey V → Option ℕ → Option ℕ
   with_total (Counts cs) total = with_number (sum cs) total
   with_total (Total n) total = with_number n total
   with_total t total = total
@@ -140,7 +140,7 @@ module _ {V : Type 0} where
   total_without op total = total
 
   -- what was touched is what the collection shows there, in n stripes
-  abbrev pub IsShown : ℕ → Touched V → Shown V → Type 0
+  abbrev pub IsShown : ℕ → TouchedKey V → Shown V → Type 0
   IsShown n (Entry k o) (OfMap m) = get m k ≡ o
   IsShown n (Counts cs) (OfMap m) = cs ≡ stripe_counts n m
   IsShown n (Total t) (OfMap m) = len m ≡ t

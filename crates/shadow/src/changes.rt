@@ -5,10 +5,10 @@ ghost use Rattle.seq_model.specs.declared.call.Reply.{Reply};
 ghost use Rattle.base_bag.specs.Conflicts as bag;
 ghost use Rattle.base_map.specs.Conflicts as of_map;
 ghost use Rattle.replay_log.specs.Base.{changes_of, shown_of, writes_of};
-ghost use Rattle.shadow.specs.KeyPlace.{written_there};
+ghost use Rattle.shadow.specs.KeyLocation.{written_there};
 ghost use Rattle.shadow.specs.Memo.{blank_of, grown_after, known_entry, put_of};
 
-use crate::memo::{KeyPlace, MemoKind};
+use crate::memo::{KeyLocation, MemoKind};
 use conflict::{Change, FewKeys, Outcome};
 use seq_model::{Memory, Op, Reply, Value};
 
@@ -43,7 +43,7 @@ fn put_entry_change<V: Value>(
     match (&outcome.op, &outcome.reply) {
         (Op::Put(key, _), _) | (Op::Remove(key), Reply::Value(_)) => {
             *change = base_map::change_in(outcome)?;
-            Ok(Some(base_map::place_in(stripes, *key)))
+            Ok(Some(base_map::location_in(stripes, *key)))
         }
         _ => {
             no_change(change);
@@ -65,7 +65,7 @@ fn put_copies_change<V: Value>(
     match (&outcome.op, &outcome.reply) {
         (Op::Add(element), Reply::Done) | (Op::Take(element), Reply::Yes) => {
             *change = base_bag::change_in(outcome)?;
-            Ok(Some(base_bag::place_in(stripes, *element)))
+            Ok(Some(base_bag::location_in(stripes, *element)))
         }
         _ => {
             no_change(change);
@@ -91,18 +91,18 @@ fn let_go<V: Drop>(change: &mut Option<Change<V>>)
 }
 
 /// The location of the key of an outcome in so many stripes of a map, and whether it writes there.
-pub(crate) fn entry_place<V>(stripes: u32, outcome: &Outcome<V>) -> Option<KeyPlace>
+pub(crate) fn entry_location<V>(stripes: u32, outcome: &Outcome<V>) -> Option<KeyLocation>
     requires { 0 < stripes }
     ensures reads { IfSome result (λ at. of_map.reads_of stripes outcome.now ≡ at.location ∷ []) }
     ensures writes { IfSome result (λ at. of_map.writes_of stripes outcome.now ≡ written_there at) }
 {
     match (&outcome.op, &outcome.reply) {
-        (Op::Put(key, _), _) | (Op::Remove(key), Reply::Value(_)) => Some(KeyPlace {
-            location: base_map::place_in(stripes, *key),
+        (Op::Put(key, _), _) | (Op::Remove(key), Reply::Value(_)) => Some(KeyLocation {
+            location: base_map::location_in(stripes, *key),
             written: true,
         }),
-        (Op::Get(key) | Op::Remove(key), _) => Some(KeyPlace {
-            location: base_map::place_in(stripes, *key),
+        (Op::Get(key) | Op::Remove(key), _) => Some(KeyLocation {
+            location: base_map::location_in(stripes, *key),
             written: false,
         }),
         _ => None,
@@ -110,25 +110,25 @@ pub(crate) fn entry_place<V>(stripes: u32, outcome: &Outcome<V>) -> Option<KeyPl
 }
 
 /// Likewise in a multiset.
-pub(crate) fn copies_place<V>(stripes: u32, outcome: &Outcome<V>) -> Option<KeyPlace>
+pub(crate) fn copies_location<V>(stripes: u32, outcome: &Outcome<V>) -> Option<KeyLocation>
     requires { 0 < stripes }
     ensures reads { IfSome result (λ at. bag.reads_of stripes outcome.now ≡ at.location ∷ []) }
     ensures writes { IfSome result (λ at. bag.writes_of stripes outcome.now ≡ written_there at) }
 {
     match (&outcome.op, &outcome.reply) {
-        (Op::Add(element), Reply::Done) | (Op::Take(element), Reply::Yes) => Some(KeyPlace {
-            location: base_bag::place_in(stripes, *element),
+        (Op::Add(element), Reply::Done) | (Op::Take(element), Reply::Yes) => Some(KeyLocation {
+            location: base_bag::location_in(stripes, *element),
             written: true,
         }),
-        (Op::Count(element) | Op::Add(element) | Op::Take(element), _) => Some(KeyPlace {
-            location: base_bag::place_in(stripes, *element),
+        (Op::Count(element) | Op::Add(element) | Op::Take(element), _) => Some(KeyLocation {
+            location: base_bag::location_in(stripes, *element),
             written: false,
         }),
         _ => None,
     }
 }
 
-/// What a put on the key replies, for it to be kept and to be told.
+/// What a put on the key replies, for it to be kept and to be answered.
 #[inline(always)]
 pub(crate) fn entry_replies<V: Value>(
     entries: &FewKeys<Option<V>>,

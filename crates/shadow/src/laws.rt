@@ -8,7 +8,7 @@ ghost use Rattle.seq_model.specs.Counts.{Multiset};
 ghost use Rattle.conflict.specs.declared.change.Change.{Change};
 ghost use Rattle.conflict.specs.declared.outcome.Outcome.{Outcome};
 ghost use Rattle.replay_log.specs.Base.{Shown, OfMap, OfBag, after, changes_of, outcome_of};
-ghost use Rattle.replay_log.specs.declared.touch.Touched.{Touched};
+ghost use Rattle.replay_log.specs.declared.touch.TouchedKey.{TouchedKey};
 ghost use Rattle.replay_log.specs.Touches.{summed_by, touched_by};
 ghost use Rattle.shadow.specs.Memo.{IsAlike, IsCopyBy, IsCountedBy, IsOfBy, IsShown, answer_by, answer_with, copies_kept, entries_kept};
 ghost use Rattle.shadow.specs.Memo.{grown_kept, holds_by, holds_with, shrunk_kept, with_count, with_entry, with_total};
@@ -30,9 +30,9 @@ pub fn folds<V: Value>()
 pub fn memos<V: Value>()
     ensures map { (m : FinMap nat_cmp V) → IsOfBy (OfMap empty) empty empty [] (OfMap m) }
     ensures bag { (m : Multiset) → (let none : Shown V = OfBag empty in IsOfBy none empty empty [] (OfBag m)) }
-    ensures touched { (n : ℕ) (op : Op V) (s : Shown V) (t : Touched V) → touched_by n op s ≡ Some t → IsShown n t s }
-    ensures summed { (n : ℕ) (op : Op V) (s : Shown V) (t : Touched V) → summed_by n op s ≡ Some t → IsShown n t s }
-    ensures added { (n : ℕ) (t : Touched V) (b s : Shown V) (es : FinMap nat_cmp (Option V)) (cs : FinMap nat_cmp ℕ)
+    ensures touched { (n : ℕ) (op : Op V) (s : Shown V) (t : TouchedKey V) → touched_by n op s ≡ Some t → IsShown n t s }
+    ensures summed { (n : ℕ) (op : Op V) (s : Shown V) (t : TouchedKey V) → summed_by n op s ≡ Some t → IsShown n t s }
+    ensures added { (n : ℕ) (t : TouchedKey V) (b s : Shown V) (es : FinMap nat_cmp (Option V)) (cs : FinMap nat_cmp ℕ)
         (changes : List (Change V)) → IsOfBy b es cs changes s → IsShown n t s → IsOfBy b (with_entry t es) (with_count t cs) changes s }
     ensures answered { (op : Op V) (b s : Shown V) (es : FinMap nat_cmp (Option V)) (cs : FinMap nat_cmp ℕ) (changes : List (Change V))
         (o : Outcome V) →
@@ -51,7 +51,7 @@ pub fn memos<V: Value>()
 /// is held, is then that map's after the accepted changes.
 pub fn lengths<V: Value>()
     ensures map { (m : FinMap nat_cmp V) → IsCountedBy (OfMap empty) None 0 0 [] (OfMap m) }
-    ensures added { (n : ℕ) (t : Touched V) (b s : Shown V) (total : Option ℕ) (grown shrunk : ℕ) (changes : List (Change V)) → 0 < n →
+    ensures added { (n : ℕ) (t : TouchedKey V) (b s : Shown V) (total : Option ℕ) (grown shrunk : ℕ) (changes : List (Change V)) → 0 < n →
         IsCountedBy b total grown shrunk changes s → IsShown n t s → IsCountedBy b (with_total t total) grown shrunk changes s }
     ensures answered { (b s : Shown V) (es : FinMap nat_cmp (Option V)) (cs : FinMap nat_cmp ℕ) (total : Option ℕ) (grown shrunk : ℕ)
         (changes : List (Change V)) (o : Outcome V) →
@@ -73,11 +73,11 @@ pub fn copies<V: Value>()
     ensures moved { (b s u : Shown V) (es : FinMap nat_cmp (Option V)) (cs : FinMap nat_cmp ℕ) (total : Option ℕ) (grown shrunk : ℕ)
         (changes : List (Change V)) →
         IsCopyBy b es cs total grown shrunk changes s → IsAlike b es cs total s u → IsCopyBy b es cs total grown shrunk changes u }
-    ensures touched { (n : ℕ) (op : Op V) (t : Touched V) (b s : Shown V) (es : FinMap nat_cmp (Option V)) (cs : FinMap nat_cmp ℕ)
+    ensures touched { (n : ℕ) (op : Op V) (t : TouchedKey V) (b s : Shown V) (es : FinMap nat_cmp (Option V)) (cs : FinMap nat_cmp ℕ)
         (total : Option ℕ) (grown shrunk : ℕ) (changes : List (Change V)) → 0 < n → touched_by n op s ≡ Some t →
         IsCopyBy b es cs total grown shrunk changes s →
         IsCopyBy b (with_entry t es) (with_count t cs) (with_total t total) grown shrunk changes s }
-    ensures summed { (n : ℕ) (op : Op V) (t : Touched V) (b s : Shown V) (es : FinMap nat_cmp (Option V)) (cs : FinMap nat_cmp ℕ)
+    ensures summed { (n : ℕ) (op : Op V) (t : TouchedKey V) (b s : Shown V) (es : FinMap nat_cmp (Option V)) (cs : FinMap nat_cmp ℕ)
         (total : Option ℕ) (grown shrunk : ℕ) (changes : List (Change V)) → 0 < n → summed_by n op s ≡ Some t →
         IsCopyBy b es cs total grown shrunk changes s →
         IsCopyBy b (with_entry t es) (with_count t cs) (with_total t total) grown shrunk changes s }

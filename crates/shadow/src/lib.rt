@@ -14,5 +14,5 @@ pub mod laws;
 mod memo;
 mod shadow;
 
-pub use memo::{KeyPlace, Memo, MemoKind};
+pub use memo::{KeyLocation, Memo, MemoKind};
 pub use shadow::Shadow;

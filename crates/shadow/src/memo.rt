@@ -7,23 +7,23 @@ ghost use Rattle.seq_model.specs.Calls.{IsRefusal, value_reply};
 ghost use Rattle.seq_model.specs.Counts.{copies};
 ghost use Rattle.seq_model.specs.declared.call.Op.TheVariants.{Remove};
 ghost use Rattle.seq_model.specs.declared.call.Reply.{Reply};
-ghost use Rattle.conflict.specs.Footprints.{all_below, key_place};
+ghost use Rattle.conflict.specs.Footprints.{all_below, key_location};
 ghost use Rattle.conflict.specs.Refusals.{IsTooLong, IsStripeCount};
 ghost use Rattle.base_bag.specs.Conflicts as bag;
 ghost use Rattle.replay_log.specs.Base.{IsPreparedFor, after, changes_of, editions_of, empty_of, locations_of, reads_of, shown_of};
 ghost use Rattle.replay_log.specs.Base.{stripes_of, writes_of};
 ghost use Rattle.replay_log.specs.Log.{AreRaised};
-ghost use Rattle.replay_log.specs.declared.touch.Touched.TheVariants.{Entry};
-ghost use Rattle.shadow.specs.KeyPlace.{written_there};
+ghost use Rattle.replay_log.specs.declared.touch.TouchedKey.TheVariants.{Entry};
+ghost use Rattle.shadow.specs.KeyLocation.{written_there};
 ghost use Rattle.shadow.specs.Memo.{HasKeys, HasPlace, IsReadyFor, answer_with, copies_after, copies_kept, copies_without};
 ghost use Rattle.shadow.specs.Memo.{entries_after, entries_kept};
 ghost use Rattle.shadow.specs.Memo.{known_entry, put_as, put_of};
 ghost use Rattle.shadow.specs.Memo.{entries_without, grown_after, grown_kept, holds, kind_room, map_answer, shape, shrunk_after};
 ghost use Rattle.shadow.specs.Memo.{shrunk_kept, total_without, with_count, with_entry, with_key, with_number, with_total, IsTold};
 
-use crate::changes::{copies_place, count_put, entry_place, entry_replies, put_change};
+use crate::changes::{copies_location, count_put, entry_location, entry_replies, put_change};
 use conflict::{Change, FewKeys, LocSet, Note, Outcome, is_stripe_count};
-use replay_log::{Base, Log, Touch, Touched};
+use replay_log::{Base, Log, Touch, TouchedKey};
 use seq_model::{COPY_LIMIT, Items, Kind, Memory, Op, Refusal, Reply, Value};
 use std::alloc::Global;
 use std::marker::Model;
@@ -41,7 +41,7 @@ pub enum MemoKind {
 
 /// The location of a key, and whether a call on the key writes it.
 #[derive(Clone, Copy)]
-pub struct KeyPlace {
+pub struct KeyLocation {
     pub location: u32,
     pub written: bool,
 }
@@ -252,11 +252,11 @@ impl<V: Value> Memo<V> {
     /// The location that a map has for the key.
     #[inline(always)]
     pub fn entry_location(&self, key: u64) -> u32
-        ensures { result ≡ key_place (stripes_of self.now.blank) key }
+        ensures { result ≡ key_location (stripes_of self.now.blank) key }
     {
         match self.kind {
-            MemoKind::Map => base_map::place_in(self.stripes, key),
-            MemoKind::Bag => base_map::place_in(self.stripes, key),
+            MemoKind::Map => base_map::location_in(self.stripes, key),
+            MemoKind::Bag => base_map::location_in(self.stripes, key),
         }
     }
 
@@ -333,7 +333,7 @@ impl<V: Value> Memo<V> {
     }
 
     /// What `add` does, of what was touched without its editions.
-    pub fn add_held(&mut self, held: Touched<V>) -> Result<(), Memory>
+    pub fn add_held(&mut self, held: TouchedKey<V>) -> Result<(), Memory>
         ensures blank { self.new.blank ≡ self.old.blank }
         ensures entries { OnOk result (self.new.entries ≡ with_entry held self.old.entries) }
         ensures copies { OnOk result (self.new.copies ≡ with_count held self.old.copies) }
@@ -347,10 +347,10 @@ impl<V: Value> Memo<V> {
     {
         self.is_ready = false;
         match held {
-            Touched::Entry(key, value) => hold(&mut self.entries, key, value),
-            Touched::Copies(element, copies) => hold(&mut self.copies, element, copies),
-            Touched::Counts(counts) => hold_sum(&mut self.total, &counts),
-            Touched::Total(number) => hold_total(&mut self.total, number),
+            TouchedKey::Entry(key, value) => hold(&mut self.entries, key, value),
+            TouchedKey::Copies(element, copies) => hold(&mut self.copies, element, copies),
+            TouchedKey::Counts(counts) => hold_sum(&mut self.total, &counts),
+            TouchedKey::Total(number) => hold_total(&mut self.total, number),
         }
     }
 
@@ -544,15 +544,15 @@ impl<V: Value> Memo<V> {
 
     /// The location of the key of an outcome, which is all that it reads, and whether it writes there, which is all that it writes; none
     /// for an outcome on no key.
-    pub fn key_place(&self, outcome: &Outcome<V>) -> Option<KeyPlace>
+    pub fn key_location(&self, outcome: &Outcome<V>) -> Option<KeyLocation>
         ensures reads { IfSome result (λ at.
             reads_of (stripes_of self.now.blank) outcome.now (shown_of self.now.blank) ≡ at.location ∷ []) }
         ensures writes { IfSome result (λ at.
             writes_of (stripes_of self.now.blank) outcome.now (shown_of self.now.blank) ≡ written_there at) }
     {
         match self.kind {
-            MemoKind::Map => entry_place(self.stripes, outcome),
-            MemoKind::Bag => copies_place(self.stripes, outcome),
+            MemoKind::Map => entry_location(self.stripes, outcome),
+            MemoKind::Bag => copies_location(self.stripes, outcome),
         }
     }
 

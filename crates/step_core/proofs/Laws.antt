@@ -15,7 +15,7 @@ use Rattle.tx_machine.specs.Progress.{step_limit, steps_left, IsAnswered}
 use Rattle.tx_machine.proofs.Schedules.{all_upto, reached, opened_at, legal_of, serial, aborted_later, actor_saw, run_saw, words_at_rest}
 use Rattle.tx_machine.proofs.Schedules.{owned, begins_at}
 use Rattle.tx_machine.proofs.Progress.{progress}
-use Rattle.tx_machine.proofs.Answered.{step_other, step_further}
+use Rattle.tx_machine.proofs.AnswerBound.{step_other, step_further}
 use Rattle.tx_machine.proofs.Short.{few}
 use Rattle.tx_machine.proofs.Numbers.{unused_later}
 use Rattle.tx_machine.proofs.Refusals.{notice_true, notice_names}

@@ -16,7 +16,7 @@ use Rattle.tx_machine.specs.Requests.{Request}
 use Rattle.vlock_word.specs.declared.lock_word.LockWord.{LockWord}
 use Rattle.vlock_word.specs.declared.lock_word.LockWord.TheVariants.{Free, Locked}
 use Rattle.tx_machine.specs.Requests.{ask}
-use Rattle.tx_machine.specs.World.{World, Ask, Event, Step, Outcome, GoesOn, outcome, first_outcome, happens, run, start, step, put, now}
+use Rattle.tx_machine.specs.World.{World, Ask, Event, Step, StepEnd, GoesOn, step_end, first_step_end, happens, run, start, step, put, now}
 use Rattle.tx_machine.specs.Notices.{reply, notice}
 use Rattle.tx_machine.proofs.Sets.{put-same, put-other}
 use Rattle.vlock_word.specs.LockWord.{unbits}
@@ -37,7 +37,7 @@ use Rattle.step_core.specs.declared.machine.Machine.{Machine}
 use Rattle.step_core.specs.declared.machine.TheConstants.{SEATS}
 use Rattle.step_core.specs.CellSteps.{StepsOn, HaveLength, Grows}
 use Rattle.step_core.proofs.Lists.{Answer, inside, All-at}
-use Rattle.tx_machine.proofs.Answered.{step_other}
+use Rattle.tx_machine.proofs.AnswerBound.{step_other}
 use Rattle.tx_machine.specs.World.{does, plan, noted, Commits, Aborts, Deed, Rests, LoadClock, AddToClock, LoadLock, LoadValue}
 use Rattle.tx_machine.specs.World.{ExchangeLock, StoreValue, StoreLock}
 
@@ -110,12 +110,12 @@ does_history s a (ExchangeLock l k won lost) = exchanged_history s a l k won los
 does_history s a (StoreValue l v y) = refl
 does_history s a (StoreLock l w y) = refl
 
-abbrev listed_by : Outcome → List world.Record → List world.Record
+abbrev listed_by : StepEnd → List world.Record → List world.Record
 listed_by GoesOn rs = rs
 listed_by (Commits r) rs = world.insert r rs
 listed_by (Aborts e) rs = rs
 
-noted_history : (s : World) (o : Outcome) → (noted s o).history ≡ listed_by o s.history
+noted_history : (s : World) (o : StepEnd) → (noted s o).history ≡ listed_by o s.history
 noted_history s GoesOn = refl
 noted_history s (Commits r) = refl
 noted_history s (Aborts e) = refl
@@ -124,7 +124,7 @@ in_order_next : (sorted rs : List world.Record) (r : world.Record) → in_order 
 in_order_next sorted [] r = refl
 in_order_next sorted (x ∷ rs) r = in_order_next (world.insert x sorted) rs r
 
-in_order_listed : (rs : List world.Record) (o : Outcome) → in_order [] (listed rs o) ≡ listed_by o (in_order [] rs)
+in_order_listed : (rs : List world.Record) (o : StepEnd) → in_order [] (listed rs o) ≡ listed_by o (in_order [] rs)
 in_order_listed rs GoesOn = refl
 in_order_listed rs (Commits r) = in_order_next [] rs r
 in_order_listed rs (Aborts e) = refl
@@ -133,14 +133,14 @@ in_order_listed rs (Aborts e) = refl
 pub steps_on : (w t : Machine) (a : ℕ) (x y : Actor) (r : Answer) → slice_get w.actors.items a ≡ Some x
     → StepsOn w.cells x t.cells y r → t.actors.items ≡ slice_set w.actors.items a y
     → length t.cells.values.items ≡ length w.cells.values.items
-    → map record_of t.history.items ≡ listed (map record_of w.history.items) (outcome a (actor_of x) (actor_of x).place)
+    → map record_of t.history.items ≡ listed (map record_of w.history.items) (step_end a (actor_of x) (actor_of x).place)
     → Steps (shown w) a (shown t) r
 steps_on w t a x y r got on xs len hs s h =
     let e = actor_at w s a x h got in
     let st = on s a (record { clock = h.clock; locks = h.locks; values = h.values }) e in
-    let o = outcome a (s.actors a) (s.actors a).place in
+    let o = step_end a (s.actors a) (s.actors a).place in
     let rs = map record_of w.history.items in
-    let ended : map record_of t.history.items ≡ listed rs o = hs ∙ ap (λ (z : machine.Actor). listed rs (outcome a z z.place)) (sym e) in (
+    let ended : map record_of t.history.items ≡ listed rs o = hs ∙ ap (λ (z : machine.Actor). listed rs (step_end a z z.place)) (sym e) in (
       record {
         clock = st.0.clock;
         locks = st.0.locks;
@@ -172,7 +172,7 @@ steps_on w t a x y r got on xs len hs s h =
 
 -- a step that ends nothing adds no record
 goes_on : (a : ℕ) (x : Actor) (p : Place) → (p ≡ First → ⊥) → (p ≡ Close → ⊥) → (rs : List world.Record)
-    → listed rs (outcome a (actor_of x) (place_of x.reads.entries x.writes.entries p)) ≡ rs
+    → listed rs (step_end a (actor_of x) (place_of x.reads.entries x.writes.entries p)) ≡ rs
 goes_on a x Idle f c rs = refl
 goes_on a x Begin f c rs = refl
 goes_on a x Open f c rs = refl
@@ -205,26 +205,26 @@ map_record (x ∷ h) r = ap (λ (rs : List world.Record). record_of x ∷ rs) (m
 pub steps_committing : (w t : Machine) (a : ℕ) (x y : Actor) (r : Answer) (own : WordRecord) → slice_get w.actors.items a ≡ Some x
     → StepsOn w.cells x t.cells y r → t.actors.items ≡ slice_set w.actors.items a y
     → length t.cells.values.items ≡ length w.cells.values.items → t.history.items ≡ w.history.items ++ own ∷ []
-    → outcome a (actor_of x) (actor_of x).place ≡ Commits (record_of own) → Steps (shown w) a (shown t) r
+    → step_end a (actor_of x) (actor_of x).place ≡ Commits (record_of own) → Steps (shown w) a (shown t) r
 steps_committing w t a x y r own got on xs len hs ends = steps_on w t a x y r got on xs len
     (ap (map record_of) hs ∙ map_record w.history.items own ∙ sym (ap (listed (map record_of w.history.items)) ends))
 
 pub commits_writer : (a : ℕ) (x : Actor) (calls : List machine.Call) → x.place ≡ First → 0 < length x.writes.entries
-    → calls ≡ map call_of x.calls.items → outcome a (actor_of x) (actor_of x).place
+    → calls ≡ map call_of x.calls.items → step_end a (actor_of x) (actor_of x).place
     ≡ Commits (record { actor = a; number = x.wv; writer = true; calls = calls })
 commits_writer a x calls at_p some is =
-    ap (λ (p : Place). outcome a (actor_of x) (place_of x.reads.entries x.writes.entries p)) at_p ∙ by_writes x.writes.entries some
+    ap (λ (p : Place). step_end a (actor_of x) (place_of x.reads.entries x.writes.entries p)) at_p ∙ by_writes x.writes.entries some
     ∙ ap (λ (z : List machine.Call). Commits (record { actor = a; number = x.wv; writer = true; calls = z })) (sym is)
   where
-    by_writes : (es : Entries) → 0 < length es → first_outcome a (actor_of x) es
+    by_writes : (es : Entries) → 0 < length es → first_step_end a (actor_of x) es
         ≡ Commits (record { actor = a; number = x.wv; writer = true; calls = map call_of x.calls.items })
     by_writes [] h = absurd (omega (arith, h))
     by_writes (e ∷ es) h = refl
 
 pub commits_reader : (a : ℕ) (x : Actor) (calls : List machine.Call) → x.place ≡ Close → calls ≡ map call_of x.calls.items
-    → outcome a (actor_of x) (actor_of x).place ≡ Commits (record { actor = a; number = x.rv; writer = false; calls = calls })
+    → step_end a (actor_of x) (actor_of x).place ≡ Commits (record { actor = a; number = x.rv; writer = false; calls = calls })
 commits_reader a x calls at_p is =
-    ap (λ (p : Place). outcome a (actor_of x) (place_of x.reads.entries x.writes.entries p)) at_p
+    ap (λ (p : Place). step_end a (actor_of x) (place_of x.reads.entries x.writes.entries p)) at_p
     ∙ ap (λ (z : List machine.Call). Commits (record { actor = a; number = x.rv; writer = false; calls = z })) (sym is)
 
 -- counts of places, after one actor has changed
@@ -345,7 +345,7 @@ beyond_steps v a out s h =
     let idle : s.actors a ≡ blank = h.actors a ∙ past v.actors a out in (
       subst (Shows v) (sym (ap (λ (z : machine.Actor). step s a z z.place) idle)) h,
       ap result_of (sym (ap (λ (z : machine.Actor). notice s z z.place) idle)),
-      (refl, sym (ap (λ (z : machine.Actor). listed v.history (outcome a z z.place)) idle)),
+      (refl, sym (ap (λ (z : machine.Actor). listed v.history (step_end a z z.place)) idle)),
     )
   where
     past : (xs : List machine.Actor) (i : ℕ) → length xs ≤ i → get_or xs i blank ≡ blank

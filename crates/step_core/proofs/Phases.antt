@@ -2,6 +2,7 @@
 use Rattle.std.proofs.Common.{◌≡◌, ℕ, ◌<◌, ◌≤◌, Bool, true, false, Option, Some, None, List, [], ◌∷◌, length, refl, sym, ap, ◌∙◌, subst}
 use Rattle.std.proofs.Common.{drop, ltb-true, leb-true, arith, true≢false}
 use Rattle.std.specs.Prelude.{nat_lt, nat_le, not, ◌&&◌, if◌then◌else◌, slice_get}
+use Rattle.std.proofs.lemmas.Bool.{and_parts, not-true}
 use Rattle.tx_sets.specs.Entries.{Entries, lookup, locations}
 use Rattle.tx_machine.specs.Actor as machine
 use Rattle.tx_machine.specs.Requests.{Request, AskBegin, AskBeginRead, AskLock, AskStore, AskRelease, AskCancel, AskAbort, AskClose}
@@ -84,16 +85,11 @@ if_none : (b : Bool) (o : Option WordRefusal) (e : WordRefusal) → (if b then o
 if_none true o e h = (refl, h)
 if_none false o e h = (let b : ⊥ = cc in absurd b)
 
-both_true : (b c : Bool) → b && c ≡ true → (b ≡ true) × (c ≡ true)
-both_true true true h = (refl, refl)
-both_true true false h = no false refl h
-both_true false c h = no false refl h
-
 -- an actor has a seat
 pub seat_of : (v : Shown) (a : ℕ) (q : Request) → refusal_of v a q ≡ None → a < SEATS
 seat_of v a q h =
     let t = (if_none (is_actor a) (refusal_at (length v.values) (actor_in v a) (actor_in v a).place q) NoSuch h).0 in
-    let low = leb-true a LAST_ACTOR (both_true (nat_le 1 a) (nat_le a LAST_ACTOR) t).1 in omega (arith, low)
+    let low = leb-true a LAST_ACTOR (and_parts (nat_le 1 a) (nat_le a LAST_ACTOR) t).1 in omega (arith, low)
 
 pub lawful : (v : Shown) (a : ℕ) (q : Request) → refusal_of v a q ≡ None
     → (allows (phase_of (actor_in v a) (actor_in v a).place) q ≡ true) × (location_refusal (length v.values) (actor_in v a) q ≡ None)
@@ -110,7 +106,7 @@ allowed_here w a x q got h = subst (λ (z : machine.Actor). allows (phase_of z z
 
 pub within_of : (n : ℕ) (x : machine.Actor) (q : Request) → location_refusal n x q ≡ None → IsWithin n q
 within_of n x (AskRead l) h = ltb-true l n (if_none (nat_lt l n) (if_new (lookup x.writes l) (lookup x.reads l) x.reads) NoSuch h).0
-within_of n x (AskWrite l v) h = ltb-true l n (both_true (nat_lt l n) (not x.declared)
+within_of n x (AskWrite l v) h = ltb-true l n (and_parts (nat_lt l n) (not x.declared)
     (if_none (nat_lt l n && not x.declared) (if_new (lookup x.writes l) None x.writes) NoSuch h).0).0
 within_of n x AskBegin h = tt
 within_of n x AskBeginRead h = tt
@@ -139,9 +135,5 @@ write_limit n x l v h = (if_none (nat_lt l n && not x.declared) (if_new (lookup 
 
 -- only a transaction that is no declared reader writes
 pub write_writer : (n : ℕ) (x : machine.Actor) (l v : ℕ) → location_refusal n x (AskWrite l v) ≡ None → x.declared ≡ false
-write_writer n x l v h = not_true x.declared (both_true (nat_lt l n) (not x.declared)
+write_writer n x l v h = not-true x.declared (and_parts (nat_lt l n) (not x.declared)
     (if_none (nat_lt l n && not x.declared) (if_new (lookup x.writes l) None x.writes) NoSuch h).0).1
-  where
-    not_true : (b : Bool) → not b ≡ true → b ≡ false
-    not_true true h = no false refl h
-    not_true false h = refl

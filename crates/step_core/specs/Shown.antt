@@ -6,7 +6,7 @@ use Rattle.tx_sets.specs.Entries.{Entries, locations}
 use Rattle.tx_machine.specs.Actor as machine
 use Rattle.tx_machine.specs.Requests.{Request, ask}
 use Rattle.tx_machine.specs.World as world
-use Rattle.tx_machine.specs.World.{World, Memory, Event, Ask, Step, Outcome, GoesOn, Commits, Aborts, outcome, happens, run, start}
+use Rattle.tx_machine.specs.World.{World, Memory, Event, Ask, Step, StepEnd, GoesOn, Commits, Aborts, step_end, happens, run, start}
 use Rattle.tx_machine.specs.World.{in_order, blank}
 use Rattle.tx_machine.specs.Notices.{notice, reply}
 use Rattle.step_core.specs.declared.actor.Place.{Place}
@@ -110,13 +110,13 @@ pub record Shows (v : Shown) (s : World) : Type 0 where
   pub history : s.history ≡ in_order [] v.history
 
 -- what a step has committed is listed last
-abbrev pub listed : List world.Record → Outcome → List world.Record
+abbrev pub listed : List world.Record → StepEnd → List world.Record
 listed rs GoesOn = rs
 listed rs (Commits r) = rs ++ r ∷ []
 listed rs (Aborts e) = rs
 
 -- u has as many words as v, and lists after the records of v what a step with this outcome has committed
-abbrev pub Lists : Shown → Outcome → Shown → Type 0
+abbrev pub Lists : Shown → StepEnd → Shown → Type 0
 Lists v o u = (length u.values ≡ length v.values) × (u.history ≡ listed v.history o)
 
 -- v becomes u by one step of actor a, which answers r
@@ -124,7 +124,7 @@ abbrev pub Steps : Shown → ℕ → Shown → Result (Option WordAnswer) WordRe
 Steps v a u r =
     (s : World) → Shows v s
     → Shows u (happens s (Step a)) × (r ≡ result_of (notice s (s.actors a) (s.actors a).place))
-    × Lists v (outcome a (s.actors a) (s.actors a).place) u
+    × Lists v (step_end a (s.actors a) (s.actors a).place) u
 
 -- v becomes u by a request of actor a, which is answered so, or by a step of its own where the answer is None
 abbrev pub Asks : Shown → ℕ → Request → Shown → Option WordAnswer → Type 0

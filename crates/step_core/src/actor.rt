@@ -33,7 +33,7 @@ mod asks;
 /// The clock from which on no transaction begins.
 pub const CLOCK_LIMIT: u64 = 4_611_686_018_427_387_904;
 
-/// Where an actor stands: the atomic step that is next, or a resting place.
+/// Where an actor stands: the atomic step that is next, or none, as it is idle.
 ///
 /// A number in place of a list of locations is an index into the read or the write set.
 #[derive(Clone, Copy)]

@@ -14,15 +14,15 @@ use Rattle.actor_parts.specs.Blocks.{BlocksView, IsLaid}
 use Rattle.actor_parts.specs.Dispatch.{AreSteps, next_of}
 use Rattle.actor_parts.specs.Requests.{HasNoReads}
 use Rattle.actor_parts.specs.declared.next.Next.TheVariants as next
-use Rattle.actor_parts.specs.Copied.{CopiesFor, CopiesReached}
+use Rattle.actor_parts.specs.CopyAtGate.{CopiesFor, CopiesReached}
 use Rattle.actor_parts.specs.Sizes.{SizesCopies}
 use Rattle.tx_actor.specs.Copying.{CanCopyAt, HasTakenAt, StepsOnAt}
-use Rattle.tx_actor.specs.Having.{HasCopies}
-use Rattle.tx_actor.specs.Keeping.{IsRunning}
+use Rattle.tx_actor.specs.CopiesByStage.{HasCopies}
+use Rattle.tx_actor.specs.ActorBounds.{IsRunning}
 use Rattle.tx_actor.specs.Running.{Runs, at, stage_of}
-use Rattle.tx_actor.specs.Staying.{CopiesStayOwn}
-use Rattle.tx_actor.specs.declared.actor.Asked.{Asked}
-use Rattle.tx_actor.specs.declared.actor.Told.{Told}
+use Rattle.tx_actor.specs.CopiesAfterStep.{CopiesStayOwn}
+use Rattle.tx_actor.specs.declared.actor.CollectionCall.{CollectionCall}
+use Rattle.tx_actor.specs.declared.actor.ActorNotice.{ActorNotice}
 use Rattle.tx_actor.specs.declared.actor.TxActor.{TxActor}
 use Rattle.actor_parts.specs.Openings.{HasShape}
 use Rattle.actor_parts.specs.Tables.{HasTable}
@@ -57,7 +57,7 @@ module _ {V : Type 0} where
       there.can_copy taken on sized of v o w a k r base due h laid running runs copies (base_in v t w k base has shape at)
 
   pub copy_turns : AreSteps V → CopiesFor V → CopiesReached V → SizesCopies V → (v : BlocksView) (a k : ℕ) (t u : Table V) (r s : TxActor V)
-      (n : Told V) (base : Base V) → next_of (stage_of r.stage) ≡ next.Copy k → HasShape t v.words v.blocks → IsRunning v r
+      (n : ActorNotice V) (base : Base V) → next_of (stage_of r.stage) ≡ next.Copy k → HasShape t v.words v.blocks → IsRunning v r
       → slice_get t.bases.items k ≡ Some base
       → ((w : World V) (which : ℕ → Bool) → HasTable t w → is_actor a (w.boosted.gates k) ≡ true
       → is_committing (actor_of w a).place ≡ false → HasTable u (acted w (PutGate a k which ∷ [])))
@@ -67,7 +67,7 @@ module _ {V : Type 0} where
         let next_is : next_of (w.seats a).stage ≡ next.Copy k = next_as w a r runs ∙ due in
         let action = due_copy a k (step_action w a (w.seats a).stage) (due_as steps w a (w.seats a).stage (next.Copy k) next_is) in
         let calm : (is_actor a (w.boosted.gates k) ≡ true) × (is_committing (actor_of w a).place ≡ false) =
-        subst (λ (q : Option (Action (contents.Asked V))). IsAllowed w (w.seats a).stage q) action.1 (reached_allows o w a reached) in
+        subst (λ (q : Option (Action (contents.CollectionCall V))). IsAllowed w (w.seats a).stage q) action.1 (reached_allows o w a reached) in
         let goes = copy_runs taken on sized v o w a k r s n base due running does reached laid runs copies
         (base_in v t w k base has shape at)
         in (
@@ -80,7 +80,7 @@ module _ {V : Type 0} where
   }
 
   pub copy_own : CopiesStayOwn V → CopiesFor V → CopiesReached V → SizesCopies V → BlocksLaw V → StandLaw V → OthersLaw V → (v : BlocksView)
-      (a k : ℕ) (t u : Table V) (r s : TxActor V) (n : Told V) (base : Base V) → next_of (stage_of r.stage) ≡ next.Copy k
+      (a k : ℕ) (t u : Table V) (r s : TxActor V) (n : ActorNotice V) (base : Base V) → next_of (stage_of r.stage) ≡ next.Copy k
       → HasShape t v.words v.blocks → IsRunning v r → slice_get t.bases.items k ≡ Some base → IsTurn v (Step a) t r u s n
       → HasTakenAt v r s n base r.stage → KeepsOwn v (Step a) t r s
   copy_own law taken on sized of stand other v a k t u r s n base due shape running at turn got = record {

@@ -14,11 +14,11 @@ use Rattle.actor_parts.specs.declared.next.Next.TheVariants as next
 use Rattle.tx_actor.specs.Running.{notice_of, stage_of}
 use Rattle.std.specs.declared.alloc.Global.{Global}
 use Rattle.std.specs.declared.collections.VecDeque.{VecDeque}
-use Rattle.tx_actor.specs.declared.actor.Answered as running
+use Rattle.tx_actor.specs.declared.actor.CallWithOutcome as running
 use Rattle.tx_actor.specs.declared.actor.Stage as own
 use Rattle.tx_actor.specs.declared.actor.Stage.TheVariants as stage
-use Rattle.tx_actor.specs.declared.actor.Told.{Told}
-use Rattle.tx_actor.specs.declared.actor.Told.TheVariants as told
+use Rattle.tx_actor.specs.declared.actor.ActorNotice.{ActorNotice}
+use Rattle.tx_actor.specs.declared.actor.ActorNotice.TheVariants as told
 use Rattle.tx_actor.specs.declared.actor.TxActor.{TxActor}
 use Rattle.step_world.specs.declared.parts.Parts.{Parts}
 use Rattle.step_world.specs.declared.opening.TheConstants.{ACTORS}
@@ -33,7 +33,7 @@ on_err (Ok x) p = tt
 on_err (Err e) p = p
 
 module _ {V : Type 0} where
-  pub quiet_unless : (t : own.Stage V) → ((o : running.Answered V) (left : VecDeque (ℕ × ℕ) Global) → t ≡ stage.Loading o left → ⊥)
+  pub quiet_unless : (t : own.Stage V) → ((o : running.CallWithOutcome V) (left : VecDeque (ℕ × ℕ) Global) → t ≡ stage.Loading o left → ⊥)
       → is_loading (stage_of t) ≡ false
   quiet_unless (stage.Loading o left) p = absurd (p o left refl)
   quiet_unless t p = refl
@@ -52,7 +52,7 @@ module _ {V : Type 0} where
   pub fed_none : (w : World V) (e : Event V) → is_actor (whose e) ≡ false → fed w e ≡ (w, Refused (whose e) NoSuch)
   fed_none w e isnt = ap (λ (b : Bool). if b then happens w e else (w, Refused (whose e) NoSuch)) isnt
 
-  feeds_own : (c d : Parts V) (e : Event V) (n : Told V) → is_actor (whose e) ≡ true → Happens c e d n
+  feeds_own : (c d : Parts V) (e : Event V) (n : ActorNotice V) → is_actor (whose e) ≡ true → Happens c e d n
       → Feeds c e d (notice_of (whose e) n)
   feeds_own c d e n is h = record {
     parts = λ o w reached k. subst (λ (p : After V). IsWorld d p.0) (sym (fed_one w e is)) (h.parts o w reached k);
@@ -60,7 +60,7 @@ module _ {V : Type 0} where
   }
 
   -- an event of the actor a, which stands at place i
-  pub feeds_at : (e : ℕ → Event V) → ((b : ℕ) → whose (e b) ≡ b) → (c d : Parts V) (a i : ℕ) (n : Told V) → a ≡ i + 1
+  pub feeds_at : (e : ℕ → Event V) → ((b : ℕ) → whose (e b) ≡ b) → (c d : Parts V) (a i : ℕ) (n : ActorNotice V) → a ≡ i + 1
       → is_actor a ≡ true → Happens c (e (i + 1)) d n → Feeds c (e a) d (notice_of a n)
   feeds_at e own c d a i n at is h =
       let there : Happens c (e a) d n = subst (λ (b : ℕ). Happens c (e b) d n) (sym at) h in

@@ -10,19 +10,19 @@ use Rattle.seq_model.specs.declared.event.Event.{Event}
 use Rattle.seq_model.specs.declared.event.Event.TheVariants.{Step}
 use Rattle.tx_machine.specs.Boosted.{is_actor}
 use Rattle.tx_machine.specs.Content.{has}
-use Rattle.replay_log.specs.Contents.{Asked}
+use Rattle.replay_log.specs.Contents.{CollectionCall}
 use Rattle.replay_log.specs.Pieces.{covers_at}
 use Rattle.replay_log.specs.WorldProgress.{whose}
 use Rattle.replay_log.specs.Worlds.{World, Stage}
 use Rattle.replay_log.specs.Worlds.{Copying, Loading, happens, opened, run}
 use Rattle.replay_log.proofs.SeatLemmas.{gates_of}
 use Rattle.actor_laws.specs.Gates.{Puts}
-use Rattle.actor_laws.specs.Spots.{Gate, deed_of, spot_at}
+use Rattle.actor_laws.specs.StepTargets.{Gate, deed_of, spot_at}
 use Rattle.actor_laws.specs.Steps.{atomic_action}
 use Rattle.actor_laws.proofs.Alike.{alike_same}
 use Rattle.actor_laws.proofs.Guards.{put_allowed}
-use Rattle.actor_laws.proofs.Spots.{one_spot}
-use Rattle.actor_laws.proofs.Turned.{put_turned}
+use Rattle.actor_laws.proofs.StepTargets.{one_spot}
+use Rattle.actor_laws.proofs.StepResult.{put_turned}
 use Rattle.actor_parts.specs.Dispatch.{is_loading, next_of}
 use Rattle.actor_parts.specs.declared.next.Next.TheVariants as next
 use Rattle.tx_actor.specs.Running.{Runs, stage_of}
@@ -78,7 +78,7 @@ module _ {V : Type 0} where
       let guard = put_allowed h.blocks h.clock o.words o.held h.events a k here h.stripes (alike_same a here) puts in
       (put_turned a here k puts guard.0 guard.1).gate))
 
-  copy_apart : (w : World V) (a j : ℕ) (asked : Asked V) → j ≢ asked.collection → spot_at a w (Copying asked) ≡ Gate j → ⊥
+  copy_apart : (w : World V) (a j : ℕ) (asked : CollectionCall V) → j ≢ asked.collection → spot_at a w (Copying asked) ≡ Gate j → ⊥
   copy_apart w a j asked ne e = (let z : Gate asked.collection ≡ Gate j = e in let same : asked.collection ≡ j = cc in ne (sym same))
 
   pub room_copy : (a k : ℕ) (t u : Table V) (r s : TxActor V) → u.bases ≡ t.bases → next_of (stage_of r.stage) ≡ next.Copy k

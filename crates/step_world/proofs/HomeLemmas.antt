@@ -22,10 +22,10 @@ use Rattle.tx_actor.specs.Asks.{Stands}
 use Rattle.actor_parts.specs.Dispatch.{AreSteps, next_of}
 use Rattle.tx_actor.specs.Dispatch.{IsGoneHome}
 use Rattle.actor_parts.specs.Logs.{changes_had, locations_had}
-use Rattle.actor_parts.specs.Kept.{copy_of}
+use Rattle.actor_parts.specs.CopyList.{copy_of}
 use Rattle.tx_actor.specs.Running.{stage_of}
 use Rattle.tx_actor.specs.declared.actor.Stage as own
-use Rattle.tx_actor.specs.declared.actor.Told.{Told}
+use Rattle.tx_actor.specs.declared.actor.ActorNotice.{ActorNotice}
 use Rattle.tx_actor.specs.declared.actor.TxActor.{TxActor}
 use Rattle.actor_parts.specs.declared.next.Next.TheVariants as next
 use Rattle.actor_parts.specs.Tables.{HasTable}
@@ -67,7 +67,7 @@ module _ {V : Type 0} where
 
   -- ---- the turn
   pub home_turns : AreSteps V → GoesOn V → Logs V → (k : ℕ) (t u : Table V) (r p s : TxActor V) (changes : List (Change V))
-      (locations : List ℕ) (n : Told V) → next_of (stage_of r.stage) ≡ next.GoHome k → k < length t.bases.items → Stands r p
+      (locations : List ℕ) (n : ActorNotice V) → next_of (stage_of r.stage) ≡ next.GoHome k → k < length t.bases.items → Stands r p
       → p.stage ≡ r.stage → changes ≡ changes_had (copy_of r.copies.items k) → locations ≡ locations_had (copy_of r.copies.items k)
       → FoldsHome t u k changes locations → IsGoneHome p s n → IsHomeTurn k t r u s n
   home_turns steps goes logs k t u r p s changes locations n due low stands at cl ll folds gone = record {

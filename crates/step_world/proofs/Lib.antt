@@ -4,7 +4,7 @@ pub mod OpeningLemmas
 pub mod PartsLemmas
 pub mod PrepareLemmas
 mod RoomLemmas
-mod HomingLemmas
+mod HomeInWorldLemmas
 mod GateLemmas
 pub mod TraceLemmas
 pub mod TurnLemmas
@@ -12,6 +12,6 @@ pub mod LoadLemmas
 pub mod WorldLemmas
 mod OwnTurnLemmas
 mod CopyTurnLemmas
-pub mod FedLemmas
+pub mod ReachedLemmas
 pub mod PromiseLemmas
 pub mod SerialLemmas

@@ -11,15 +11,15 @@ use Rattle.step_core.specs.declared.answer.WordRefusal.{WordRefusal}
 use Rattle.actor_parts.specs.Blocks.{BlocksView}
 use Rattle.actor_parts.specs.Dispatch.{AreSteps, is_loading, notice_told}
 use Rattle.actor_parts.specs.declared.next.Next.TheVariants as next
-use Rattle.tx_actor.specs.Having.{HasLoaded}
-use Rattle.tx_actor.specs.Keeping.{HasHeard, IsRunning}
-use Rattle.tx_actor.specs.Loading.{MayHear}
-use Rattle.tx_actor.specs.Loads.{IsLoadable, IsToldLoad}
+use Rattle.tx_actor.specs.CopiesByStage.{HasLoaded}
+use Rattle.tx_actor.specs.ActorBounds.{HasHeard, IsRunning}
+use Rattle.tx_actor.specs.LoadInWorld.{MayHear}
+use Rattle.tx_actor.specs.LoadStep.{IsLoadable, IsToldLoad}
 use Rattle.tx_actor.specs.Reading.{LoadsKeep}
 use Rattle.tx_actor.specs.Running.{stage_of}
-use Rattle.tx_actor.specs.Staying.{LoadsStayOwn}
+use Rattle.tx_actor.specs.CopiesAfterStep.{LoadsStayOwn}
 use Rattle.tx_actor.specs.Seated.{SeatsActors}
-use Rattle.tx_actor.specs.declared.actor.Told.{Told}
+use Rattle.tx_actor.specs.declared.actor.ActorNotice.{ActorNotice}
 use Rattle.tx_actor.specs.declared.actor.TxActor.{TxActor}
 use Rattle.actor_parts.specs.declared.table.Table.{Table}
 use Rattle.step_world.specs.Loading.{IsSeated}
@@ -42,7 +42,7 @@ module _ {V : Type 0} where
       (let took = step seen.world seen.actor seen.table seen.runs.1 in (took.1, took.2)) room fits
 
   pub load_turns : AreSteps V → MayHear V → SeatsActors V → (b v : BlocksView) (a : ℕ) (t u : Table V) (r s : TxActor V)
-      (y : running.Actor) (told : Result (Option WordAnswer) WordRefusal) (n : Told V) → is_loading (stage_of r.stage) ≡ true
+      (y : running.Actor) (told : Result (Option WordAnswer) WordRefusal) (n : ActorNotice V) → is_loading (stage_of r.stage) ≡ true
       → IsRunning b r → StepsWords t r.words u y told → IsToldLoad (record r { words = y }) s n (notice_told told)
       → IsTurn v (Step a) t r u s n
   load_turns steps hear seats b v a t u r s y told n loading ready step heard = record {
@@ -59,7 +59,7 @@ module _ {V : Type 0} where
   }
 
   pub load_own : AreSteps V → LoadsStayOwn V → StandLaw V → OthersLaw V → (v : BlocksView) (a : ℕ) (t u : Table V) (r s : TxActor V)
-      (y : running.Actor) (told : Result (Option WordAnswer) WordRefusal) (n : Told V) → is_loading (stage_of r.stage) ≡ true
+      (y : running.Actor) (told : Result (Option WordAnswer) WordRefusal) (n : ActorNotice V) → is_loading (stage_of r.stage) ≡ true
       → StepsWords t r.words u y told → IsTurn v (Step a) t r u s n
       → (let m : TxActor V = record r { words = y } in HasLoaded m s n m.stage (notice_told told)) → KeepsOwn v (Step a) t r s
   load_own steps law stand other v a t u r s y told n loading step turn got = record {

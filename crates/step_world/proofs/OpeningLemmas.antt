@@ -9,8 +9,8 @@ use Rattle.replay_log.specs.Contents.{end_of}
 use Rattle.replay_log.specs.Worlds.{written_homes}
 use Rattle.step_core.specs.Sound.{owed}
 use Rattle.tx_actor.specs.Dispatch.{HasRoom}
-use Rattle.tx_actor.specs.Having.{HasCopiesAt}
-use Rattle.tx_actor.specs.Keeping.{IsCallAt, NamesAmong}
+use Rattle.tx_actor.specs.CopiesByStage.{HasCopiesAt}
+use Rattle.tx_actor.specs.ActorBounds.{IsCallAt, NamesAmong}
 use Rattle.tx_actor.specs.Running.{KnowsHomes}
 use Rattle.tx_actor.specs.declared.actor.Stage as own
 use Rattle.tx_actor.specs.declared.actor.TxActor.{TxActor}

@@ -16,7 +16,7 @@ use Rattle.seq_model.specs.declared.event.Event.{Event}
 use Rattle.seq_model.specs.declared.event.Event.TheVariants.{Ask, Step, Starve}
 use Rattle.seq_model.specs.declared.event.Request.{Request}
 use Rattle.seq_model.specs.declared.record.Record.{Record}
-use Rattle.replay_log.specs.Contents.{Asked, Block}
+use Rattle.replay_log.specs.Contents.{CollectionCall, Block}
 use Rattle.replay_log.specs.Seats as seats
 use Rattle.replay_log.specs.Worlds.{World, Seat, Stage, Closing, Copying, Leaving, Loading, Ready, ask_at}
 use Rattle.replay_log.specs.WorldTraces.{committed_by, ended_by, with_record}
@@ -28,13 +28,13 @@ use Rattle.actor_parts.specs.Blocks.{BlocksView, IsLaid}
 use Rattle.actor_parts.specs.Dispatch.{first, is_loading, next_home, next_of}
 use Rattle.tx_actor.specs.Asks.{Stands}
 use Rattle.tx_actor.specs.Calls.{AsksAt}
-use Rattle.tx_actor.specs.Having.{HasCopies}
+use Rattle.tx_actor.specs.CopiesByStage.{HasCopies}
 use Rattle.tx_actor.specs.Dispatch.{Starves}
-use Rattle.tx_actor.specs.Keeping.{IsRunning, KeepsIn}
+use Rattle.tx_actor.specs.ActorBounds.{IsRunning, KeepsIn}
 use Rattle.tx_actor.specs.Running.{Runs, is_recorded, seat_at, seat_of, stage_of}
 use Rattle.tx_actor.specs.declared.actor.Stage as own
 use Rattle.tx_actor.specs.declared.actor.Stage.TheVariants as stage
-use Rattle.tx_actor.specs.declared.actor.Told.{Told}
+use Rattle.tx_actor.specs.declared.actor.ActorNotice.{ActorNotice}
 use Rattle.tx_actor.specs.declared.actor.TxActor.{TxActor}
 use Rattle.actor_parts.specs.declared.next.Next.TheVariants as next
 use Rattle.actor_parts.specs.Openings.{HasShape}
@@ -65,7 +65,7 @@ module _ {V : Type 0} where
     pub committed : (x : Seat V) → committed_by x s ≡ None
     pub ended : (a : ℕ) (x : Seat V) → ended_by a x s ≡ []
 
-  pub step_happens : (c d : Parts V) (i : ℕ) (r s : TxActor V) (n : Told V) → slice_get c.actors.items i ≡ Some r
+  pub step_happens : (c d : Parts V) (i : ℕ) (r s : TxActor V) (n : ActorNotice V) → slice_get c.actors.items i ≡ Some r
       → d.blocks ≡ c.blocks → d.actors.items ≡ slice_set c.actors.items i s
       → IsTurn c.blocks (Step (i + 1)) c.table r d.table s n → KeepsOwn c.blocks (Step (i + 1)) c.table r s
       → KeepsRoom (Step (i + 1)) c.table r d.table s
@@ -87,7 +87,7 @@ module _ {V : Type 0} where
   }
 
   -- a step that ends nothing, of an actor whose seat is at such a stage
-  pub passes_by : (c : Parts V) (u : Table V) (i : ℕ) (r s : TxActor V) (n : Told V) → slice_get c.actors.items i ≡ Some r
+  pub passes_by : (c : Parts V) (u : Table V) (i : ℕ) (r s : TxActor V) (n : ActorNotice V) → slice_get c.actors.items i ≡ Some r
       → ((x : Seat V) → x ≡ seat_at x r → EndsNone x.stage) → IsTurn c.blocks (Step (i + 1)) c.table r u s n
       → KeepsOwn c.blocks (Step (i + 1)) c.table r s → KeepsRoom (Step (i + 1)) c.table r u s
       → ((m : ℕ) (bs : List Block) → HasShape c.table m bs → HasShape u m bs)
@@ -99,7 +99,7 @@ module _ {V : Type 0} where
       (λ x is. sym (append-nil (map ended_of c.aborted.items))
       ∙ ap (λ (xs : List (seats.Ended V)). map ended_of c.aborted.items ++ xs) (sym ((none x is).ended (i + 1) x)))
 
-  pub passes : (c : Parts V) (u : Table V) (i : ℕ) (r s : TxActor V) (n : Told V) → slice_get c.actors.items i ≡ Some r
+  pub passes : (c : Parts V) (u : Table V) (i : ℕ) (r s : TxActor V) (n : ActorNotice V) → slice_get c.actors.items i ≡ Some r
       → is_loading (stage_of r.stage) ≡ false → EndsNone (stage_of r.stage) → IsTurn c.blocks (Step (i + 1)) c.table r u s n
       → KeepsOwn c.blocks (Step (i + 1)) c.table r s → KeepsRoom (Step (i + 1)) c.table r u s
       → ((m : ℕ) (bs : List Block) → HasShape c.table m bs → HasShape u m bs)
@@ -145,7 +145,7 @@ module _ {V : Type 0} where
   pub none_loading : (r : TxActor V) → is_loading (stage_of r.stage) ≡ true → (x : Seat V) → x ≡ seat_at x r → EndsNone x.stage
   none_loading r loading x is = none_loading_at x.stage (seat_loading x r is ∙ loading)
 
-  pub none_copying : (s : Stage V) (asked : Asked V) → s ≡ Copying asked → EndsNone s
+  pub none_copying : (s : Stage V) (asked : CollectionCall V) → s ≡ Copying asked → EndsNone s
   none_copying s asked e =
       subst EndsNone (sym e) (let none : EndsNone (Copying asked) = record { committed = λ x. refl; ended = λ a x. refl } in none)
 
@@ -164,7 +164,7 @@ module _ {V : Type 0} where
       ended t l a x = refl
 
   -- ---- a request
-  pub ask_happens : CallsLaw V → (c : Parts V) (i : ℕ) (q : Request V) (r s : TxActor V) (n : Told V) → slice_get c.actors.items i ≡ Some r
+  pub ask_happens : CallsLaw V → (c : Parts V) (i : ℕ) (q : Request V) (r s : TxActor V) (n : ActorNotice V) → slice_get c.actors.items i ≡ Some r
       → AsksAt c.blocks r s n (λ a w. ask_at w a (seat_of r) (stage_of r.stage) q) → KeepsOwn c.blocks (Ask (i + 1) q) c.table r s
       → KeepsRoom (Ask (i + 1) q) c.table r c.table s → KeepsIn c.blocks r s → Happens c (Ask (i + 1) q) (with_turn c c.table i s) n
   ask_happens calls c i q r s n got asks own rooms kept =
@@ -179,7 +179,7 @@ module _ {V : Type 0} where
       }
 
   -- ---- a failed allocation
-  pub starve_happens : (c : Parts V) (i : ℕ) (r s : TxActor V) (n : Told V) → slice_get c.actors.items i ≡ Some r → Starves r s n
+  pub starve_happens : (c : Parts V) (i : ℕ) (r s : TxActor V) (n : ActorNotice V) → slice_get c.actors.items i ≡ Some r → Starves r s n
       → KeepsOwn c.blocks (Starve (i + 1)) c.table r s → KeepsRoom (Starve (i + 1)) c.table r c.table s → KeepsIn c.blocks r s
       → Happens c (Starve (i + 1)) (with_turn c c.table i s) n
   starve_happens c i r s n got starves own rooms keeps =
@@ -236,7 +236,7 @@ module _ {V : Type 0} where
       (keeps (h.seats i r got).running) grows)
 
   -- parts of the same worlds, and then an event
-  pub happens_then : (b c d : Parts V) (e : Event V) (n : Told V) → Stays b c → Happens c e d n → Happens b e d n
+  pub happens_then : (b c d : Parts V) (e : Event V) (n : ActorNotice V) → Stays b c → Happens c e d n → Happens b e d n
   happens_then b c d e n same h = record {
     parts = λ o w reached k. h.parts o w reached (same o w reached k);
     told = λ o w reached k. h.told o w reached (same o w reached k);

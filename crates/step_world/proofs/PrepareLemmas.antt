@@ -14,9 +14,9 @@ use Rattle.replay_log.specs.Parts.{kind_of, part}
 use Rattle.replay_log.specs.Worlds.{World}
 use Rattle.step_core.specs.CellSteps.{AreCells}
 use Rattle.actor_laws.specs.Bases.{ShowsBase}
-use Rattle.actor_parts.specs.Kept.{copy_of}
+use Rattle.actor_parts.specs.CopyList.{copy_of}
 use Rattle.actor_parts.specs.Logs.{changes_had}
-use Rattle.actor_parts.specs.declared.copies.CopyOf.{CopyOf}
+use Rattle.actor_parts.specs.declared.copies.CopyOfCollection.{CopyOfCollection}
 use Rattle.tx_actor.specs.declared.actor.Stage as own
 use Rattle.tx_actor.specs.declared.actor.Stage.TheVariants as stage
 use Rattle.actor_parts.specs.Openings.{HasShape}
@@ -114,23 +114,23 @@ module _ {V : Type 0} where
   }
 
   -- ---- the room that a base has is unchanged
-  room_stays : (t u : Table V) (cs : List (CopyOf V)) (k : ℕ) → AreAlike t.bases.items u.bases.items → HasRoomAt t cs k → HasRoomAt u cs k
+  room_stays : (t u : Table V) (cs : List (CopyOfCollection V)) (k : ℕ) → AreAlike t.bases.items u.bases.items → HasRoomAt t cs k → HasRoomAt u cs k
   room_stays t u cs k alike room = λ b at. (
       let f = alike.each k b at in
       f.2.room (changes_had (copy_of cs k)) (room f.0 f.1))
 
   -- so far
-  abbrev pub HaveRoomTo : ℕ → Table V → List (CopyOf V) → List ℕ → Type 0
+  abbrev pub HaveRoomTo : ℕ → Table V → List (CopyOfCollection V) → List ℕ → Type 0
   HaveRoomTo i t cs ks = (j d : ℕ) → j < i → HasRoomAt t cs (slice_index_or ks j d)
 
-  pub rooms_grow : (t u : Table V) (cs : List (CopyOf V)) (ks : List ℕ) (i k : ℕ) → ((d : ℕ) → slice_index_or ks i d ≡ k)
+  pub rooms_grow : (t u : Table V) (cs : List (CopyOfCollection V)) (ks : List ℕ) (i k : ℕ) → ((d : ℕ) → slice_index_or ks i d ≡ k)
       → AreAlike t.bases.items u.bases.items → HaveRoomTo i t cs ks → HasRoomAt u cs k → HaveRoomTo (i + 1) u cs ks
   rooms_grow t u cs ks i k is alike so_far room = λ j d low. elim (cases_eq j i) [
     | inl e ↦ subst (HasRoomAt u cs) (sym (ap (λ (n : ℕ). slice_index_or ks n d) e ∙ is d)) room
     | inr ne ↦ room_stays t u cs (slice_index_or ks j d) alike (so_far j d (omega (arith, low, ne)))
   ]
 
-  pub none_due : (t : Table V) (cs : List (CopyOf V)) (s : own.Stage V) → ((homes : VecDeque ℕ Global) → s ≡ stage.Ready homes → ⊥)
+  pub none_due : (t : Table V) (cs : List (CopyOfCollection V)) (s : own.Stage V) → ((homes : VecDeque ℕ Global) → s ≡ stage.Ready homes → ⊥)
       → HasRoomDue t cs s
   none_due t cs (stage.Ready homes) ready = absurd (ready homes refl)
   none_due t cs s ready = tt

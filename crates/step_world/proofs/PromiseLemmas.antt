@@ -33,7 +33,7 @@ use Rattle.step_world.specs.Parts.{HasWorld, IsWorld}
 use Rattle.step_world.specs.Reached.{IsReached}
 use Rattle.step_world.proofs.FeedLemmas.{fed_none, fed_one}
 use Rattle.step_world.specs.Events.{IsFedTo, IsPromised}
-use Rattle.step_world.proofs.FedLemmas.{reached_fed}
+use Rattle.step_world.proofs.ReachedLemmas.{reached_fed}
 
 abbrev pub OthersStand : Type 0 → Type 0
 OthersStand V = (w : World V) (e : Event V) (b : ℕ) → b ≢ whose e → Alike b w (happens w e).0

@@ -27,13 +27,13 @@ use Rattle.replay_log.specs.Worlds.{has_stored, is_half_done, starve_at, step_at
 use Rattle.replay_log.proofs.EventLemmas.{run_linked}
 use Rattle.replay_log.proofs.SeatLemmas.{Linked, gates_of}
 use Rattle.actor_laws.proofs.OneStep.{one_step}
-use Rattle.actor_parts.specs.declared.copies.CopyOf.{CopyOf}
-use Rattle.actor_parts.specs.Kept.{copy_of}
+use Rattle.actor_parts.specs.declared.copies.CopyOfCollection.{CopyOfCollection}
+use Rattle.actor_parts.specs.CopyList.{copy_of}
 use Rattle.actor_parts.specs.Logs.{changes_had}
 use Rattle.actor_parts.specs.Dispatch.{is_loading, next_of}
 use Rattle.actor_parts.specs.declared.next.Next.{Next}
 use Rattle.actor_parts.specs.declared.next.Next.TheVariants as next
-use Rattle.tx_actor.specs.Having.{KeepsCopies, KeepsFrom}
+use Rattle.tx_actor.specs.CopiesByStage.{KeepsCopies, KeepsFrom}
 use Rattle.tx_actor.specs.Running.{Runs, stage_of}
 use Rattle.tx_actor.specs.declared.actor.Stage as own
 use Rattle.tx_actor.specs.declared.actor.Stage.TheVariants as stage
@@ -92,7 +92,7 @@ module _ {V : Type 0} where
       subst (λ (bs : Vec (Base V) Global). All (λ k. (b : Base V) → slice_get bs.items k ≡ Some b
       → IsPreparedFor (changes_had (copy_of r.copies.items k)) b) (homes_left r.stage)) (sym e) h
 
-  pub room_at : (t u : Table V) (before now : List (CopyOf V)) (k : ℕ) → slice_get u.bases.items k ≡ slice_get t.bases.items k
+  pub room_at : (t u : Table V) (before now : List (CopyOfCollection V)) (k : ℕ) → slice_get u.bases.items k ≡ slice_get t.bases.items k
       → copy_of now k ≡ copy_of before k → HasRoomAt t before k → HasRoomAt u now k
   room_at t u before now k same copy h = λ b at.
       subst (λ (c : Option _). IsPreparedFor (changes_had c) b) (sym copy) (h b (sym same ∙ at))
@@ -105,7 +105,7 @@ module _ {V : Type 0} where
   others_same e t u same o w b q reached runs h = room_same t u q same h
 
   -- ---- a step from a stage on whose actor has no more left than before
-  pub left_from : (t s : own.Stage V) (before now : List (CopyOf V)) (k : ℕ) → next_of (stage_of t) ≢ next.FirstStore
+  pub left_from : (t s : own.Stage V) (before now : List (CopyOfCollection V)) (k : ℕ) → next_of (stage_of t) ≢ next.FirstStore
       → KeepsFrom s t before now → Contains (homes_left s) k → Contains (homes_left t) k × (now ≡ before)
   left_from (stage.Storing homes) (stage.Storing left) before now k ne keep c = (keep.0 k c, keep.1)
   left_from (stage.Homing homes) (stage.Storing left) before now k ne keep c = (keep.0 k c, keep.1)
@@ -121,7 +121,7 @@ module _ {V : Type 0} where
       → HasRoomLeft t r → HasRoomLeft u s
   room_from t u r s same ne keep h = of_each (HasRoomAt u s.copies.items) (homes_left s.stage) (λ k c. (
       let from = left_from r.stage s.stage r.copies.items s.copies.items k ne keep c in
-      room_at t u r.copies.items s.copies.items k (same_at t u k same) (ap (λ (cs : List (CopyOf V)). copy_of cs k) from.1)
+      room_at t u r.copies.items s.copies.items k (same_at t u k same) (ap (λ (cs : List (CopyOfCollection V)). copy_of cs k) from.1)
       (All-contains (HasRoomAt t r.copies.items) (homes_left r.stage) k h from.0)))
 
   pub room_kept : (e : Event V) (t u : Table V) (r s : TxActor V) → u.bases ≡ t.bases → next_of (stage_of r.stage) ≢ next.FirstStore
@@ -222,13 +222,13 @@ module _ {V : Type 0} where
       (subst (λ (s : Stage V). has (gates_of ((step_at w a (w.seats a) s).0.seats a).stage) k ≡ true) at h)
 
   -- the copies stand, where something is left
-  left_copies : (t s : own.Stage V) (before now : List (CopyOf V)) (k : ℕ) → KeepsFrom s t before now → Contains (homes_left s) k
+  left_copies : (t s : own.Stage V) (before now : List (CopyOfCollection V)) (k : ℕ) → KeepsFrom s t before now → Contains (homes_left s) k
       → now ≡ before
   left_copies t (stage.Storing left) before now k keep c = keep.1
   left_copies t (stage.Homing left) before now k keep c = keep.1
   left_copies t s before now k keep c = absurd (none_in k c)
 
-  room_due : (t : Table V) (cs : List (CopyOf V)) (p : own.Stage V) (ks : List ℕ) (k : ℕ) → stage_of p ≡ Ready ks → HasRoomDue t cs p
+  room_due : (t : Table V) (cs : List (CopyOfCollection V)) (p : own.Stage V) (ks : List ℕ) (k : ℕ) → stage_of p ≡ Ready ks → HasRoomDue t cs p
       → Contains ks k → HasRoomAt t cs k
   room_due t cs (stage.Ready homes) ks k e h c =
       let same : homes.items ≡ ks = cc in
@@ -246,7 +246,7 @@ module _ {V : Type 0} where
         ap (λ (p : Stage V). has (gates_of p) k) (left_stage v a k s after c) ∙ (left_gates s.stage k c).1 in
         let among = in_has first.0 k (first_gates w a first.0 k at held) in
         room_at t u r.copies.items s.copies.items k (same_at t u k same)
-        (ap (λ (cs : List (CopyOf V)). copy_of cs k) (left_copies r.stage s.stage r.copies.items s.copies.items k keep c))
+        (ap (λ (cs : List (CopyOfCollection V)). copy_of cs k) (left_copies r.stage s.stage r.copies.items s.copies.items k keep c))
         (room_due t r.copies.items r.stage first.0 k first.1 room among)));
     others = λ o w b q reached runs there h. room_same t u q same h;
   }

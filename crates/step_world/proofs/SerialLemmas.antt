@@ -22,7 +22,7 @@ use Rattle.step_world.specs.Parts.{IsWorld}
 use Rattle.step_world.specs.Reached.{IsReached}
 use Rattle.step_world.specs.Serial.{IsFrom, IsSerialFrom, NoneIsHalf}
 use Rattle.step_world.specs.Traces.{IsSerialTrace, seat_at, seat_found}
-use Rattle.step_world.proofs.FedLemmas.{reached_fed}
+use Rattle.step_world.proofs.ReachedLemmas.{reached_fed}
 use Rattle.tx_actor.proofs.SeatLemmas.{saw_as}
 use Rattle.step_world.proofs.TraceLemmas.{SerialLaw, StateLaw, seat_like, serial_at, state_left}
 use Rattle.tx_actor.proofs.StepLemmas.{reached_linked}

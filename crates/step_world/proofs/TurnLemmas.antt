@@ -14,7 +14,7 @@ use Rattle.seq_model.specs.declared.call.Reply.{Reply}
 use Rattle.seq_model.specs.declared.event.Event.{Event}
 use Rattle.seq_model.specs.declared.event.Event.TheVariants.{Step, Starve}
 use Rattle.tx_machine.specs.Boosted.{Action, TakeGate, PutGate, is_actor, is_committing, is_none}
-use Rattle.replay_log.specs.Contents.{Asked}
+use Rattle.replay_log.specs.Contents.{CollectionCall}
 use Rattle.replay_log.specs.Guards.{IsAllowed, step_action}
 use Rattle.replay_log.specs.Worlds.{World, Seat, Stage, After, Closing, Leaving}
 use Rattle.replay_log.specs.Worlds.{Ready, acted, asks, actor_of}
@@ -38,7 +38,7 @@ use Rattle.actor_parts.specs.Guarded.{committed_at}
 use Rattle.tx_actor.specs.Dispatch.{IsToldWord, Starves}
 use Rattle.tx_actor.specs.Running as ran
 use Rattle.tx_actor.specs.Running.{Runs, seat_at, seat_of, stage_of}
-use Rattle.tx_actor.specs.declared.actor.Told.{Told}
+use Rattle.tx_actor.specs.declared.actor.ActorNotice.{ActorNotice}
 use Rattle.tx_actor.specs.declared.actor.TxActor.{TxActor}
 use Rattle.actor_parts.specs.declared.next.Next.TheVariants as next
 use Rattle.actor_parts.specs.Tables.{HasTable}
@@ -67,12 +67,12 @@ module _ {V : Type 0} where
   ended_has t a x Leaving w h = record { cells = h.cells; gates = h.gates; bases = h.bases }
   ended_has t a x s w h = h
 
-  pub turns_made : (v : BlocksView) (e : Event V) (t u : Table V) (r s : TxActor V) (m : Vec (Call V × Reply V) Global) (n : Told V)
+  pub turns_made : (v : BlocksView) (e : Event V) (t u : Table V) (r s : TxActor V) (m : Vec (Call V × Reply V) Global) (n : ActorNotice V)
       → IsTurn v e t r u s n → IsTurn v e t r u (record s { made = m }) n
   turns_made v e t u r s m n h = record { turns = h.turns }
 
   -- ---- a failed allocation
-  pub starve_turns : (v : BlocksView) (a : ℕ) (t : Table V) (r s : TxActor V) (n : Told V) → Starves r s n
+  pub starve_turns : (v : BlocksView) (a : ℕ) (t : Table V) (r s : TxActor V) (n : ActorNotice V) → Starves r s n
       → IsTurn v (Starve a) t r t s n
   starve_turns v a t r s n h = record {
     turns = λ o w reached laid has runs copies. (
@@ -84,14 +84,14 @@ module _ {V : Type 0} where
         ));
   }
 
-  pub action_has : (t : Table V) (w u : World V) (a : ℕ) (x : Seat V) (s : Stage V) (e : Action (Asked V))
+  pub action_has : (t : Table V) (w u : World V) (a : ℕ) (x : Seat V) (s : Stage V) (e : Action (CollectionCall V))
       → (next_of s ≡ next.FirstStore → ⊥) → step_action w a s ≡ Some e → Does a (ready_at a w s) x s (atomic_action a w s) u
       → HasTable t (acted w (e ∷ [])) → HasTable t u
   action_has t w u a x s e ne is d h =
       let there : Does a w x s (atomic_action a w s) u =
       subst (λ (z : World V). Does a z x s (atomic_action a w s) u) (same_world w a s ne) d in
       let does : Does a w x s (Some e) u =
-      subst (λ (o : Option (Action (Asked V))). Does a w x s o u) (same_action w a s ne ∙ is) there in
+      subst (λ (o : Option (Action (CollectionCall V))). Does a w x s o u) (same_action w a s ne ∙ is) there in
       still_has t a (ended_at a x s (acted w (e ∷ []))) u does.1 (ended_has t a x s (acted w (e ∷ [])) h)
 
   -- the words make this of the table t and of the word actor x: u and y, and answer n
@@ -101,7 +101,7 @@ module _ {V : Type 0} where
       → HasTable u (acted w (moves a ∷ [])) × (actor_of (acted w (moves a ∷ [])) a ≡ words.actor_of y) × (n ≡ result_of (word_notice w a))
 
   pub word_turns : AreSteps V → GoesOn V → (v : BlocksView) (a : ℕ) (t u : Table V) (r s : TxActor V) (y : running.Actor)
-      (told : Result (Option WordAnswer) WordRefusal) (n : Told V)
+      (told : Result (Option WordAnswer) WordRefusal) (n : ActorNotice V)
       → next_of (stage_of r.stage) ≡ next.Word → is_loading (stage_of r.stage) ≡ false → StepsWords t r.words u y told
       → IsToldWord (record r { words = y }) s n (notice_told told) → IsTurn v (Step a) t r u s n
   word_turns steps goes v a t u r s y told n due quiet step heard = record {
@@ -132,7 +132,7 @@ module _ {V : Type 0} where
         ));
   }
 
-  pub try_turns : AreSteps V → (v : BlocksView) (a k : ℕ) (t u : Table V) (r s : TxActor V) (free : Bool) (n : Told V)
+  pub try_turns : AreSteps V → (v : BlocksView) (a k : ℕ) (t u : Table V) (r s : TxActor V) (free : Bool) (n : ActorNotice V)
       → next_of (stage_of r.stage) ≡ next.TryGate k
       → ((w : World V) → HasTable t w → is_committing (actor_of w a).place ≡ false
       → HasTable u (acted w (TakeGate a k ∷ [])) × (free ≡ is_none (w.boosted.gates k)))
@@ -143,7 +143,7 @@ module _ {V : Type 0} where
         let action : step_action w a (w.seats a).stage ≡ Some (TakeGate a k) =
         due_try a k _ (due_as steps w a (w.seats a).stage (next.TryGate k) next_is) in
         let calm : is_committing (actor_of w a).place ≡ false =
-        subst (λ (q : Option (Action (Asked V))). IsAllowed w (w.seats a).stage q) action (reached_allows o w a reached) in
+        subst (λ (q : Option (Action (CollectionCall V))). IsAllowed w (w.seats a).stage q) action (reached_allows o w a reached) in
         let took = tries w has calm in
         let goes = try_runs steps w a k r s free n due took.1 does runs in (
           action_has u w (happens w (Step a)).0 a (w.seats a) (w.seats a).stage (TakeGate a k)
@@ -154,7 +154,7 @@ module _ {V : Type 0} where
         ));
   }
 
-  pub put_turns : AreSteps V → (v : BlocksView) (a k : ℕ) (t u : Table V) (r s : TxActor V) (n : Told V)
+  pub put_turns : AreSteps V → (v : BlocksView) (a k : ℕ) (t u : Table V) (r s : TxActor V) (n : ActorNotice V)
       → next_of (stage_of r.stage) ≡ next.PutGate k
       → ((w : World V) (which : ℕ → Bool) → HasTable t w → is_actor a (w.boosted.gates k) ≡ true
       → is_committing (actor_of w a).place ≡ false → HasTable u (acted w (PutGate a k which ∷ [])))
@@ -166,7 +166,7 @@ module _ {V : Type 0} where
         let action : step_action w a (w.seats a).stage ≡ Some (PutGate a k none) =
         due_put a k _ (due_as steps w a (w.seats a).stage (next.PutGate k) next_is) in
         let calm : (is_actor a (w.boosted.gates k) ≡ true) × (is_committing (actor_of w a).place ≡ false) =
-        subst (λ (q : Option (Action (Asked V))). IsAllowed w (w.seats a).stage q) action (reached_allows o w a reached) in
+        subst (λ (q : Option (Action (CollectionCall V))). IsAllowed w (w.seats a).stage q) action (reached_allows o w a reached) in
         let goes = put_runs steps w a k r s n due does runs in (
           action_has u w (happens w (Step a)).0 a (w.seats a) (w.seats a).stage (PutGate a k none)
               (λ q. let e : next.FirstStore ≡ next.PutGate k = sym q ∙ next_is in let z : ⊥ = cc in z)
@@ -178,7 +178,7 @@ module _ {V : Type 0} where
 
   -- ---- the first value store: its request, and then a step of the words
   pub first_turns : AreSteps V → GoesOn V → (v : BlocksView) (a : ℕ) (t u : Table V) (r p s : TxActor V) (y : running.Actor)
-      (told : Result (Option WordAnswer) WordRefusal) (n : Told V)
+      (told : Result (Option WordAnswer) WordRefusal) (n : ActorNotice V)
       → next_of (stage_of r.stage) ≡ next.FirstStore → MayStore r p → StepsWords t p.words u y told
       → IsToldWord (record p { words = y }) s n (notice_told told) → IsTurn v (Step a) t r u s n
   first_turns steps goes v a t u r p s y told n due stores step heard = record {

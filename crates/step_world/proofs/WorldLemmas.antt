@@ -24,10 +24,10 @@ use Rattle.step_core.specs.declared.actor.Place.TheVariants as place
 use Rattle.step_core.proofs.Lists.{inside, same_at}
 use Rattle.actor_parts.specs.Blocks.{BlocksView, IsLaid}
 use Rattle.tx_actor.specs.Asks.{Stands}
-use Rattle.tx_actor.specs.Keeping.{IsRunning}
+use Rattle.tx_actor.specs.ActorBounds.{IsRunning}
 use Rattle.tx_actor.specs.Running.{Runs}
 use Rattle.tx_actor.specs.declared.actor.Stage as own
-use Rattle.tx_actor.specs.declared.actor.Told.{Told}
+use Rattle.tx_actor.specs.declared.actor.ActorNotice.{ActorNotice}
 use Rattle.tx_actor.specs.declared.actor.TxActor.{TxActor}
 use Rattle.actor_parts.specs.Openings.{HasShape}
 use Rattle.actor_parts.specs.Tables.{HasTable}
@@ -37,7 +37,7 @@ use Rattle.step_world.specs.declared.trace.Ended.{Ended}
 use Rattle.step_world.specs.Loading.{IsSeated}
 use Rattle.step_world.specs.Parts.{HasWorld, IsSeat, IsWorld, ended_of, total_owed}
 use Rattle.step_world.specs.Reached.{IsReached}
-use Rattle.tx_actor.specs.Having.{HasCopies}
+use Rattle.tx_actor.specs.CopiesByStage.{HasCopies}
 use Rattle.step_world.specs.Homes.{HasRoomLeft}
 use Rattle.step_world.specs.Turns.{IsTurn, KeepsOwn, KeepsRoom}
 use Rattle.tx_actor.proofs.SeatLemmas.{runs_stand}
@@ -144,7 +144,7 @@ module _ {V : Type 0} where
       omega (arith, owed_few (slice_set c.actors.items i s), set_length c.actors.items i s, many, ap total_owed es, below.0, below.1)
 
   -- an event of the actor at place i leaves a world with these parts
-  pub turned : (opening : Contents V) (c d : Parts V) (w : World V) (e : Event V) (i : ℕ) (r s : TxActor V) (n : Told V)
+  pub turned : (opening : Contents V) (c d : Parts V) (w : World V) (e : Event V) (i : ℕ) (r s : TxActor V) (n : ActorNotice V)
       → IsReached opening w → IsWorld c w → whose e ≡ i + 1 → slice_get c.actors.items i ≡ Some r
       → d.blocks ≡ c.blocks → d.actors.items ≡ slice_set c.actors.items i s
       → IsTurn c.blocks e c.table r d.table s n → KeepsOwn c.blocks e c.table r s → KeepsRoom e c.table r d.table s

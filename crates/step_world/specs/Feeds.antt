@@ -17,9 +17,9 @@ use Rattle.step_world.specs.Parts.{IsWorld}
 use Rattle.step_world.specs.Reached.{IsReached}
 
 -- the actor of this number stands at this place; none does, where it is not one of the actors
-abbrev pub IsPlaceOf : ℕ → Option ℕ → Type 0
-IsPlaceOf a None = is_actor a ≡ false
-IsPlaceOf a (Some i) = (a ≡ i + 1) × (is_actor a ≡ true) × (i < ACTORS)
+abbrev pub IsPositionOf : ℕ → Option ℕ → Type 0
+IsPositionOf a None = is_actor a ≡ false
+IsPositionOf a (Some i) = (a ≡ i + 1) × (is_actor a ≡ true) × (i < ACTORS)
 
 module _ {V : Type 0} where
   -- an event of another actor changes nothing

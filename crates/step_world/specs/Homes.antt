@@ -8,12 +8,12 @@ use Rattle.replay_log.specs.Contents.{Block, block_of}
 use Rattle.replay_log.specs.Worlds.{World, happens}
 use Rattle.actor_parts.specs.Logs.{changes_had}
 use Rattle.actor_parts.specs.Owns.{IsOwn}
-use Rattle.actor_parts.specs.Kept.{copy_of}
+use Rattle.actor_parts.specs.CopyList.{copy_of}
 use Rattle.tx_actor.specs.Running.{Runs, notice_of}
-use Rattle.actor_parts.specs.declared.copies.CopyOf.{CopyOf}
+use Rattle.actor_parts.specs.declared.copies.CopyOfCollection.{CopyOfCollection}
 use Rattle.tx_actor.specs.declared.actor.Stage.{Stage}
 use Rattle.tx_actor.specs.declared.actor.Stage.TheVariants as stage
-use Rattle.tx_actor.specs.declared.actor.Told.{Told}
+use Rattle.tx_actor.specs.declared.actor.ActorNotice.{ActorNotice}
 use Rattle.tx_actor.specs.declared.actor.TxActor.{TxActor}
 use Rattle.actor_parts.specs.Openings.{HasShape}
 use Rattle.actor_parts.specs.Tables.{HasTable}
@@ -34,10 +34,10 @@ module _ {V : Type 0} where
     pub each : (k : ℕ) (b : Base V) → slice_get bs k ≡ Some b → (d : Base V) × (slice_get ds k ≡ Some d) × IsAlike d b
 
   -- the base of k has room for the log of the calls on it among what there is of collections
-  abbrev pub HasRoomAt : Table V → List (CopyOf V) → ℕ → Type 0
+  abbrev pub HasRoomAt : Table V → List (CopyOfCollection V) → ℕ → Type 0
   HasRoomAt t cs k = (base : Base V) → slice_get t.bases.items k ≡ Some base → IsPreparedFor (changes_had (copy_of cs k)) base
 
-  abbrev pub HaveRoom : Table V → List (CopyOf V) → List ℕ → Type 0
+  abbrev pub HaveRoom : Table V → List (CopyOfCollection V) → List ℕ → Type 0
   HaveRoom t cs ks = All (HasRoomAt t cs) ks
 
   -- the collections that a commit has written whose bases are still to be put back, from its first value store on
@@ -51,7 +51,7 @@ module _ {V : Type 0} where
   HasRoomLeft t r = HaveRoom t r.copies.items (homes_left r.stage)
 
   -- and has it before the first value store of r, where that is next
-  abbrev pub HasRoomDue : Table V → List (CopyOf V) → Stage V → Type 0
+  abbrev pub HasRoomDue : Table V → List (CopyOfCollection V) → Stage V → Type 0
   HasRoomDue t cs (stage.Ready homes) = HaveRoom t cs homes.items
   HasRoomDue t cs s = Unit {0}
 
@@ -72,7 +72,7 @@ module _ {V : Type 0} where
 
   -- In every world that events have reached, of which t is the table, in which r is actor a and has its own of collection k, the step of a
   -- leaves the table u and the actor s, and answers n.
-  pub record IsHomeTurn (k : ℕ) (t : Table V) (r : TxActor V) (u : Table V) (s : TxActor V) (n : Told V) : Type 0 where
+  pub record IsHomeTurn (k : ℕ) (t : Table V) (r : TxActor V) (u : Table V) (s : TxActor V) (n : ActorNotice V) : Type 0 where
     pub turns : (opening : Contents V) (w : World V) (a : ℕ) → IsReached opening w → HasTable t w → HasShape t w.words w.blocks → Runs a r w
         → IsOwn w a k (copy_of r.copies.items k)
         → HasTable u (happens w (Step a)).0 × Runs a s (happens w (Step a)).0 × (notice_of a n ≡ (happens w (Step a)).1)

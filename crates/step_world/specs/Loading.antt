@@ -3,7 +3,7 @@ use Rattle.seq_model.specs.Contents.{Contents}
 use Rattle.replay_log.specs.Worlds.{World}
 use Rattle.std.specs.Prelude.{ℕ}
 use Rattle.actor_parts.specs.Blocks.{BlocksView, IsLaid}
-use Rattle.tx_actor.specs.Having.{HasCopies}
+use Rattle.tx_actor.specs.CopiesByStage.{HasCopies}
 use Rattle.tx_actor.specs.Running.{Runs}
 use Rattle.tx_actor.specs.declared.actor.TxActor.{TxActor}
 use Rattle.actor_parts.specs.Tables.{HasTable}

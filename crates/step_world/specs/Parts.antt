@@ -13,11 +13,11 @@ use Rattle.replay_log.specs.WorldProgress.{whose}
 use Rattle.replay_log.specs.Worlds.{World, happens, no_one}
 use Rattle.actor_parts.specs.Blocks.{BlocksView, IsLaid}
 use Rattle.actor_parts.specs.Dispatch.{next_of}
-use Rattle.tx_actor.specs.Having.{HasCopies}
-use Rattle.tx_actor.specs.Keeping.{IsRunning}
+use Rattle.tx_actor.specs.CopiesByStage.{HasCopies}
+use Rattle.tx_actor.specs.ActorBounds.{IsRunning}
 use Rattle.tx_actor.specs.Running.{Runs, notice_of, stage_of}
 use Rattle.tx_actor.specs.declared.actor.Stage as own
-use Rattle.tx_actor.specs.declared.actor.Told.{Told}
+use Rattle.tx_actor.specs.declared.actor.ActorNotice.{ActorNotice}
 use Rattle.tx_actor.specs.declared.actor.TxActor.{TxActor}
 use Rattle.actor_parts.specs.declared.next.Next.{Next}
 use Rattle.actor_parts.specs.Openings.{HasShape}
@@ -64,7 +64,7 @@ module _ {V : Type 0} where
     pub parts : IsWorld c world
 
   -- In every world that events have reached and of which c are the parts, d are the parts of what the event leaves, and its answer is n.
-  pub record Happens (c : Parts V) (e : Event V) (d : Parts V) (n : Told V) : Type 0 where
+  pub record Happens (c : Parts V) (e : Event V) (d : Parts V) (n : ActorNotice V) : Type 0 where
     pub parts : (opening : Contents V) (w : World V) → IsReached opening w → IsWorld c w → IsWorld d (happens w e).0
     pub told : (opening : Contents V) (w : World V) → IsReached opening w → IsWorld c w → notice_of (whose e) n ≡ (happens w e).1
 
@@ -74,7 +74,7 @@ module _ {V : Type 0} where
 
   -- An allocation failed for the request of the actor at place i, and d are the parts that this leaves.
   pub record IsStarved (c : Parts V) (i : ℕ) (d : Parts V) : Type 0 where
-    pub told : Told V
+    pub told : ActorNotice V
     pub happens : Happens c (Starve (i + 1)) d told
 
   -- this is what the next step of the actor at place i does

@@ -5,10 +5,10 @@ use Rattle.seq_model.specs.Contents.{Contents}
 use Rattle.replay_log.specs.WorldProgress.{whose}
 use Rattle.replay_log.specs.Worlds.{World, happens}
 use Rattle.actor_parts.specs.Blocks.{BlocksView, IsLaid}
-use Rattle.tx_actor.specs.Having.{HasCopies}
-use Rattle.tx_actor.specs.Keeping.{IsRunning}
+use Rattle.tx_actor.specs.CopiesByStage.{HasCopies}
+use Rattle.tx_actor.specs.ActorBounds.{IsRunning}
 use Rattle.tx_actor.specs.Running.{Runs, notice_of}
-use Rattle.tx_actor.specs.declared.actor.Told.{Told}
+use Rattle.tx_actor.specs.declared.actor.ActorNotice.{ActorNotice}
 use Rattle.tx_actor.specs.declared.actor.TxActor.{TxActor}
 use Rattle.actor_parts.specs.Tables.{HasTable}
 use Rattle.actor_parts.specs.declared.table.Table.{Table}
@@ -18,7 +18,7 @@ use Rattle.step_world.specs.Reached.{IsReached}
 -- In every world that events have reached, which is laid out so, of which t is the table and in which r is the event's actor, and has of
 -- collections what its stage asks for, the event leaves the table u and the actor s, and answers n.
 pub record IsTurn {V : Type 0} (v : BlocksView) (e : Event V) (t : Table V) (r : TxActor V) (u : Table V) (s : TxActor V)
-    (n : Told V) : Type 0 where
+    (n : ActorNotice V) : Type 0 where
   pub turns : (opening : Contents V) (w : World V) → IsReached opening w → IsLaid v w → HasTable t w → Runs (whose e) r w
       → HasCopies r w (whose e) → HasTable u (happens w e).0 × Runs (whose e) s (happens w e).0 × (notice_of (whose e) n ≡ (happens w e).1)
 

@@ -2,18 +2,18 @@
 ghost use Rattle.std.specs.Prelude.{◌≡◌, ◌+◌, ◌<◌, [], length, IfOk, IsOk, OnErr};
 ghost use Rattle.seq_model.specs.declared.event.Event.TheVariants.{Ask, Starve, Step};
 ghost use Rattle.tx_actor.specs.Running.{notice_of};
-ghost use Rattle.step_world.specs.Feeds.{AllocatesNothing, Feeds, IsPlaceOf, MayAllocate};
+ghost use Rattle.step_world.specs.Feeds.{AllocatesNothing, Feeds, IsPositionOf, MayAllocate};
 ghost use Rattle.step_world.specs.Parts.{Happens, HasWorld, IsDue, IsStarved};
 
 use crate::opening::ACTORS;
 use crate::parts::Parts;
 use actor_parts::Next;
 use seq_model::{Event, Memory, Notice, Refusal, Request, Value};
-use tx_actor::{Stage, Told};
+use tx_actor::{ActorNotice, Stage};
 
-/// The place of the actor of this number, where it is one of the actors 1 to 64.
-fn place_of(actor: u32) -> Option<usize>
-    ensures { IsPlaceOf actor result }
+/// The position of the actor of this number, where it is one of the actors 1 to 64.
+fn position_of(actor: u32) -> Option<usize>
+    ensures { IsPositionOf actor result }
 {
     let number = actor as usize;
     if number == 0 || number > ACTORS {
@@ -22,19 +22,19 @@ fn place_of(actor: u32) -> Option<usize>
     Some(number - 1)
 }
 
-fn notice<V>(actor: u32, told: Told<V>) -> Notice<V>
+fn notice<V>(actor: u32, told: ActorNotice<V>) -> Notice<V>
     ensures { result ≡ notice_of actor told }
 {
     match told {
-        Told::Quiet => Notice::Quiet,
-        Told::Answered(answer) => Notice::Answered(actor, answer),
-        Told::Refused(refusal) => Notice::Refused(actor, refusal),
+        ActorNotice::Quiet => Notice::Quiet,
+        ActorNotice::Answered(answer) => Notice::Answered(actor, answer),
+        ActorNotice::Refused(refusal) => Notice::Refused(actor, refusal),
     }
 }
 
 impl<V: Value> Parts<V> {
-    /// The next step of the words of the actor at this place.
-    fn step_words(&mut self, i: usize) -> Result<Told<V>, Memory>
+    /// The next step of the words of the actor at this position.
+    fn step_words(&mut self, i: usize) -> Result<ActorNotice<V>, Memory>
         requires inside { i < length self.old.actors.items }
         requires world { HasWorld self.old }
         requires due { IsDue self.old i Next.Word }
@@ -50,8 +50,8 @@ impl<V: Value> Parts<V> {
         }
     }
 
-    /// The next step of the actor at this place. Where there is no memory for what it would leave, its request is refused as `Memory`.
-    fn step(&mut self, i: usize) -> Result<Told<V>, Memory>
+    /// The next step of the actor at this position. Where there is no memory for what it would leave, its request is refused as `Memory`.
+    fn step(&mut self, i: usize) -> Result<ActorNotice<V>, Memory>
         requires inside { i < length self.old.actors.items }
         requires world { HasWorld self.old }
         ensures ok { IfOk result (λ told. Happens self.old (Step (i + 1)) self.new told) }
@@ -59,7 +59,7 @@ impl<V: Value> Parts<V> {
         ensures wants { OnErr result (MayAllocate self.old i) }
     {
         match self.actors[i].next() {
-            Next::Nothing => Ok(Told::Refused(Refusal::NoTransaction)),
+            Next::Nothing => Ok(ActorNotice::Refused(Refusal::NoTransaction)),
             Next::Word => self.step_words(i),
             Next::FirstStore => self.commit(i),
             Next::TryGate(k) => Ok(self.try_gate(i, k)),
@@ -73,7 +73,7 @@ impl<V: Value> Parts<V> {
         requires world { HasWorld self.old }
         ensures { IfOk result (Feeds self.old (Ask actor request) self.new) }
     {
-        let Some(i) = place_of(actor) else {
+        let Some(i) = position_of(actor) else {
             return Ok(Notice::Refused(actor, Refusal::NoSuch));
         };
         let told = self.ask(i, request)?;
@@ -85,7 +85,7 @@ impl<V: Value> Parts<V> {
         ensures ok { IfOk result (Feeds self.old (Step actor) self.new) }
         ensures served { AllocatesNothing self.old (Step actor) → IsOk result }
     {
-        let Some(i) = place_of(actor) else {
+        let Some(i) = position_of(actor) else {
             return Ok(Notice::Refused(actor, Refusal::NoSuch));
         };
         let told = self.step(i)?;
@@ -96,7 +96,7 @@ impl<V: Value> Parts<V> {
         requires world { HasWorld self.old }
         ensures { Feeds self.old (Starve actor) self.new result }
     {
-        let Some(i) = place_of(actor) else {
+        let Some(i) = position_of(actor) else {
             return Notice::Refused(actor, Refusal::NoSuch);
         };
         let told = self.starve(i);

@@ -3,8 +3,8 @@ ghost use Rattle.std.specs.Prelude.{◌≡◌, ◌≢◌, ◌<◌, ℕ, List, Al
 ghost use Rattle.replay_log.specs.Contents.{Block};
 ghost use Rattle.actor_parts.specs.Blocks.{BlocksView};
 ghost use Rattle.actor_parts.specs.Dispatch.{next_of};
-ghost use Rattle.tx_actor.specs.Having.{KeepsFrom};
-ghost use Rattle.tx_actor.specs.Keeping.{KeepsIn, NamesAmong};
+ghost use Rattle.tx_actor.specs.CopiesByStage.{KeepsFrom};
+ghost use Rattle.tx_actor.specs.ActorBounds.{KeepsIn, NamesAmong};
 ghost use Rattle.actor_parts.specs.Logs.{OthersStand};
 ghost use Rattle.tx_actor.specs.Running.{stage_of};
 ghost use Rattle.actor_parts.specs.Openings.{HasShape};
@@ -16,7 +16,7 @@ use actor_parts::{Next, Table};
 use seq_model::{Memory, Value};
 use std::alloc::Global;
 use std::collections::VecDeque;
-use tx_actor::{Stage, Told, TxActor};
+use tx_actor::{ActorNotice, Stage, TxActor};
 
 fn prepare_base<V: Value>(table: &mut Table<V>, actor: &TxActor<V>, k: u32) -> Result<(), Memory>
     requires { k < length table.old.bases.items }
@@ -66,7 +66,7 @@ pub fn go_home<V: Value>(
     table: &mut Table<V>,
     actor: &mut TxActor<V>,
     k: u32,
-) -> Told<V>
+) -> ActorNotice<V>
     requires inside { (k < length table.old.gates.items) × (k < length table.old.bases.items) }
     requires due { next_of (stage_of actor.old.stage) ≡ Next.GoHome k }
     requires may { MayGoHome k table.old actor.old }
@@ -83,7 +83,7 @@ pub fn go_home<V: Value>(
     logs_as_worlds::<V>();
     let mut log = actor.log_of(alloc, k);
     table.go_home(k as usize, &mut log);
-    let told = actor.went_home();
+    let told = actor.on_base_returned();
     actor.keep_log(log);
     told
 }

@@ -6,7 +6,7 @@ ghost use Rattle.step_core.specs.Sound.{owed};
 ghost use Rattle.replay_log.specs.Contents.{Block};
 ghost use Rattle.actor_parts.specs.Blocks.{BlocksView};
 ghost use Rattle.actor_parts.specs.Dispatch.{is_loading};
-ghost use Rattle.tx_actor.specs.Keeping.{IsRunning};
+ghost use Rattle.tx_actor.specs.ActorBounds.{IsRunning};
 ghost use Rattle.tx_actor.specs.Running.{stage_of};
 ghost use Rattle.actor_parts.specs.Openings.{HasShape};
 ghost use Rattle.step_world.specs.Loading.{IsSeated};
@@ -18,10 +18,14 @@ use seq_model::Value;
 use tx_actor::laws::{
     copies_by_stage, loads_as_worlds, loads_keep_running, loads_stay_own, seats_as_actors,
 };
-use tx_actor::{Told, TxActor};
+use tx_actor::{ActorNotice, TxActor};
 
 /// The next step of an actor's words while the locations of its call are read.
-pub fn load_word<V: Value>(table: &mut Table<V>, actor: &mut TxActor<V>, blocks: &Blocks) -> Told<V>
+pub fn load_word<V: Value>(
+    table: &mut Table<V>,
+    actor: &mut TxActor<V>,
+    blocks: &Blocks,
+) -> ActorNotice<V>
     requires running { IsRunning blocks.now actor.old }
     requires shape { HasShape table.old blocks.now.words blocks.now.blocks }
     requires clock { table.old.cells.clock + owed actor.old.words.place < 2 ^ 63 }
@@ -42,5 +46,5 @@ pub fn load_word<V: Value>(table: &mut Table<V>, actor: &mut TxActor<V>, blocks:
     copies_stay::<V>();
     copies_by_stage::<V>();
     let told = table.step(&mut actor.words);
-    actor.loaded(told)
+    actor.on_load_step(told)
 }

@@ -24,7 +24,7 @@ pub struct Parts<V> {
     pub table: Table<V>,
     /// How the locations are laid out.
     pub blocks: Blocks,
-    /// The actors 1 to 64, each at the place before its number.
+    /// The actors 1 to 64, each at the position before its number.
     pub actors: Vec<TxActor<V>>,
     /// The committed transactions with their actors, in commit order.
     pub records: Vec<(u32, Record<V>)>,

@@ -17,21 +17,21 @@ use actor_parts::{Next, copies_stay};
 use replay_log::laws::serial_worlds;
 use seq_model::{Memory, Request, Value, insert_record};
 use tx_actor::laws::{copies_by_stage, copies_stay_own};
-use tx_actor::{Stage, Told};
+use tx_actor::{ActorNotice, Stage};
 
 impl<V: Value> Parts<V> {
-    /// The request of the actor at this place is refused as `Memory`, where it may still be.
-    pub fn starve(&mut self, i: usize) -> Told<V>
+    /// The request of the actor at this position is refused as `Memory`, where it may still be.
+    pub fn starve(&mut self, i: usize) -> ActorNotice<V>
         requires { i < length self.old.actors.items }
         ensures { Happens self.old (Starve (i + 1)) self.new result }
     {
         copies_by_stage::<V>();
         copies_stay::<V>();
-        self.actors[i].starves()
+        self.actors[i].on_starve()
     }
 
-    /// A request of the actor at this place. Out of memory, the world is as it was.
-    pub fn ask(&mut self, i: usize, request: Request<V>) -> Result<Told<V>, Memory>
+    /// A request of the actor at this position. Out of memory, the world is as it was.
+    pub fn ask(&mut self, i: usize, request: Request<V>) -> Result<ActorNotice<V>, Memory>
         requires inside { i < length self.old.actors.items }
         requires world { HasWorld self.old }
         ensures ok { IfOk result (λ told. Happens self.old (Ask (i + 1) request) self.new told) }
@@ -42,14 +42,14 @@ impl<V: Value> Parts<V> {
         copies_stay_own::<V>();
         calls_as_worlds::<V>();
         let alloc = *self.records.allocator();
-        match self.actors[i].asks(alloc, &self.blocks, request) {
+        match self.actors[i].request(alloc, &self.blocks, request) {
             Ok(told) => Ok(told),
             Err(_) => Err(Memory),
         }
     }
 
     /// A step of the words that ends no transaction.
-    pub(crate) fn move_on(&mut self, i: usize) -> Told<V>
+    pub(crate) fn move_on(&mut self, i: usize) -> ActorNotice<V>
         requires inside { i < length self.old.actors.items }
         requires world { HasWorld self.old }
         requires due { IsDue self.old i Next.Word }
@@ -65,7 +65,7 @@ impl<V: Value> Parts<V> {
     }
 
     /// A try on the gate of a collection.
-    pub(crate) fn try_gate(&mut self, i: usize, k: u32) -> Told<V>
+    pub(crate) fn try_gate(&mut self, i: usize, k: u32) -> ActorNotice<V>
         requires inside { i < length self.old.actors.items }
         requires world { HasWorld self.old }
         requires due { IsDue self.old i (Next.TryGate k) }
@@ -79,7 +79,7 @@ impl<V: Value> Parts<V> {
     }
 
     /// A gate is put back.
-    pub(crate) fn put_gate(&mut self, i: usize, k: u32) -> Told<V>
+    pub(crate) fn put_gate(&mut self, i: usize, k: u32) -> ActorNotice<V>
         requires inside { i < length self.old.actors.items }
         requires world { HasWorld self.old }
         requires due { IsDue self.old i (Next.PutGate k) }
@@ -92,7 +92,7 @@ impl<V: Value> Parts<V> {
     }
 
     /// A load of a location that a call reads.
-    pub(crate) fn load(&mut self, i: usize) -> Told<V>
+    pub(crate) fn load(&mut self, i: usize) -> ActorNotice<V>
         requires inside { i < length self.old.actors.items }
         requires world { HasWorld self.old }
         requires loading { (r : running.TxActor V) → slice_get self.old.actors.items i ≡ Some r → is_loading (stage_of r.stage) ≡ true }
@@ -103,7 +103,7 @@ impl<V: Value> Parts<V> {
 
     /// What a call touches of the base of its collection is copied, and the gate is put back. Where there is no memory for it, its request
     /// is refused as `Memory`.
-    pub(crate) fn copy(&mut self, i: usize, k: u32) -> Result<Told<V>, Memory>
+    pub(crate) fn copy(&mut self, i: usize, k: u32) -> Result<ActorNotice<V>, Memory>
         requires inside { i < length self.old.actors.items }
         requires world { HasWorld self.old }
         requires due { IsDue self.old i (Next.Copy k) }
@@ -120,7 +120,7 @@ impl<V: Value> Parts<V> {
     }
 
     /// The base of a collection that its actor has written is put back.
-    pub(crate) fn go_home(&mut self, i: usize, k: u32) -> Told<V>
+    pub(crate) fn go_home(&mut self, i: usize, k: u32) -> ActorNotice<V>
         requires inside { i < length self.old.actors.items }
         requires world { HasWorld self.old }
         requires due { IsDue self.old i (Next.GoHome k) }
@@ -133,7 +133,7 @@ impl<V: Value> Parts<V> {
         go_home(alloc, &mut self.table, &mut self.actors[i], k)
     }
 
-    /// The request of the actor at this place is refused as `Memory`, as there is none for what its step was to leave.
+    /// The request of the actor at this position is refused as `Memory`, as there is none for what its step was to leave.
     fn starved(&mut self, i: usize) -> Memory
         requires { i < length self.old.actors.items }
         ensures { IsStarved self.old i self.new }
@@ -144,7 +144,7 @@ impl<V: Value> Parts<V> {
 
     /// The first value store of a commit, at which the transaction is recorded. Where there is no memory for its record, for its calls in
     /// a base that is to be put back, or for what its word actor keeps, it stores nothing, and its request is refused as `Memory`.
-    pub(crate) fn commit(&mut self, i: usize) -> Result<Told<V>, Memory>
+    pub(crate) fn commit(&mut self, i: usize) -> Result<ActorNotice<V>, Memory>
         requires inside { i < length self.old.actors.items }
         requires world { HasWorld self.old }
         requires due { IsDue self.old i Next.FirstStore }
@@ -173,7 +173,7 @@ impl<V: Value> Parts<V> {
 
     /// The load of the clock that commits a transaction without writes, at which it is recorded. Where there is no memory for its record,
     /// it loads nothing, and its request is refused as `Memory`.
-    pub(crate) fn close(&mut self, i: usize) -> Result<Told<V>, Memory>
+    pub(crate) fn close(&mut self, i: usize) -> Result<ActorNotice<V>, Memory>
         requires inside { i < length self.old.actors.items }
         requires world { HasWorld self.old }
         requires stage { IsAt self.old i Stage.Closing }
@@ -194,7 +194,7 @@ impl<V: Value> Parts<V> {
     }
 
     /// The load of the clock that ends an aborted transaction. Where there is no memory to list it, it loads nothing.
-    pub(crate) fn leave(&mut self, i: usize) -> Result<Told<V>, Memory>
+    pub(crate) fn leave(&mut self, i: usize) -> Result<ActorNotice<V>, Memory>
         requires inside { i < length self.old.actors.items }
         requires world { HasWorld self.old }
         requires stage { IsAt self.old i Stage.Leaving }

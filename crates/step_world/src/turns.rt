@@ -8,8 +8,8 @@ ghost use Rattle.tx_actor.specs.Asks.{Stands};
 ghost use Rattle.actor_parts.specs.Blocks.{BlocksView};
 ghost use Rattle.tx_actor.specs.Dispatch.{Records};
 ghost use Rattle.actor_parts.specs.Dispatch.{is_loading, next_of};
-ghost use Rattle.tx_actor.specs.Having.{KeepsCopies};
-ghost use Rattle.tx_actor.specs.Keeping.{IsRunning, KeepsIn};
+ghost use Rattle.tx_actor.specs.CopiesByStage.{KeepsCopies};
+ghost use Rattle.tx_actor.specs.ActorBounds.{IsRunning, KeepsIn};
 ghost use Rattle.tx_actor.specs.Running.{stage_of};
 ghost use Rattle.actor_parts.specs.Openings.{HasShape};
 ghost use Rattle.step_world.specs.Turns.{IsTurn};
@@ -20,10 +20,14 @@ use actor_parts::{Blocks, Next, Table};
 use seq_model::{Items, Memory, Record, Value};
 use std::alloc::Global;
 use std::mem;
-use tx_actor::{Stage, Told, TxActor};
+use tx_actor::{ActorNotice, Stage, TxActor};
 
 /// The next step of an actor's words.
-pub fn step_word<V: Value>(table: &mut Table<V>, actor: &mut TxActor<V>, blocks: &Blocks) -> Told<V>
+pub fn step_word<V: Value>(
+    table: &mut Table<V>,
+    actor: &mut TxActor<V>,
+    blocks: &Blocks,
+) -> ActorNotice<V>
     requires running { IsRunning blocks.now actor.old }
     requires shape { HasShape table.old blocks.now.words blocks.now.blocks }
     requires clock { table.old.cells.clock + owed actor.old.words.place < 2 ^ 63 }
@@ -40,7 +44,7 @@ pub fn step_word<V: Value>(table: &mut Table<V>, actor: &mut TxActor<V>, blocks:
     steps_as_worlds::<V>();
     goes_on_as_worlds::<V>();
     let told = table.step(&mut actor.words);
-    actor.stepped(told)
+    actor.on_step(told)
 }
 
 /// The load of the clock that commits a transaction without writes, with its record. It takes no memory.
@@ -49,7 +53,7 @@ pub fn close<V: Value>(
     table: &mut Table<V>,
     actor: &mut TxActor<V>,
     blocks: &Blocks,
-) -> (Told<V>, Record<V>)
+) -> (ActorNotice<V>, Record<V>)
     requires running { IsRunning blocks.now actor.old }
     requires shape { HasShape table.old blocks.now.words blocks.now.blocks }
     requires clock { table.old.cells.clock + owed actor.old.words.place < 2 ^ 63 }
@@ -82,7 +86,7 @@ pub fn leave<V: Value>(
     actor: &mut TxActor<V>,
     blocks: &Blocks,
     number: u32,
-) -> (Told<V>, Ended<V>)
+) -> (ActorNotice<V>, Ended<V>)
     requires running { IsRunning blocks.now actor.old }
     requires shape { HasShape table.old blocks.now.words blocks.now.blocks }
     requires clock { table.old.cells.clock + owed actor.old.words.place < 2 ^ 63 }
@@ -116,7 +120,7 @@ pub fn first_store<V: Value>(
     table: &mut Table<V>,
     actor: &mut TxActor<V>,
     blocks: &Blocks,
-) -> Result<Told<V>, Memory>
+) -> Result<ActorNotice<V>, Memory>
     requires running { IsRunning blocks.now actor.old }
     requires shape { HasShape table.old blocks.now.words blocks.now.blocks }
     requires clock { table.old.cells.clock + owed actor.old.words.place < 2 ^ 63 }
@@ -134,9 +138,9 @@ pub fn first_store<V: Value>(
 {
     steps_as_worlds::<V>();
     goes_on_as_worlds::<V>();
-    actor.asks_to_store(blocks)?;
+    actor.request_store(blocks)?;
     let told = table.step(&mut actor.words);
-    Ok(actor.stepped(told))
+    Ok(actor.on_step(told))
 }
 
 /// The first value store of a commit, with the record that it makes. Out of memory, the actor shows what it showed before.
@@ -145,7 +149,7 @@ pub fn commit<V: Value>(
     table: &mut Table<V>,
     actor: &mut TxActor<V>,
     blocks: &Blocks,
-) -> Result<(Told<V>, Record<V>), Memory>
+) -> Result<(ActorNotice<V>, Record<V>), Memory>
     requires running { IsRunning blocks.now actor.old }
     requires shape { HasShape table.old blocks.now.words blocks.now.blocks }
     requires clock { table.old.cells.clock + owed actor.old.words.place < 2 ^ 63 }
@@ -180,7 +184,7 @@ pub fn try_gate<V: Value>(
     actor: &mut TxActor<V>,
     number: u32,
     k: u32,
-) -> Told<V>
+) -> ActorNotice<V>
     requires number { 0 < number }
     requires inside { k < length table.old.gates.items }
     requires due { next_of (stage_of actor.old.stage) ≡ Next.TryGate k }
@@ -193,11 +197,11 @@ pub fn try_gate<V: Value>(
 {
     steps_as_worlds::<V>();
     let free = table.take_gate(k as usize, number);
-    actor.tried_gate(free)
+    actor.on_gate_tried(free)
 }
 
 /// The store that puts a gate back which the actor holds, its base as it was.
-pub fn put_gate<V: Value>(table: &mut Table<V>, actor: &mut TxActor<V>, k: u32) -> Told<V>
+pub fn put_gate<V: Value>(table: &mut Table<V>, actor: &mut TxActor<V>, k: u32) -> ActorNotice<V>
     requires inside { k < length table.old.gates.items }
     requires due { next_of (stage_of actor.old.stage) ≡ Next.PutGate k }
     ensures turns { (v : BlocksView) (a : ℕ) → IsTurn v (Step a) table.old actor.old table.new actor.new result }
@@ -209,5 +213,5 @@ pub fn put_gate<V: Value>(table: &mut Table<V>, actor: &mut TxActor<V>, k: u32) 
 {
     steps_as_worlds::<V>();
     table.put_gate(k as usize);
-    actor.put_gate()
+    actor.on_gate_put()
 }

@@ -5,15 +5,15 @@ use base_pq::PqBase;
 use base_queue::QueueBase;
 use client_sessions::SharedCustomer;
 use conflict::{Note, Outcome};
-use replay_log::{Base, Touch, Touched};
+use replay_log::{Base, Touch, TouchedKey};
 use seq_model::{AuditFault, Call, Items, Op, Record, Refusal, Reply};
 use session_text::Line;
 use step_core::{WordAnswer, WordRecord};
 use step_world::{Answer, Ended, Event, Notice, Request, Trace};
 use tx_engine::{Attempt, Receipt};
 use vac_model::{
-    Action, ActionReply, Ask, Booking, Change, Changed, Customer, Each, Item, Kind, Part, Queue,
-    Ticket, Wait,
+    Action, ActionReply, Ask, Booking, Change, ChangeReply, Customer, Each, Item, Kind, KindReply,
+    Queue, Ticket, Wait,
 };
 use vacation_core::{Entry, Ordered, VacEvent, VacTrace};
 use workers::{LastAbort, Report, Served};
@@ -62,7 +62,10 @@ pub const OUTCOME: Outcome<u64> = Outcome {
     note: Note::Plain,
 };
 
-pub const TOUCHED: [Touched<u64>; 2] = [Touched::Entry(1, Some(10)), Touched::Copies(5, 1)];
+pub const TOUCHED: [TouchedKey<u64>; 2] = [
+    TouchedKey::Entry(1, Some(10)),
+    TouchedKey::Copies(5, 1),
+];
 
 pub const REPLIES: &[Reply<u64>] = &[
     Reply::Done,
@@ -162,19 +165,19 @@ const TICKET: Ticket = Ticket {
 /// The entries that hold no list.
 pub const ENTRIES: [Entry; 2] = [Entry::Item(ITEM), Entry::Ticket(TICKET)];
 
-pub const CHANGED: &[Changed] = &[Changed::Done, Changed::Refused];
+pub const CHANGED: &[ChangeReply] = &[ChangeReply::Done, ChangeReply::Refused];
 
 /// The replies that hold no list.
 pub const ACTION_REPLIES: [ActionReply; 6] = [
     ActionReply::Reserved(Each {
-        car: Part::Nothing,
-        flight: Part::Already(1),
-        room: Part::Full(1),
+        car: KindReply::Nothing,
+        flight: KindReply::Already(1),
+        room: KindReply::Full(1),
     }),
     ActionReply::Reserved(Each {
-        car: Part::Booked(1, 2, 50),
-        flight: Part::NoFree(1),
-        room: Part::Waits(1, 0),
+        car: KindReply::Booked(1, 2, 50),
+        flight: KindReply::NoFree(1),
+        room: KindReply::Waits(1, 0),
     }),
     ActionReply::Deleted(50, 2),
     ActionReply::Found(ITEM),
@@ -211,7 +214,7 @@ pub fn committed(calls: Items<(Call<u64>, Reply<u64>)>) -> Attempt<u64> {
 pub fn actions(
     asks: Items<Ask>,
     changes: Items<Change>,
-    changed: Items<Changed>,
+    changed: Items<ChangeReply>,
 ) -> ([Action; 2], ActionReply) {
     let actions = [Action::Reserve(7, 1, asks), Action::Update(changes)];
     (actions, ActionReply::Updated(changed))
@@ -223,9 +226,13 @@ pub fn held(
     waits: Items<Wait>,
     shared: SharedCustomer,
     counts: Items<u64>,
-) -> (Customer, Entry, Touched<u64>) {
+) -> (Customer, Entry, TouchedKey<u64>) {
     let customer = Customer { bookings, waits };
-    (customer, Entry::Customer(shared), Touched::Counts(counts))
+    (
+        customer,
+        Entry::Customer(shared),
+        TouchedKey::Counts(counts),
+    )
 }
 
 pub fn bases(map: MapBase<u64>, bag: BagBase, pq: PqBase, queue: QueueBase) -> [Base<u64>; 4] {

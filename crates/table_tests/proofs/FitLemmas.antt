@@ -2,7 +2,7 @@
 use Rattle.std.proofs.Common.{◌≡◌}
 use Rattle.tx_table.specs.declared.table.TxTable.{TxTable}
 use Rattle.tx_table.specs.Seated.{opening_of}
-use Rattle.actor_laws.specs.Phases.{Rests}
+use Rattle.actor_laws.specs.KnownStages.{Rests}
 use Rattle.tx_engine.proofs.ReadyLemmas.{rests_since}
 use Rattle.tx_turns.specs.Driven.{standing}
 use Rattle.tx_engine.specs.Ready.{IsReady}

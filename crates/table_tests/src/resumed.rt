@@ -1,7 +1,7 @@
 //! Requests of a transaction that is left open at its seat from one to the next.
 ghost use Rattle.std.specs.Prelude.{◌≡◌, IfErr, IfOk};
 ghost use Rattle.tx_table.specs.Seated.{opening_of};
-ghost use Rattle.actor_laws.specs.Phases.{Rests};
+ghost use Rattle.actor_laws.specs.KnownStages.{Rests};
 ghost use Rattle.tx_engine.specs.Borrowed.{IsAborted};
 ghost use Rattle.tx_engine.specs.Ready.{HasBegunSince, HasCalled, HasFinished, IsReady, standing};
 

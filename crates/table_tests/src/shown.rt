@@ -4,7 +4,7 @@
 ghost use Rattle.std.specs.Prelude.{◌≡◌, IfErr, List, None};
 ghost use Rattle.seq_model.specs.declared.call.Call.{Call as Asked};
 ghost use Rattle.seq_model.specs.declared.call.Reply.{Reply as Replied};
-ghost use Rattle.actor_laws.specs.Phases.{Rests, Stands};
+ghost use Rattle.actor_laws.specs.KnownStages.{Rests, Stands};
 ghost use Rattle.tx_table.specs.Seated.{contents_in, opening_of};
 ghost use Rattle.tx_engine.specs.Ready.{standing};
 ghost use Rattle.table_tests.specs.Fit.{IsFit};

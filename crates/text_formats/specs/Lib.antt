@@ -12,4 +12,4 @@ pub mod SessionPrints
 pub mod Draws
 pub mod Openings
 pub mod Options
-pub mod Drawing
+pub mod DrawnActions

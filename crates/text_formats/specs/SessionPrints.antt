@@ -5,11 +5,11 @@ use Rattle.std.specs.FinMap as map
 use Rattle.seq_model.specs.Texts.{refusal_text}
 use Rattle.vac_model.specs.declared.action.ActionReply.{ActionReply}
 use Rattle.vac_model.specs.declared.action.ActionReply.TheVariants.{Reserved, Deleted, Updated, Found, Bill, Absent}
-use Rattle.vac_model.specs.declared.action.Changed.{Changed}
-use Rattle.vac_model.specs.declared.action.Changed.TheVariants.{Refused}
-use Rattle.vac_model.specs.declared.action.Changed.TheVariants as changed
-use Rattle.vac_model.specs.declared.action.Part.{Part}
-use Rattle.vac_model.specs.declared.action.Part.TheVariants.{Nothing, Already, Full, Booked, NoFree, Waits}
+use Rattle.vac_model.specs.declared.action.ChangeReply.{ChangeReply}
+use Rattle.vac_model.specs.declared.action.ChangeReply.TheVariants.{Refused}
+use Rattle.vac_model.specs.declared.action.ChangeReply.TheVariants as changed
+use Rattle.vac_model.specs.declared.action.KindReply.{KindReply}
+use Rattle.vac_model.specs.declared.action.KindReply.TheVariants.{Nothing, Already, Full, Booked, NoFree, Waits}
 use Rattle.vac_model.specs.declared.each.Each.{Each}
 use Rattle.vac_model.specs.declared.item.Booking.{Booking}
 use Rattle.vac_model.specs.declared.item.Customer.{Customer}
@@ -28,7 +28,7 @@ abbrev pub number_text : ℕ → List ℕ
 number_text n = codes " " ++ decimal n
 
 -- ---- replies
-abbrev pub part_text : Part → List ℕ
+abbrev pub part_text : KindReply → List ℕ
 part_text Nothing = codes "nothing"
 part_text (Booked id units price) = codes "booked " ++ (decimal id ++ (codes " " ++ (decimal units ++ (codes " " ++ decimal price))))
 part_text (Already id) = codes "already " ++ decimal id
@@ -36,15 +36,15 @@ part_text (NoFree id) = codes "nofree " ++ decimal id
 part_text (Waits id ticket) = codes "waits " ++ (decimal id ++ (codes " " ++ decimal ticket))
 part_text (Full id) = codes "full " ++ decimal id
 
-abbrev pub parts_text : Each Part → List ℕ
+abbrev pub parts_text : Each KindReply → List ℕ
 parts_text parts = part_text parts.car ++ (codes ", " ++ (part_text parts.flight ++ (codes ", " ++ part_text parts.room)))
 
-abbrev pub changed_text : Changed → List ℕ
+abbrev pub changed_text : ChangeReply → List ℕ
 changed_text changed.Done = codes "done"
 changed_text Refused = codes "refused"
 
 -- with a space between
-abbrev pub changes_text : List Changed → List ℕ
+abbrev pub changes_text : List ChangeReply → List ℕ
 changes_text [] = []
 changes_text (first ∷ changes) = changed_text first ++ flat_map (λ made. codes " " ++ changed_text made) changes
 

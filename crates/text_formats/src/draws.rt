@@ -3,7 +3,7 @@ ghost use Rattle.std.specs.Prelude.{◌<◌, ◌≤◌};
 ghost use Rattle.rand.specs.Draw.{Gives};
 ghost use Rattle.text_formats.specs.Draws as draws;
 ghost use Rattle.text_formats.specs.Openings as openings;
-ghost use Rattle.text_formats.specs.Drawing as sessions;
+ghost use Rattle.text_formats.specs.DrawnActions as sessions;
 
 use rand::RngExt;
 use rand_core::Rng;

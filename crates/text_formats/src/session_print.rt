@@ -10,7 +10,7 @@ ghost use Rattle.text_formats.specs.SessionPrints.{reply_text, tables_text, wait
 use seq_model::{LastAbort, Memory};
 use std::alloc::Global;
 use std::fmt::Write;
-use vac_model::{ActionReply, Booking, Changed, Each, Item, Kind, Part, Tables, Wait};
+use vac_model::{ActionReply, Booking, ChangeReply, Each, Item, Kind, KindReply, Tables, Wait};
 
 /// What became of a session.
 #[derive(Drop)]
@@ -89,7 +89,7 @@ fn print_reply(text: &mut String, reply: &ActionReply) -> Result<(), Memory>
     Ok(())
 }
 
-fn print_parts(text: &mut String, parts: &Each<Part>) -> Result<(), Memory>
+fn print_parts(text: &mut String, parts: &Each<KindReply>) -> Result<(), Memory>
     ensures { OnOk result (string_bytes text.new ≡ string_bytes text.old ++ parts_text parts.now) }
 {
     print_part(text, &parts.car)?;
@@ -99,21 +99,21 @@ fn print_parts(text: &mut String, parts: &Each<Part>) -> Result<(), Memory>
     print_part(text, &parts.room)
 }
 
-fn print_part(text: &mut String, part: &Part) -> Result<(), Memory>
+fn print_part(text: &mut String, part: &KindReply) -> Result<(), Memory>
     ensures { OnOk result (string_bytes text.new ≡ string_bytes text.old ++ part_text part.now) }
 {
     match part {
-        Part::Nothing => text.push_str("nothing")?,
-        Part::Already(id) => write!(text, "already {id}")?,
-        Part::Full(id) => write!(text, "full {id}")?,
-        Part::Booked(id, units, price) => write!(text, "booked {id} {units} {price}")?,
-        Part::NoFree(id) => write!(text, "nofree {id}")?,
-        Part::Waits(id, ticket) => write!(text, "waits {id} {ticket}")?,
+        KindReply::Nothing => text.push_str("nothing")?,
+        KindReply::Already(id) => write!(text, "already {id}")?,
+        KindReply::Full(id) => write!(text, "full {id}")?,
+        KindReply::Booked(id, units, price) => write!(text, "booked {id} {units} {price}")?,
+        KindReply::NoFree(id) => write!(text, "nofree {id}")?,
+        KindReply::Waits(id, ticket) => write!(text, "waits {id} {ticket}")?,
     }
     Ok(())
 }
 
-fn print_changes(text: &mut String, changes: &[Changed]) -> Result<(), Memory>
+fn print_changes(text: &mut String, changes: &[ChangeReply]) -> Result<(), Memory>
     ensures { OnOk result (string_bytes text.new ≡ string_bytes text.old ++ changes_text changes.now) }
 {
     let [first, others @ ..] = changes else {
@@ -123,7 +123,7 @@ fn print_changes(text: &mut String, changes: &[Changed]) -> Result<(), Memory>
     print_others(text, others)
 }
 
-fn print_others(text: &mut String, changes: &[Changed]) -> Result<(), Memory>
+fn print_others(text: &mut String, changes: &[ChangeReply]) -> Result<(), Memory>
     ensures { OnOk result (string_bytes text.new ≡ string_bytes text.old ++ flat_map (λ made. codes " " ++ changed_text made) changes.now) }
 {
     for changed in changes {
@@ -133,12 +133,12 @@ fn print_others(text: &mut String, changes: &[Changed]) -> Result<(), Memory>
     Ok(())
 }
 
-fn word_of(changed: Changed) -> &'static str
+fn word_of(changed: ChangeReply) -> &'static str
     ensures { result.now ≡ changed_text changed }
 {
     match changed {
-        Changed::Done => "done",
-        Changed::Refused => "refused",
+        ChangeReply::Done => "done",
+        ChangeReply::Refused => "refused",
     }
 }
 

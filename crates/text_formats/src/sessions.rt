@@ -4,8 +4,8 @@ ghost use Rattle.rand.specs.Draw.{Gives};
 ghost use Rattle.vac_model.specs.Actions.{IsAllowed, IsAmountWithin, IsListed};
 ghost use Rattle.text_formats.specs.Draws.{times};
 ghost use Rattle.text_formats.specs.Options.{AreWithin, count_of};
-ghost use Rattle.text_formats.specs.Drawing.{ask_drawn, change_drawn, delete_drawn, reserve_drawn, session_drawn, sessions_of};
-ghost use Rattle.text_formats.specs.Drawing.{update_drawn};
+ghost use Rattle.text_formats.specs.DrawnActions.{ask_drawn, change_drawn, delete_drawn, reserve_drawn, session_drawn, sessions_of};
+ghost use Rattle.text_formats.specs.DrawnActions.{update_drawn};
 
 use crate::draws::{below, kind, price, up_to};
 use crate::options::Options;

@@ -26,8 +26,8 @@ use Rattle.std.specs.declared.alloc.Global.{Global}
 use Rattle.std.specs.declared.collections.VecDeque.{VecDeque}
 use Rattle.tx_actor.specs.declared.actor.Stage.{Stage}
 use Rattle.tx_actor.specs.declared.actor.Stage.TheVariants as stage
-use Rattle.tx_actor.specs.declared.actor.Told.{Told}
-use Rattle.tx_actor.specs.declared.actor.Told.TheVariants as told
+use Rattle.tx_actor.specs.declared.actor.ActorNotice.{ActorNotice}
+use Rattle.tx_actor.specs.declared.actor.ActorNotice.TheVariants as told
 use Rattle.tx_actor.specs.declared.actor.TxActor.{TxActor}
 use Rattle.tx_actor.specs.Asks.{AdmitsCall, Asks, MayStore, when_found}
 use Rattle.actor_parts.specs.Requests.{may_read, number_told}
@@ -83,7 +83,7 @@ module _ {V : Type 0} where
   same_found w a x l None = refl
   same_found w a x l (Some v) = refl
 
-  pub reads_as : (v : BlocksView) (r u : TxActor V) (t : Told V) (z : Seat V) (l : ℕ) (found : Option ℕ) → z ≡ seat_of r
+  pub reads_as : (v : BlocksView) (r u : TxActor V) (t : ActorNotice V) (z : Seat V) (l : ℕ) (found : Option ℕ) → z ≡ seat_of r
       → ltb l v.words ≡ true
       → ltb (length r.calls.items) CALL_LIMIT ≡ true → may_read (words.actor_of r.words) l ≡ true
       → number_told found ≡ notice.reply (words.actor_of r.words) (words.actor_of r.words).place (AskRead l)
@@ -114,7 +114,7 @@ module _ {V : Type 0} where
   may_write w a l n declared b e d h =
       ap (λ (m : ℕ). ltb l m && not (actor_of w a).declared) e ∙ (ap (λ (q : Bool). ltb l n && not q) d ∙ h)
 
-  pub writes_as : (v : BlocksView) (r u : TxActor V) (t : Told V) (l val : ℕ) → ltb l v.words ≡ true → r.words.declared ≡ false
+  pub writes_as : (v : BlocksView) (r u : TxActor V) (t : ActorNotice V) (l val : ℕ) → ltb l v.words ≡ true → r.words.declared ≡ false
       → ltb (length r.calls.items) CALL_LIMIT ≡ true → fits r.words.writes.entries (l ∷ []) ≡ true
       → ((a : ℕ) (w : World V) → actor_of w a ≡ ask (words.actor_of r.words) (words.actor_of r.words).place (AskWrite l val)
       → Runs a u (replied w a (seat_of r) (record { target = l; op = Write val }) reply.Done).0

@@ -5,6 +5,7 @@ use Rattle.std.proofs.Common.{◌≡◌, ℕ, ◌+◌, ◌^◌, ◌<◌, ◌≤�
 use Rattle.std.proofs.Common.{sym, ap, subst, ◌∙◌, arith}
 use Rattle.std.specs.Prelude.{Contains, IsSome, slice_get}
 use Rattle.std.proofs.lemmas.Bool.{cond-true, cond-false}
+use Rattle.std.proofs.lemmas.Option.{same_Some}
 use Rattle.tx_sets.specs.Entries.{Entries, lookup}
 use Rattle.tx_machine.specs.Actor as machine
 use Rattle.tx_machine.specs.Requests as word
@@ -19,7 +20,7 @@ use Rattle.tx_machine.specs.Content.{IsIn}
 use Rattle.tx_machine.specs.Boosted.{Accept}
 use Rattle.replay_log.specs.Guards.{Allows}
 use Rattle.step_core.specs.declared.actor.Actor.{Actor}
-use Rattle.replay_log.specs.Contents.{Answered, Block, block_of, content, first_of, shifted, size}
+use Rattle.replay_log.specs.Contents.{CallWithOutcome, Block, block_of, content, first_of, shifted, size}
 use Rattle.replay_log.specs.Base.{shown_of, stripes_of}
 use Rattle.seq_model.specs.declared.refusal.Refusal.{Refusal}
 use Rattle.tx_actor.specs.declared.actor.Stage.TheVariants as stage
@@ -29,40 +30,39 @@ use Rattle.replay_log.specs.Worlds.{World, Seat, After, Trying, Open, actor_of, 
 use Rattle.replay_log.specs.Worlds.{more_tries, outcome_at, seated, with_editions}
 use Rattle.replay_log.proofs.ContentLemmas.{content_frame, in_shifted, shifted_in}
 use Rattle.step_core.specs.Shown as words
-use Rattle.tx_actor.specs.declared.actor.Answered as running
-use Rattle.actor_parts.specs.declared.copies.CopyOf.{CopyOf}
-use Rattle.tx_actor.specs.declared.actor.Told.{Told}
-use Rattle.tx_actor.specs.declared.actor.Told.TheVariants as told
+use Rattle.tx_actor.specs.declared.actor.CallWithOutcome as running
+use Rattle.actor_parts.specs.declared.copies.CopyOfCollection.{CopyOfCollection}
+use Rattle.tx_actor.specs.declared.actor.ActorNotice.{ActorNotice}
+use Rattle.tx_actor.specs.declared.actor.ActorNotice.TheVariants as told
 use Rattle.tx_actor.specs.declared.actor.TxActor.{TxActor}
-use Rattle.actor_parts.specs.declared.copies.Copied.{Copied}
+use Rattle.actor_parts.specs.declared.copies.PrivateCopy.{PrivateCopy}
 use Rattle.actor_parts.specs.Accepts.{written}
 use Rattle.tx_actor.specs.Answers.{CopiesAfter, MayAccept, MayAnswer}
 use Rattle.actor_parts.specs.Blocks.{BlocksView, IsLaid}
 use Rattle.tx_actor.specs.Calls.{AsksOwn, CanCall, ask_call, is_allowed}
-use Rattle.actor_parts.specs.Copies as copies
-use Rattle.actor_parts.specs.Copies.{answer_of, answered_on, holds_call, holds_of}
-use Rattle.actor_parts.specs.Footprints.{IsPlaceOf, base_in, known_edition, places_in, reads_in, with_known, writes_in}
+use Rattle.actor_parts.specs.PrivateCopy as copies
+use Rattle.actor_parts.specs.PrivateCopy.{answer_of, answered_on, holds_call, holds_of}
+use Rattle.actor_parts.specs.Footprints.{IsPositionOf, base_in, known_edition, location_count, reads_in, with_known, writes_in}
 use Rattle.actor_parts.specs.Judged.{comes_to, judged, left_after}
-use Rattle.actor_parts.specs.Keeps.{IsOwnCopy, call_on}
+use Rattle.actor_parts.specs.CopyInWorld.{IsOwnCopy, call_on}
 use Rattle.actor_parts.specs.Owns.{IsHeldAsk, IsOwn, MayCall, read_at}
 use Rattle.tx_actor.specs.Owns.{OwnsCopies}
 use Rattle.tx_actor.specs.Prepares.{ArePrepared, IsAlike, IsHeldAt, IsReadyCall, MayPrepare}
 use Rattle.tx_actor.specs.Running.{Runs, asked_of, answered_of, notice_of, seat_of, with_outcome, is_recorded, seat_at, seat_in}
-use Rattle.actor_parts.specs.Kept.{copy_of, has_piece}
+use Rattle.actor_parts.specs.CopyList.{copy_of, has_piece}
 use Rattle.actor_parts.specs.Writes.{with_next, written_as}
-use Rattle.actor_parts.proofs.KeepsLemmas.{answers_held, head_in, held_editions, held_known, held_outcome, held_read, held_written}
-use Rattle.actor_parts.proofs.KeepsLemmas.{tail_in}
+use Rattle.actor_parts.proofs.CopyInWorldLemmas.{answers_held, head_in, held_editions, held_known, held_outcome, held_read, held_written}
+use Rattle.actor_parts.proofs.CopyInWorldLemmas.{tail_in}
 use Rattle.actor_parts.proofs.CallingLemmas.{not_read}
 use Rattle.actor_parts.proofs.FootprintLemmas.{sized}
-use Rattle.actor_parts.proofs.KeptLemmas.{first_at}
+use Rattle.actor_parts.proofs.CopyListLemmas.{first_at}
 use Rattle.tx_actor.proofs.OwnAsksLemmas.{comes_owns}
-use Rattle.tx_actor.proofs.OwnsLemmas.{owns_by}
-use Rattle.actor_parts.proofs.TakingLemmas.{some_copy}
+use Rattle.tx_actor.proofs.CopyListLemmas.{owns_by}
 use Rattle.actor_parts.proofs.WeighedLemmas.{held_answers}
 use Rattle.tx_actor.proofs.PreparesLemmas.{alike_owns, alike_seat}
 
 -- the writes of an accepted call are those that are ready
-written_same : {V : Type 0} → (c : Copied V) (f : ℕ) (editions : ℕ → ℕ) (ls : List ℕ) (y : machine.Actor)
+written_same : {V : Type 0} → (c : PrivateCopy V) (f : ℕ) (editions : ℕ → ℕ) (ls : List ℕ) (y : machine.Actor)
     → ((i : ℕ) → Contains ls i → editions (f + i) ≡ known_edition c i)
     → written y editions (shifted f ls) ≡ written_as y (with_next c f ls)
 written_same c f editions [] y known = refl
@@ -73,14 +73,14 @@ written_same c f editions (l ∷ ls) y known =
     (λ i there. known i (tail_in l i ls there))
 
 module _ {V : Type 0} where
-  some_piece : (w : World V) (a k : ℕ) (c : Copied V) (op : Op V) → IsOwn w a k (Some c) → is_known (block_of w.blocks k) op ≡ true
+  some_piece : (w : World V) (a k : ℕ) (c : PrivateCopy V) (op : Op V) → IsOwn w a k (Some c) → is_known (block_of w.blocks k) op ≡ true
       → copies.has_piece c (piece_at w.blocks (call_on k op)) ≡ holds_call c op
   some_piece w a k c op is known =
       let b = is.0 in
       let here : is_known (Some b) op ≡ true = ap (λ (o : Option Block). is_known o op) (sym is.1.block) ∙ known in
       ap (λ (o : Option Block). copies.has_piece c (piece_in o op)) is.1.block ∙ sym (is.1.pieces op here)
 
-  piece_held : (w : World V) (a k : ℕ) (o : Option (Copied V)) (op : Op V) → IsOwn w a k o → is_known (block_of w.blocks k) op ≡ true
+  piece_held : (w : World V) (a k : ℕ) (o : Option (PrivateCopy V)) (op : Op V) → IsOwn w a k o → is_known (block_of w.blocks k) op ≡ true
       → has_piece o (piece_at w.blocks (call_on k op)) ≡ holds_of o op
   piece_held w a k None op is known = refl
   piece_held w a k (Some c) op is known = some_piece w a k c op is known
@@ -94,7 +94,7 @@ module _ {V : Type 0} where
       (piece_held w a k (copy_of r.copies.items k) op (is.own k) known ∙ none)
 
   -- ---- what is held
-  module _ (w : World V) (a : ℕ) (r : TxActor V) (k : ℕ) (c : Copied V) (op : Op V) (o : Outcome V) (f : ℕ) where
+  module _ (w : World V) (a : ℕ) (r : TxActor V) (k : ℕ) (c : PrivateCopy V) (op : Op V) (o : Outcome V) (f : ℕ) where
     pub record Held : Type 0 where
       pub own : IsOwn w a k (Some c)
       pub first : f ≡ first_of w.words w.blocks k
@@ -133,7 +133,7 @@ module _ {V : Type 0} where
         let e : z.0 ≡ i = omega (arith, same) in
         subst (Contains (reads_in c o)) e z.2
 
-    may_accept : Held → (call : running.Answered V) → asked_of call.asked ≡ call_on k op → call.outcome ≡ Some o
+    may_accept : Held → (call : running.CallWithOutcome V) → asked_of call.asked ≡ call_on k op → call.outcome ≡ Some o
         → call.writes.items ≡ with_next c f (writes_in c o)
         → Allows (content w.words w.blocks) w.boosted (Accept a (call_on k op)) → MayAccept w a call
     may_accept h call asks is writes guard =
@@ -142,7 +142,7 @@ module _ {V : Type 0} where
         let own = h.own.1 in
         let y = actor_of w a in
         let editions = (w.boosted.shadows a).editions in
-        let p : Answered V = answered_on k op o in
+        let p : CallWithOutcome V = answered_on k op o in
         let all : answered_of call ≡ p = λ i. record { asked = asks i; outcome = is i } in
         let known : (i : ℕ) → Contains (writes_in c o) i → editions (g + i) ≡ known_edition c i = λ i there.
         held_known w a k b c op o own h.holds h.answer i (writes_read h i there) in
@@ -155,7 +155,7 @@ module _ {V : Type 0} where
               ∙ ap (written_as y) ((λ i. with_next c (sym h.first i) (writes_in c o)) ∙ sym writes)));
         }
 
-    pub may_answer : Held → MayCall w a → (u : Actor) (call : running.Answered V) (es : Entries) → actor_of w a ≡ words.actor_of u
+    pub may_answer : Held → MayCall w a → (u : Actor) (call : running.CallWithOutcome V) (es : Entries) → actor_of w a ≡ words.actor_of u
         → asked_of call.asked ≡ call_on k op → call.outcome ≡ Some o → call.writes.items ≡ with_next c f (writes_in c o)
         → es ≡ with_known c f (reads_in c o) → MayAnswer w a u call.outcome call es
     may_answer h may u call es s asks is writes left =
@@ -172,7 +172,7 @@ module _ {V : Type 0} where
         }
 
     -- what the world makes of the call
-    pub held_comes : Held → (u : Actor) (x : Seat V) (call : running.Answered V) (es : Entries) → actor_of w a ≡ words.actor_of u
+    pub held_comes : Held → (u : Actor) (x : Seat V) (call : running.CallWithOutcome V) (es : Entries) → actor_of w a ≡ words.actor_of u
         → x ≡ seat_of r
         → x.copied k (piece_at w.blocks (call_on k op)) ≡ true
         → asked_of call.asked ≡ call_on k op → call.outcome ≡ Some o → es ≡ with_known c f (reads_in c o)
@@ -236,7 +236,7 @@ module _ {V : Type 0} where
       ∙ ap (λ b. cond (b && true) (calls_on w a (seat_of r) (call_on k op)) (w, Refused a refusal.TooLong)) many
 
   -- ---- the actor
-  pub held_at_place : (cs : List (CopyOf V)) (i k : ℕ) (op : Op V) (c : CopyOf V) → IsPlaceOf cs k (Some i) → slice_get cs i ≡ Some c
+  pub held_at_place : (cs : List (CopyOfCollection V)) (i k : ℕ) (op : Op V) (c : CopyOfCollection V) → IsPositionOf cs k (Some i) → slice_get cs i ≡ Some c
       → holds_call c.copied op ≡ true → IsHeldAt cs i k op
   held_at_place cs i k op c is at holds = record {
     there = is.0;
@@ -247,7 +247,7 @@ module _ {V : Type 0} where
     holds = holds;
   }
 
-  pub not_held_at : (cs : List (CopyOf V)) (i k : ℕ) (op : Op V) (c : CopyOf V) → IsPlaceOf cs k (Some i) → slice_get cs i ≡ Some c
+  pub not_held_at : (cs : List (CopyOfCollection V)) (i k : ℕ) (op : Op V) (c : CopyOfCollection V) → IsPositionOf cs k (Some i) → slice_get cs i ≡ Some c
       → holds_call c.copied op ≡ false → holds_of (copy_of cs k) op ≡ false
   not_held_at cs i k op c is at holds = ap (λ q. holds_of q op) (first_at cs i k c at (sym (is.2 c at)) is.1) ∙ holds
 
@@ -258,23 +258,23 @@ module _ {V : Type 0} where
   may_prepare v r i f k op h can known may within =
       let c = h.copy in
       let b = can.blocks k c.copied h.of in
-      let same : (d : CopyOf V) → slice_get r.copies.items i ≡ Some d → c ≡ d = λ d at. some_copy c d (sym h.at ∙ at) in
+      let same : (d : CopyOfCollection V) → slice_get r.copies.items i ≡ Some d → c ≡ d = λ d at. same_Some c d (sym h.at ∙ at) in
       let some : 0 < stripes_of (base_in c.copied) = subst (λ n. 0 < n) (sym b.stripes) b.some in
-      let places : size b.block ≡ places_in c.copied =
+      let places : size b.block ≡ location_count c.copied =
       (λ j. size (record { kind = sym b.kind j; stripes = sym b.stripes j }))
       ∙ sized (stripes_of (base_in c.copied)) (shown_of (base_in c.copied)) in
       let below = within b.block b.there in
-      let range : f + places_in c.copied ≤ 2 ^ 32 = omega (arith, below, places) in
+      let range : f + location_count c.copied ≤ 2 ^ 32 = omega (arith, below, places) in
       let answers : IsSome (answer_of c.copied op) =
       held_answers b.block c.copied op b.some b.kind (ap (λ (o : Option Block). is_known o op) (sym b.there) ∙ known) h.holds in
       record {
         there = h.there;
         rests = can.rests;
         may = may;
-        stripes = λ d at. subst (λ (z : CopyOf V). 0 < stripes_of (base_in z.copied)) (same d at) some;
-        range = λ d at. subst (λ (z : CopyOf V). f + places_in z.copied ≤ 2 ^ 32) (same d at) range;
-        held = λ d at. subst (λ (z : CopyOf V). holds_call z.copied op ≡ true) (same d at) h.holds;
-        known = λ d at. subst (λ (z : CopyOf V). IsSome (answer_of z.copied op)) (same d at) answers;
+        stripes = λ d at. subst (λ (z : CopyOfCollection V). 0 < stripes_of (base_in z.copied)) (same d at) some;
+        range = λ d at. subst (λ (z : CopyOfCollection V). f + location_count z.copied ≤ 2 ^ 32) (same d at) range;
+        held = λ d at. subst (λ (z : CopyOfCollection V). holds_call z.copied op ≡ true) (same d at) h.holds;
+        known = λ d at. subst (λ (z : CopyOfCollection V). IsSome (answer_of z.copied op)) (same d at) answers;
       }
 
   pub piece_there : (v : BlocksView) (w : World V) (a : ℕ) (r : TxActor V) (i k : ℕ) (op : Op V) → OwnsCopies r w a
@@ -304,11 +304,11 @@ module _ {V : Type 0} where
         answer = answer;
       }
 
-  abbrev pub Answers : ℕ → TxActor V → Told V → After V → Type 0
+  abbrev pub Answers : ℕ → TxActor V → ActorNotice V → After V → Type 0
   Answers a n t z = Runs a n z.0 × (notice_of a t ≡ z.1) × OwnsCopies n z.0 a
 
   -- it continues
-  pub held_goes_on : (v : BlocksView) (r u n : TxActor V) (t : Told V) (i f k : ℕ) (op : Op V) (h : IsHeldAt r.copies.items i k op)
+  pub held_goes_on : (v : BlocksView) (r u n : TxActor V) (t : ActorNotice V) (i f k : ℕ) (op : Op V) (h : IsHeldAt r.copies.items i k op)
       (p : Prepared V) → is_recorded r.stage ≡ false → f ≡ first_of v.words v.blocks k → is_known (block_of v.blocks k) op ≡ true
       → may_ask (words.actor_of r.words) op ≡ true → IsAlike r u → IsReadyCall r u i f op h.copy p
       → ((a : ℕ) (w : World V) (x : Option (Outcome V)) → actor_of w a ≡ words.actor_of u.words
@@ -373,6 +373,6 @@ module _ {V : Type 0} where
       → AsksOwn v r r (told.Refused cause) f
   refused_as v r cause f is a w laid s own call = subst (Answers a r (told.Refused cause)) (sym (is a w laid s.1)) (s, refl, own)
 
-  pub asked_as : (v : BlocksView) (r n : TxActor V) (t : Told V) (f g : ℕ → World V → After V)
+  pub asked_as : (v : BlocksView) (r n : TxActor V) (t : ActorNotice V) (f g : ℕ → World V → After V)
       → ((a : ℕ) (w : World V) → IsLaid v w → actor_of w a ≡ words.actor_of r.words → g a w ≡ f a w) → AsksOwn v r n t f → AsksOwn v r n t g
   asked_as v r n t f g is asked a w laid s own call = subst (Answers a n t) (sym (is a w laid s.1)) (asked a w laid s own call)

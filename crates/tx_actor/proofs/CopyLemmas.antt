@@ -25,24 +25,24 @@ use Rattle.actor_parts.specs.Blocks.{BlocksView, IsLaid}
 use Rattle.actor_parts.specs.Dispatch.{IsDue, is_loading, next_of}
 use Rattle.actor_parts.specs.Requests.{HasNoReads}
 use Rattle.actor_parts.specs.declared.next.Next.TheVariants as next
-use Rattle.actor_parts.specs.declared.copies.Copied.{Copied}
-use Rattle.actor_parts.specs.declared.copies.Found.{Found}
-use Rattle.actor_parts.specs.Copied.{CopiesFor, CopiesGoOn, CopiesReached, IsCopyFor, IsReadOf, IsTaken}
-use Rattle.actor_parts.specs.Copies.{IsFound, holds_of}
-use Rattle.actor_parts.specs.Kept.{copy_of}
+use Rattle.actor_parts.specs.declared.copies.PrivateCopy.{PrivateCopy}
+use Rattle.actor_parts.specs.declared.copies.BaseExcerpt.{BaseExcerpt}
+use Rattle.actor_parts.specs.CopyAtGate.{CopiesFor, CopiesGoOn, CopiesReached, IsCopyFor, IsReadOf, IsTaken}
+use Rattle.actor_parts.specs.PrivateCopy.{IsFound, holds_of}
+use Rattle.actor_parts.specs.CopyList.{copy_of}
 use Rattle.actor_parts.specs.Owns.{IsOwn}
 use Rattle.actor_parts.specs.Sizes.{SizesAs, SizesCopies}
 use Rattle.tx_actor.specs.Copying.{CanCopy, CanCopyAt, HasTaken, HasTakenAt, MayCopy, StepsOnAt}
 use Rattle.tx_actor.specs.Dispatch.{HasRoom}
-use Rattle.tx_actor.specs.Having.{HasCopies, HasCopiesAt, OwnsAll}
-use Rattle.tx_actor.specs.Keeping.{IsRunning, NamesAmong}
+use Rattle.tx_actor.specs.CopiesByStage.{HasCopies, HasCopiesAt, OwnsAll}
+use Rattle.tx_actor.specs.ActorBounds.{IsRunning, NamesAmong}
 use Rattle.tx_actor.specs.Running.{Runs, asked_of, at, is_recorded, notice_of, seat_of, stage_of}
-use Rattle.tx_actor.specs.Staying.{CopiesStayOwn}
+use Rattle.tx_actor.specs.CopiesAfterStep.{CopiesStayOwn}
 use Rattle.tx_actor.specs.Taking.{StarvesBehindAt}
-use Rattle.tx_actor.specs.declared.actor.Asked.{Asked}
+use Rattle.tx_actor.specs.declared.actor.CollectionCall.{CollectionCall}
 use Rattle.tx_actor.specs.declared.actor.Stage as own
 use Rattle.tx_actor.specs.declared.actor.Stage.TheVariants as stage
-use Rattle.tx_actor.specs.declared.actor.Told.{Told}
+use Rattle.tx_actor.specs.declared.actor.ActorNotice.{ActorNotice}
 use Rattle.tx_actor.specs.declared.actor.TxActor.{TxActor}
 use Rattle.tx_actor.specs.Reached.{IsReached}
 use Rattle.tx_actor.proofs.OwnLemmas.{BlocksLaw, rests_at}
@@ -56,7 +56,7 @@ block_here (b ∷ bs) zero low = (b, refl)
 block_here (b ∷ bs) (suc k) low = block_here bs k (omega (arith, low))
 
 module _ {V : Type 0} where
-  pub copy_is : (s : Stage V) (k : ℕ) → next_of s ≡ next.Copy k → (asked : contents.Asked V) × (s ≡ Copying asked) × (asked.collection ≡ k)
+  pub copy_is : (s : Stage V) (k : ℕ) → next_of s ≡ next.Copy k → (asked : contents.CollectionCall V) × (s ≡ Copying asked) × (asked.collection ≡ k)
   copy_is (Copying asked) k e = (asked, refl, cc)
   copy_is (Loading o []) k e = let z : ⊥ = cc in absurd z
   copy_is (Loading o (d ∷ es)) k e = let z : ⊥ = cc in absurd z
@@ -80,8 +80,8 @@ module _ {V : Type 0} where
   copy_is (Storing ks) k e = let z : ⊥ = cc in absurd z
 
   -- ---- the stage
-  own_copying : (t : own.Stage V) (asked : contents.Asked V) → stage_of t ≡ worlds.Copying asked
-      → (own : Asked V) × (t ≡ stage.Copying own) × (asked_of own ≡ asked)
+  own_copying : (t : own.Stage V) (asked : contents.CollectionCall V) → stage_of t ≡ worlds.Copying asked
+      → (own : CollectionCall V) × (t ≡ stage.Copying own) × (asked_of own ≡ asked)
   own_copying (stage.Copying own) asked e = let same : asked_of own ≡ asked = cc in (own, refl, same)
   own_copying stage.Idle asked e = let z : ⊥ = cc in absurd z
   own_copying stage.Beginning asked e = let z : ⊥ = cc in absurd z
@@ -102,27 +102,27 @@ module _ {V : Type 0} where
   own_copying (stage.ReturningOne j) asked e = let z : ⊥ = cc in absurd z
 
   pub copying_is : (t : own.Stage V) (k : ℕ) → next_of (stage_of t) ≡ next.Copy k
-      → (asked : Asked V) × (t ≡ stage.Copying asked) × (asked.collection ≡ k)
+      → (asked : CollectionCall V) × (t ≡ stage.Copying asked) × (asked.collection ≡ k)
   copying_is t k e =
       let s = copy_is (stage_of t) k e in
       let o = own_copying t s.0 s.1 in
-      (o.0, o.1, ap (λ (q : contents.Asked V). q.collection) o.2 ∙ s.2)
+      (o.0, o.1, ap (λ (q : contents.CollectionCall V). q.collection) o.2 ∙ s.2)
 
   pub quiet_copy : (t : own.Stage V) (k : ℕ) → next_of (stage_of t) ≡ next.Copy k → is_loading (stage_of t) ≡ false
   quiet_copy t k e = let c = copying_is t k e in ap (λ (q : own.Stage V). is_loading (stage_of q)) c.1
 
-  pub due_copy : (a k : ℕ) (o : Option (Action (contents.Asked V))) → IsDue a (next.Copy k) o → (which : ℕ → Bool)
+  pub due_copy : (a k : ℕ) (o : Option (Action (contents.CollectionCall V))) → IsDue a (next.Copy k) o → (which : ℕ → Bool)
       × (o ≡ Some (PutGate a k which))
   due_copy a k None h = absurd h
   due_copy a k (Some e) h = (h.0, ap Some h.1)
 
-  stands_copying : (w : World V) (a : ℕ) (r : TxActor V) (asked : Asked V) → Runs a r w → r.stage ≡ stage.Copying asked
+  stands_copying : (w : World V) (a : ℕ) (r : TxActor V) (asked : CollectionCall V) → Runs a r w → r.stage ≡ stage.Copying asked
       → (w.seats a).stage ≡ worlds.Copying (asked_of asked)
   stands_copying w a r asked runs st =
       stage_by (w.seats a) r (ap (λ (q : own.Stage V). is_loading (stage_of q)) st) runs.0
       ∙ ap (λ (q : own.Stage V). stage_of q) st
 
-  goes_in : CopiesReached V → (o : Contents V) (w : World V) (a : ℕ) (asked : Asked V) → IsReached o w
+  goes_in : CopiesReached V → (o : Contents V) (w : World V) (a : ℕ) (asked : CollectionCall V) → IsReached o w
       → (w.seats a).stage ≡ worlds.Copying (asked_of asked) → CopiesGoOn w a (asked_of asked)
   goes_in on o w a asked h =
       subst (λ (z : World V). (z.seats a).stage ≡ worlds.Copying (asked_of asked) → CopiesGoOn z a (asked_of asked)) h.world
@@ -142,7 +142,7 @@ module _ {V : Type 0} where
 
   -- ---- what is taken, in a world that events have reached
   module _ (taken : CopiesFor V) (on : CopiesReached V) (sized : SizesCopies V) (v : BlocksView) (o : Contents V) (w : World V) (a : ℕ)
-      (r : TxActor V) (base : Base V) (asked : Asked V) (h : IsReached o w) (laid : IsLaid v w) (running : IsRunning v r)
+      (r : TxActor V) (base : Base V) (asked : CollectionCall V) (h : IsReached o w) (laid : IsLaid v w) (running : IsRunning v r)
       (runs : Runs a r w)
       (copies : HasCopies r w a) (st : r.stage ≡ stage.Copying asked) (is : IsBaseIn v w asked.collection base) where
     abbrev k : ℕ
@@ -163,7 +163,7 @@ module _ {V : Type 0} where
     in_world : (b : Block) → block_of v.blocks k ≡ Some b → block_of w.blocks k ≡ Some b
     in_world b e = ap (λ (bs : List Block). block_of bs k) laid.1 ∙ e
 
-    copy_for : (b : Block) (x : Found V) (d : Copied V) → block_of v.blocks k ≡ Some b → IsFound base asked.op x
+    copy_for : (b : Block) (x : BaseExcerpt V) (d : PrivateCopy V) → block_of v.blocks k ≡ Some b → IsFound base asked.op x
         → IsTaken b.stripes x (copy_of r.copies.items k) d → IsCopyFor w a b (asked_of asked) d
     copy_for b x d e found took =
         let c = copy_of r.copies.items k in
@@ -225,7 +225,7 @@ module _ {V : Type 0} where
   -- ---- the turn
   pub copy_runs : CopiesFor V → CopiesReached V → SizesCopies V
       → (v : BlocksView) (o : Contents V) (w : World V) (a k : ℕ) (r s : TxActor V)
-      (n : Told V) (base : Base V) → next_of (stage_of r.stage) ≡ next.Copy k → IsRunning v r → StepsOnAt v r s n base r.stage
+      (n : ActorNotice V) (base : Base V) → next_of (stage_of r.stage) ≡ next.Copy k → IsRunning v r → StepsOnAt v r s n base r.stage
       → IsReached o w → IsLaid v w → Runs a r w → HasCopies r w a → IsBaseIn v w k base
       → Runs a s (happens w (Step a)).0 × (notice_of a n ≡ (happens w (Step a)).1)
   copy_runs taken on sized v o w a k r s n base due running does reached laid runs copies is =
@@ -265,8 +265,8 @@ module _ {V : Type 0} where
       × ((happens f.0 (Starve a)).1 ≡ Quiet)) (sym e) after
 
   -- ---- what the actor has of collections then
-  own_in : CopiesStayOwn V → (v : BlocksView) (o : Contents V) (w : World V) (a : ℕ) (r s : TxActor V) (n : Told V) (base : Base V)
-      (asked : Asked V) → IsReached o w → r.stage ≡ stage.Copying asked → IsLaid v w → Runs a r w → CanCopy v r base asked
+  own_in : CopiesStayOwn V → (v : BlocksView) (o : Contents V) (w : World V) (a : ℕ) (r s : TxActor V) (n : ActorNotice V) (base : Base V)
+      (asked : CollectionCall V) → IsReached o w → r.stage ≡ stage.Copying asked → IsLaid v w → Runs a r w → CanCopy v r base asked
       → ShowsBase w.words w.blocks w asked.collection base → OwnsAll r w a → MayCopy v w a r base asked
       → HasTaken v (at r stage.Idle) s n base asked → Runs a s (happens w (Step a)).0 → notice_of a n ≡ (happens w (Step a)).1
       → HasCopies s (happens w (Step a)).0 a
@@ -278,7 +278,7 @@ module _ {V : Type 0} where
       (law h.blocks h.clock o.words o.held h.events a v r s n base asked h.stripes)
 
   pub copy_keeps : CopiesStayOwn V → CopiesFor V → CopiesReached V → SizesCopies V → BlocksLaw V → (v : BlocksView) (o : Contents V)
-      (w : World V) (a k : ℕ) (r s : TxActor V) (n : Told V) (base : Base V) → next_of (stage_of r.stage) ≡ next.Copy k → IsRunning v r
+      (w : World V) (a k : ℕ) (r s : TxActor V) (n : ActorNotice V) (base : Base V) → next_of (stage_of r.stage) ≡ next.Copy k → IsRunning v r
       → HasTakenAt v r s n base r.stage → IsReached o w → IsLaid v w → Runs a r w → HasCopies r w a → IsBaseIn v w k base
       → Runs a s (happens w (Step a)).0 → notice_of a n ≡ (happens w (Step a)).1 → HasCopies s (happens w (Step a)).0 a
   copy_keeps law taken on sized of v o w a k r s n base due running got reached laid runs copies is =

@@ -15,12 +15,12 @@ use Rattle.actor_parts.specs.declared.notice.WordNotice.TheVariants.{Invalid, Ex
 use Rattle.std.specs.declared.alloc.Global.{Global}
 use Rattle.std.specs.declared.collections.VecDeque.{VecDeque}
 use Rattle.step_core.specs.Shown as words
-use Rattle.tx_actor.specs.declared.actor.Asked.{Asked}
-use Rattle.tx_actor.specs.declared.actor.Answered.{Answered}
+use Rattle.tx_actor.specs.declared.actor.CollectionCall.{CollectionCall}
+use Rattle.tx_actor.specs.declared.actor.CallWithOutcome.{CallWithOutcome}
 use Rattle.tx_actor.specs.declared.actor.Stage.{Stage}
 use Rattle.tx_actor.specs.declared.actor.Stage.TheVariants as stage
-use Rattle.tx_actor.specs.declared.actor.Told.{Told}
-use Rattle.tx_actor.specs.declared.actor.Told.TheVariants as told
+use Rattle.tx_actor.specs.declared.actor.ActorNotice.{ActorNotice}
+use Rattle.tx_actor.specs.declared.actor.ActorNotice.TheVariants as told
 use Rattle.tx_actor.specs.declared.actor.TxActor.{TxActor}
 use Rattle.tx_actor.specs.Dispatch.{IsGoneHome, IsToldWord, Records, waits_at}
 use Rattle.actor_parts.specs.Dispatch.{MayGoOn, MayRelease, after_home, after_put, after_try, after_word, shown_notice}
@@ -30,26 +30,26 @@ use Rattle.tx_actor.proofs.RunsLemmas.{seat_numbers}
 
 module _ {V : Type 0} where
   -- what comes of it is the same
-  pub by_result : (u : TxActor V) (t : Told V) (a : ℕ) (p q : After V) → p ≡ q → Runs a u q.0 × (notice_of a t ≡ q.1)
+  pub by_result : (u : TxActor V) (t : ActorNotice V) (a : ℕ) (p q : After V) → p ≡ q → Runs a u q.0 × (notice_of a t ≡ q.1)
       → Runs a u p.0 × (notice_of a t ≡ p.1)
   by_result u t a p q e h = subst (λ (z : After V). Runs a u z.0 × (notice_of a t ≡ z.1)) (sym e) h
 
   -- nothing comes of it, and the actor is as it was
-  pub stays_as : (r u : TxActor V) (t : Told V) (a : ℕ) (w : World V) (p : After V) → u ≡ r → t ≡ told.Quiet → p ≡ (w, Quiet)
+  pub stays_as : (r u : TxActor V) (t : ActorNotice V) (a : ℕ) (w : World V) (p : After V) → u ≡ r → t ≡ told.Quiet → p ≡ (w, Quiet)
       → Runs a r w → Runs a u p.0 × (notice_of a t ≡ p.1)
   stays_as r u t a w p same quiet e s =
       by_result u t a p (w, Quiet) e (subst (λ (z : TxActor V). Runs a z w) (sym same) s, ap (notice_of a) quiet)
 
-  pub word_stays : (r u : TxActor V) (t : Told V) (n : notice.Notice) → u ≡ r → t ≡ told.Quiet
+  pub word_stays : (r u : TxActor V) (t : ActorNotice V) (n : notice.Notice) → u ≡ r → t ≡ told.Quiet
       → ((a : ℕ) (w : World V) → after_word w a (seat_at (w.seats a) r) (stage_of r.stage) n ≡ (w, Quiet)) → IsToldWord r u t n
   word_stays r u t n same quiet e a w m s = stays_as r u t a w _ same quiet (e a w) s
 
-  pub does_stays : (f : World V → ℕ → Seat V → worlds.Stage V → After V) (r u : TxActor V) (t : Told V) → u ≡ r → t ≡ told.Quiet
+  pub does_stays : (f : World V → ℕ → Seat V → worlds.Stage V → After V) (r u : TxActor V) (t : ActorNotice V) → u ≡ r → t ≡ told.Quiet
       → ((a : ℕ) (w : World V) → f w a (seat_of r) (stage_of r.stage) ≡ (w, Quiet))
       → Does r u t (λ a w. f w a (seat_of r) (stage_of r.stage))
   does_stays f r u t same quiet e a w s = stays_as r u t a w _ same quiet (e a w) s
 
-  pub home_stays : (r u : TxActor V) (t : Told V) → u ≡ r → t ≡ told.Quiet
+  pub home_stays : (r u : TxActor V) (t : ActorNotice V) → u ≡ r → t ≡ told.Quiet
       → ((a : ℕ) (w : World V) → after_home w a (seat_at (w.seats a) r) (stage_of r.stage) ≡ (w, Quiet)) → IsGoneHome r u t
   home_stays r u t same quiet e a w m s = stays_as r u t a w _ same quiet (e a w) s
 
@@ -67,31 +67,31 @@ module _ {V : Type 0} where
   tried_at w a x s false k got again next zero = give_up_at w a (because x (refusal.GateBusy k)) s got
 
   -- the bases are put back, where the locks may be released
-  abbrev pub GoesHome : TxActor V → TxActor V → Told V → List ℕ → Type 0
+  abbrev pub GoesHome : TxActor V → TxActor V → ActorNotice V → List ℕ → Type 0
   GoesHome r u t ks = (a : ℕ) (w : World V) (x : Seat V) → IsSeatOf x r → MayRelease a w ks
       → worlds.actor_of w a ≡ words.actor_of r.words
       → Runs a u (goes_home w a x ks).0 × (notice_of a t ≡ (goes_home w a x ks).1)
 
   -- what was answered is what was heard
-  pub heard_as : (r u : TxActor V) (t : Told V) (h k : WordNotice) → h ≡ k → IsToldWord r u t (shown_notice k)
+  pub heard_as : (r u : TxActor V) (t : ActorNotice V) (h k : WordNotice) → h ≡ k → IsToldWord r u t (shown_notice k)
       → IsToldWord r u t (shown_notice h)
   heard_as r u t h k e p = subst (λ (q : WordNotice). IsToldWord r u t (shown_notice q)) (sym e) p
 
-  pub told_as : (r u : TxActor V) (t : Told V) (n m : notice.Notice) → n ≡ m → IsToldWord r u t n → IsToldWord r u t m
+  pub told_as : (r u : TxActor V) (t : ActorNotice V) (n m : notice.Notice) → n ≡ m → IsToldWord r u t n → IsToldWord r u t m
   told_as r u t n m e p = subst (λ (q : notice.Notice). IsToldWord r u t q) e p
 
   -- r is at the stage s
-  pub word_at_stage : (r u : TxActor V) (t : Told V) (n : notice.Notice) (s : Stage V) → r.stage ≡ s → IsToldWord (at r s) u t n
+  pub word_at_stage : (r u : TxActor V) (t : ActorNotice V) (n : notice.Notice) (s : Stage V) → r.stage ≡ s → IsToldWord (at r s) u t n
       → IsToldWord r u t n
   word_at_stage r u t n s e p = subst (λ (z : Stage V). IsToldWord (at r z) u t n) (sym e) p
 
-  pub does_at_stage : (f : World V → ℕ → Seat V → worlds.Stage V → After V) (r u : TxActor V) (t : Told V) (s : Stage V)
+  pub does_at_stage : (f : World V → ℕ → Seat V → worlds.Stage V → After V) (r u : TxActor V) (t : ActorNotice V) (s : Stage V)
       → r.stage ≡ s
       → Does (at r s) u t (λ a w. f w a (seat_of (at r s)) (stage_of s))
       → Does r u t (λ a w. f w a (seat_of r) (stage_of r.stage))
   does_at_stage f r u t s e p = subst (λ (z : Stage V). Does (at r z) u t (λ a w. f w a (seat_of (at r z)) (stage_of z))) (sym e) p
 
-  pub home_at_stage : (r u : TxActor V) (t : Told V) (s : Stage V) → r.stage ≡ s → IsGoneHome (at r s) u t → IsGoneHome r u t
+  pub home_at_stage : (r u : TxActor V) (t : ActorNotice V) (s : Stage V) → r.stage ≡ s → IsGoneHome (at r s) u t → IsGoneHome r u t
   home_at_stage r u t s e p = subst (λ (z : Stage V). IsGoneHome (at r z) u t) (sym e) p
 
   -- nothing was answered, and nothing comes of it
@@ -102,7 +102,7 @@ module _ {V : Type 0} where
   waits_on w a x stage.Cancelling waits = refl
   waits_on w a x s waits = absurd (true≢false (sym waits))
 
-  pub word_waits : (r u : TxActor V) (t : Told V) (n : notice.Notice) → n ≡ notice.Quiet → waits_at r.stage ≡ true → u ≡ r
+  pub word_waits : (r u : TxActor V) (t : ActorNotice V) (n : notice.Notice) → n ≡ notice.Quiet → waits_at r.stage ≡ true → u ≡ r
       → t ≡ told.Quiet → IsToldWord r u t n
   word_waits r u t n nothing waits same quiet =
       told_as r u t notice.Quiet n (sym nothing)
@@ -161,7 +161,7 @@ module _ {V : Type 0} where
   word_else w a x other n b r l s re c ca le rd = refl
 
   pub try_else : (w : World V) (a : ℕ) (x : Seat V) (s : Stage V) (free : Bool)
-      → ((o : Asked V) (n : ℕ) → s ≡ stage.Trying o n → ⊥) → ((ks : VecDeque ℕ Global) (i n : ℕ) → s ≡ stage.Gating ks i n → ⊥)
+      → ((o : CollectionCall V) (n : ℕ) → s ≡ stage.Trying o n → ⊥) → ((ks : VecDeque ℕ Global) (i n : ℕ) → s ≡ stage.Gating ks i n → ⊥)
       → after_try w a x (stage_of s) free ≡ (w, Quiet)
   try_else w a x (stage.Trying o n) free t g = absurd (t o n refl)
   try_else w a x (stage.Gating ks i n) free t g = absurd (g ks i n refl)
@@ -215,7 +215,7 @@ module _ {V : Type 0} where
   may_go a w [] len m = absurd (true≢false len)
   may_go a w (k ∷ ks) len m = m
 
-  pub homes_as : (r u : TxActor V) (t : Told V) (homes : VecDeque ℕ Global) (left : List ℕ) → r.stage ≡ stage.Homing homes
+  pub homes_as : (r u : TxActor V) (t : ActorNotice V) (homes : VecDeque ℕ Global) (left : List ℕ) → r.stage ≡ stage.Homing homes
       → eqb (length homes.items) 0 ≡ false → left ≡ drop 1 homes.items → GoesHome r u t left → IsGoneHome r u t
   homes_as r u t homes left at_home some e h a w m s =
       let x = seat_at (w.seats a) r in
@@ -229,8 +229,8 @@ module _ {V : Type 0} where
 
   pub starve_else : (w : World V) (a : ℕ) (x : Seat V) (s : Stage V)
       → (s ≡ stage.Idle → ⊥) → (s ≡ stage.Open → ⊥) → (s ≡ stage.Beginning → ⊥) → ((l : ℕ) → s ≡ stage.Reading l → ⊥)
-      → ((o : Asked V) (n : ℕ) → s ≡ stage.Trying o n → ⊥) → ((o : Asked V) → s ≡ stage.Copying o → ⊥)
-      → ((o : Answered V) (left : VecDeque (ℕ × ℕ) Global) → s ≡ stage.Loading o left → ⊥)
+      → ((o : CollectionCall V) (n : ℕ) → s ≡ stage.Trying o n → ⊥) → ((o : CollectionCall V) → s ≡ stage.Copying o → ⊥)
+      → ((o : CallWithOutcome V) (left : VecDeque (ℕ × ℕ) Global) → s ≡ stage.Loading o left → ⊥)
       → ((ks : VecDeque ℕ Global) → s ≡ stage.Locking ks → ⊥)
       → ((ks : VecDeque ℕ Global) (i n : ℕ) → s ≡ stage.Gating ks i n → ⊥)
       → ((ks : VecDeque ℕ Global) → s ≡ stage.Ready ks → ⊥) → (s ≡ stage.Closing → ⊥)

@@ -16,7 +16,7 @@ use Rattle.tx_machine.specs.Boosted.{Accept, GoHome, PutGate, TakeGate, is_none}
 use Rattle.seq_model.specs.declared.event.Event.TheVariants.{Starve, Step}
 use Rattle.seq_model.specs.declared.event.Notice.TheVariants.{Refused}
 use Rattle.replay_log.specs.Pieces.{covers_at, piece_at}
-use Rattle.replay_log.specs.Contents.{Answered, Asked, content}
+use Rattle.replay_log.specs.Contents.{CallWithOutcome, CollectionCall, content}
 use Rattle.replay_log.specs.Worlds.{World, Seat, Stage, After, Beginning, Open, Locking, Releasing, Closing, Cancelling, Leaving, Reading}
 use Rattle.replay_log.specs.Worlds.{Trying, Copying, Loading, Gating, Ready, Storing, Homing, Returning, acted, asks, at_stage, because}
 use Rattle.replay_log.specs.Worlds.{actor_of, cancels, gives_up, goes_home, has_copied, has_room, has_stored, has_tried, is_fresh}
@@ -26,7 +26,7 @@ use Rattle.replay_log.specs.Worlds.{call_of, reply_of, takes_gates, with_call, w
 use Rattle.replay_log.proofs.SeatLemmas.{gates_of}
 use Rattle.actor_parts.specs.Dispatch.{AreSteps, after_home, after_put, after_try, after_word, is_loading, next_of}
 use Rattle.actor_parts.specs.declared.next.Next.TheVariants as next
-use Rattle.tx_actor.specs.Loads.{after_load}
+use Rattle.tx_actor.specs.LoadStep.{after_load}
 use Rattle.tx_actor.specs.Seated.{SeatsActors}
 use Rattle.tx_actor.specs.Running.{Runs, is_recorded, seat_of, stage_in, stage_of}
 use Rattle.tx_actor.specs.declared.actor.Stage as own
@@ -36,7 +36,7 @@ use Rattle.tx_actor.proofs.CopyLemmas.{copy_is}
 use Rattle.tx_actor.proofs.LoadStepLemmas.{load_is}
 use Rattle.tx_actor.proofs.StepLemmas.{first_is}
 use Rattle.tx_machine.specs.Cells.{Cell}
-use Rattle.actor_laws.specs.Spots.{Gate, spot_of}
+use Rattle.actor_laws.specs.StepTargets.{Gate, spot_of}
 
 -- a location of the words is no gate
 pub no_word : (c : Option Cell) (k : ℕ) → spot_of c ≡ Gate k → ⊥
@@ -112,12 +112,12 @@ module _ {V : Type 0} where
       cond_both {A = After V} (d.1 == v) f (gives_up w a (because x (refusal.Stale d.0 d.1 v)) []) (λ (p : After V). gates_in p.0 a ≡ [])
       (λ _. h) (λ _. up_gates w a (because x (refusal.Stale d.0 d.1 v)) [])
 
-  judged_gates : (w : World V) (a : ℕ) (x : Seat V) (o : Answered V) (d : ℕ × ℕ) (es : Entries) (f : After V) (v : Option ℕ)
+  judged_gates : (w : World V) (a : ℕ) (x : Seat V) (o : CallWithOutcome V) (d : ℕ × ℕ) (es : Entries) (f : After V) (v : Option ℕ)
       → gates_in f.0 a ≡ [] → gates_in (judges w a x o d es f v).0 a ≡ []
   judged_gates w a x o d es f None h = seated_gates (acted w (asks a (word.AskRead d.0) ∷ [])) a (at_stage x (Loading o (d ∷ es)))
   judged_gates w a x o d es f (Some v) h = fresh_gates w a x d v f h
 
-  loaded_gates : (w : World V) (a : ℕ) (x : Seat V) (o : Answered V) (es : Entries) → gates_in (loads w a x o es).0 a ≡ []
+  loaded_gates : (w : World V) (a : ℕ) (x : Seat V) (o : CallWithOutcome V) (es : Entries) → gates_in (loads w a x o es).0 a ≡ []
   loaded_gates w a x o [] = seated_gates (acted w (Accept a o.asked ∷ [])) a (with_call x (call_of o) (reply_of o))
   loaded_gates w a x o (d ∷ es) =
       judged_gates w a x o d es (loads w a x o es) (lookup (actor_of w a).reads d.0) (loaded_gates w a x o es)
@@ -187,7 +187,7 @@ module _ {V : Type 0} where
   went_gates w a x s k e = let z : ⊥ = cc in absurd z
 
   -- a call has been copied
-  pub copied_gates : (w : World V) (a : ℕ) (x : Seat V) (asked : Asked V) → gates_in (has_copied w a x asked).0 a ≡ []
+  pub copied_gates : (w : World V) (a : ℕ) (x : Seat V) (asked : CollectionCall V) → gates_in (has_copied w a x asked).0 a ≡ []
   copied_gates w a x asked =
       let c = content w.words w.blocks in
       let o = outcome_at w a asked in

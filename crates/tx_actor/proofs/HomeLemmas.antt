@@ -19,7 +19,7 @@ use Rattle.tx_machine.specs.Boosted.{Boosted, Action, GoHome, homed}
 use Rattle.replay_log.specs.declared.base.Base.{Base}
 use Rattle.replay_log.specs.Base.{Shown, editions_of, locations_of, shown_of, stripes_of}
 use Rattle.replay_log.specs.Collections.{Suit}
-use Rattle.replay_log.specs.Contents.{Answered, Asked, Block, HaveStripes, block_of, content}
+use Rattle.replay_log.specs.Contents.{CallWithOutcome, CollectionCall, Block, HaveStripes, block_of, content}
 use Rattle.replay_log.specs.WorldProgress.{whose}
 use Rattle.replay_log.specs.Worlds.{World, Seat, Stage, After, Homing, Idle, Beginning, Open, Locking, Releasing, Closing, Cancelling}
 use Rattle.replay_log.specs.Worlds.{Leaving, Reading, Trying, Copying, Loading, Gating, Ready, Storing, Returning, acted, happens, opened}
@@ -32,16 +32,16 @@ use Rattle.tx_actor.specs.Asks.{Stands}
 use Rattle.actor_parts.specs.Dispatch.{AreSteps, IsDue, MayGoOn, after_home, is_loading, next_of}
 use Rattle.tx_actor.specs.Dispatch.{IsGoneHome}
 use Rattle.actor_parts.specs.Guarded.{committed_at}
-use Rattle.actor_parts.specs.Keeps.{IsOwnCopy}
+use Rattle.actor_parts.specs.CopyInWorld.{IsOwnCopy}
 use Rattle.actor_parts.specs.Logs.{changes_had, locations_had}
-use Rattle.actor_parts.specs.Copies.{changes_in, locations_in}
+use Rattle.actor_parts.specs.PrivateCopy.{changes_in, locations_in}
 use Rattle.actor_parts.specs.Owns.{IsOwn}
 use Rattle.tx_actor.specs.Running.{Runs, is_recorded, seat_at, stage_of}
 use Rattle.tx_actor.specs.declared.actor.Stage as own
 use Rattle.tx_actor.specs.declared.actor.Stage.TheVariants as stage
-use Rattle.tx_actor.specs.declared.actor.Told.{Told}
+use Rattle.tx_actor.specs.declared.actor.ActorNotice.{ActorNotice}
 use Rattle.tx_actor.specs.declared.actor.TxActor.{TxActor}
-use Rattle.actor_parts.specs.declared.copies.Copied.{Copied}
+use Rattle.actor_parts.specs.declared.copies.PrivateCopy.{PrivateCopy}
 use Rattle.actor_parts.specs.declared.next.Next.TheVariants as next
 use Rattle.tx_actor.specs.Running.{notice_of}
 use Rattle.tx_actor.specs.Reached.{IsReached}
@@ -50,18 +50,18 @@ use Rattle.tx_actor.proofs.StepLemmas.{GoesOn, due_as, reached_goes_on, runs_mov
 
 -- ---- the laws on what a commit hands back
 abbrev pub Logs : Type 0 → Type 0
-Logs V = (w : World V) (a k : ℕ) (b : Block) (f : ℕ) (c : Copied V) → IsOwnCopy w a k b f c →
+Logs V = (w : World V) (a k : ℕ) (b : Block) (f : ℕ) (c : PrivateCopy V) → IsOwnCopy w a k b f c →
     let outcomes = (w.boosted.shadows a).outcomes in
     (changes_in c ≡ log_changes k b outcomes) × (locations_in c ≡ log_locations k b outcomes)
 
 abbrev pub Within : Type 0 → Type 0
-Within V = (k : ℕ) (b : Block) (outcomes : List (Answered V)) (base : Base V) → 0 < b.stripes → IsBaseOf b base
+Within V = (k : ℕ) (b : Block) (outcomes : List (CallWithOutcome V)) (base : Base V) → 0 < b.stripes → IsBaseOf b base
     → All (λ i. i < locations_of (stripes_of base) (shown_of base)) (log_locations k b outcomes)
 
 abbrev pub FewEditions : Type 0 → Type 0
 FewEditions V =
     (blocks : List Block) (clock : ℕ) (values : List ℕ) (held : List (Held V)) (events : List (Event V)) (k : ℕ) (b : Block)
-    (outcomes : List (Answered V)) (base : Base V) → HaveStripes blocks → Suit blocks held → block_of blocks k ≡ Some b →
+    (outcomes : List (CallWithOutcome V)) (base : Base V) → HaveStripes blocks → Suit blocks held → block_of blocks k ≡ Some b →
     let w = run (opened blocks clock values held) events in
     ShowsBase (length values) blocks w k base
     → All (λ i. slice_index (editions_of base) i ≤ w.boosted.words.clock) (log_locations k b outcomes)
@@ -84,12 +84,12 @@ module _ {V : Type 0} where
       ap (λ (z : World V). z.blocks) (sym h.world) ∙ (shape_runs h.events (opened h.blocks h.clock o.words o.held)).1
 
   -- ---- the log of what is an actor's own is that of its calls
-  abbrev pub IsLogOf : World V → (a k : ℕ) → Block → Option (Copied V) → Type 0
+  abbrev pub IsLogOf : World V → (a k : ℕ) → Block → Option (PrivateCopy V) → Type 0
   IsLogOf w a k b c =
       (changes_had c ≡ log_changes k b (w.boosted.shadows a).outcomes)
       × (locations_had c ≡ log_locations k b (w.boosted.shadows a).outcomes)
 
-  pub own_log : Logs V → (w : World V) (a k : ℕ) (c : Option (Copied V)) → IsOwn w a k c → (b : Block) → block_of w.blocks k ≡ Some b
+  pub own_log : Logs V → (w : World V) (a k : ℕ) (c : Option (PrivateCopy V)) → IsOwn w a k c → (b : Block) → block_of w.blocks k ≡ Some b
       → IsLogOf w a k b c
   own_log logs w a k None own b is = let x = own b is in (sym x.1, sym x.2)
   own_log logs w a k (Some c) own b is =
@@ -139,7 +139,7 @@ module _ {V : Type 0} where
   pub recorded_home : (t : own.Stage V) (k : ℕ) → next_of (stage_of t) ≡ next.GoHome k → is_recorded t ≡ true
   recorded_home t k e = ap is_recorded (homing_is t k e).1
 
-  pub due_home : (a k : ℕ) (o : Option (Action (Asked V))) → IsDue a (next.GoHome k) o → o ≡ Some (GoHome a k)
+  pub due_home : (a k : ℕ) (o : Option (Action (CollectionCall V))) → IsDue a (next.GoHome k) o → o ≡ Some (GoHome a k)
   due_home a k None h = absurd h
   due_home a k (Some e) h = ap Some h
 
@@ -154,11 +154,11 @@ module _ {V : Type 0} where
   pub home_words : (w : World V) (a k : ℕ) → (acted w (GoHome a k ∷ [])).boosted.words ≡ w.boosted.words
   home_words w a k =
       let b = w.boosted in
-      cond_both {A = Boosted (Shown V) (Answered V)} _ (homed (content w.words w.blocks) b a k) b
-      (λ (z : Boosted (Shown V) (Answered V)). z.words ≡ b.words) (λ _. refl) (λ _. refl)
+      cond_both {A = Boosted (Shown V) (CallWithOutcome V)} _ (homed (content w.words w.blocks) b a k) b
+      (λ (z : Boosted (Shown V) (CallWithOutcome V)). z.words ≡ b.words) (λ _. refl) (λ _. refl)
 
   -- ---- the turn: p is the actor r, once it has handed its log out
-  pub home_runs : AreSteps V → GoesOn V → (o : Contents V) (w : World V) (a k : ℕ) (r p s : TxActor V) (n : Told V)
+  pub home_runs : AreSteps V → GoesOn V → (o : Contents V) (w : World V) (a k : ℕ) (r p s : TxActor V) (n : ActorNotice V)
       → next_of (stage_of r.stage) ≡ next.GoHome k → Stands r p → p.stage ≡ r.stage → IsGoneHome p s n → IsReached o w → Runs a r w
       → Runs a s (happens w (Step a)).0 × (notice_of a n ≡ (happens w (Step a)).1)
   home_runs steps goes o w a k r p s n due stands at gone reached runs =
@@ -183,7 +183,7 @@ module _ {V : Type 0} where
       )
 
   -- ---- what the base asks of the log
-  pub log_within : Logs V → Within V → (o : Contents V) (w : World V) (a k : ℕ) (b : Block) (c : Option (Copied V)) (locations : List ℕ)
+  pub log_within : Logs V → Within V → (o : Contents V) (w : World V) (a k : ℕ) (b : Block) (c : Option (PrivateCopy V)) (locations : List ℕ)
       (base : Base V) → IsReached o w → block_of w.blocks k ≡ Some b → IsOwn w a k c → IsBaseOf b base → locations ≡ locations_had c
       → All (λ i. i < locations_of (stripes_of base) (shown_of base)) locations
   log_within logs within o w a k b c locations base reached there own fit ll =
@@ -192,7 +192,7 @@ module _ {V : Type 0} where
       subst (All (λ i. i < locations_of (stripes_of base) (shown_of base))) (sym (ll ∙ log.1))
       (within k b (w.boosted.shadows a).outcomes base (positive_at w.blocks k b stripes there) fit)
 
-  few_in : FewEditions V → (o : Contents V) (w : World V) → IsReached o w → (k : ℕ) (b : Block) (os : List (Answered V)) (base : Base V)
+  few_in : FewEditions V → (o : Contents V) (w : World V) → IsReached o w → (k : ℕ) (b : Block) (os : List (CallWithOutcome V)) (base : Base V)
       → block_of w.blocks k ≡ Some b → ShowsBase w.words w.blocks w k base
       → All (λ i. slice_index (editions_of base) i ≤ w.boosted.words.clock) (log_locations k b os)
   few_in few o w h k b os base is shows =
@@ -210,7 +210,7 @@ module _ {V : Type 0} where
       → All (λ i. slice_index (editions_of base) i < 2 ^ 63) ls
   all_below base n ls low h = λ i d there. (let few = h i d there in omega (arith, low, few))
 
-  pub log_below : Logs V → FewEditions V → (o : Contents V) (w : World V) (a k : ℕ) (b : Block) (c : Option (Copied V)) (locations : List ℕ)
+  pub log_below : Logs V → FewEditions V → (o : Contents V) (w : World V) (a k : ℕ) (b : Block) (c : Option (PrivateCopy V)) (locations : List ℕ)
       (base : Base V) → IsReached o w → block_of w.blocks k ≡ Some b → IsOwn w a k c → ShowsBase w.words w.blocks w k base
       → w.boosted.words.clock < 2 ^ 63 → locations ≡ locations_had c → All (λ i. slice_index (editions_of base) i < 2 ^ 63) locations
   log_below logs few o w a k b c locations base reached there own shows clock ll =

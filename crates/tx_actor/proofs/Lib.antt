@@ -1,27 +1,27 @@
 mod DispatchLemmas
 mod RunsLemmas
 mod AnswerLemmas
-mod OwnsLemmas
+mod CopyListLemmas
 mod PreparesLemmas
-mod CopyingLemmas
+mod CopyAtGateLemmas
 mod CallsLemmas
 mod StraightLemmas
 mod OwnAsksLemmas
-mod AskedLemmas
-mod KeepingLemmas
+mod ShadowAfterRequestLemmas
+mod ActorBoundsLemmas
 mod AskLemmas
 mod LoadLemmas
-mod HearLemmas
-mod SeatedLemmas
-pub mod HavingLemmas
+mod LoadInWorldLemmas
+mod SeatByStageLemmas
+pub mod CopiesByStageLemmas
 mod RoomLemmas
-mod HeardLemmas
+mod LoadBoundsLemmas
 pub mod StageLemmas
 mod ReadingLemmas
-mod GoneLemmas
+mod CallStageLemmas
 pub mod OwnLoadLemmas
 pub mod OwnCopyLemmas
-mod BehindLemmas
+mod AfterGateLemmas
 pub mod SeatLemmas
 pub mod StepLemmas
 pub mod OwnLemmas

@@ -16,11 +16,11 @@ use Rattle.replay_log.specs.Worlds.{World, Seat, actor_of, at_stage, because, gi
 use Rattle.std.specs.declared.alloc.Global.{Global}
 use Rattle.std.specs.declared.collections.VecDeque.{VecDeque}
 use Rattle.step_core.specs.Shown as words
-use Rattle.tx_actor.specs.declared.actor.Answered.{Answered}
+use Rattle.tx_actor.specs.declared.actor.CallWithOutcome.{CallWithOutcome}
 use Rattle.tx_actor.specs.declared.actor.Stage.{Stage}
 use Rattle.tx_actor.specs.declared.actor.Stage.TheVariants as stage
-use Rattle.tx_actor.specs.declared.actor.Told.{Told}
-use Rattle.tx_actor.specs.declared.actor.Told.TheVariants as told
+use Rattle.tx_actor.specs.declared.actor.ActorNotice.{ActorNotice}
+use Rattle.tx_actor.specs.declared.actor.ActorNotice.TheVariants as told
 use Rattle.tx_actor.specs.declared.actor.TxActor.{TxActor}
 use Rattle.actor_parts.specs.declared.notice.WordNotice.{WordNotice}
 use Rattle.actor_parts.specs.declared.notice.WordNotice.TheVariants.{Number, Moved}
@@ -29,7 +29,7 @@ use Rattle.actor_parts.specs.declared.judged.Judged.TheVariants.{All, Next, Stal
 use Rattle.tx_actor.specs.Answers.{CanAccept, MayAnswer}
 use Rattle.actor_parts.specs.Dispatch.{shown_notice}
 use Rattle.actor_parts.specs.Judged.{comes_to, judged, left_after}
-use Rattle.tx_actor.specs.Loads.{IsLoadable, IsToldLoad, MayJudge, after_load, first_entry}
+use Rattle.tx_actor.specs.LoadStep.{IsLoadable, IsToldLoad, MayJudge, after_load, first_entry}
 use Rattle.tx_actor.specs.Running.{Runs, at, notice_of, outcome_in, seat_of, stage_in, with_outcome}
 use Rattle.actor_parts.proofs.JudgedLemmas.{found_fresh}
 use Rattle.tx_actor.proofs.DispatchLemmas.{by_result, stays_as}
@@ -46,27 +46,27 @@ differ i j other true is = absurd (other (eqb-true i j is))
 differ i j other false is = is
 
 module _ {V : Type 0} where
-  pub comes_at : (w : World V) (a : ℕ) (x : Seat V) (s : worlds.Stage V) (o : contents.Answered V) (left : Entries) (j : Judged)
+  pub comes_at : (w : World V) (a : ℕ) (x : Seat V) (s : worlds.Stage V) (o : contents.CallWithOutcome V) (left : Entries) (j : Judged)
       → comes_to w a (at_stage x s) o left j ≡ comes_to w a x o left j
   comes_at w a x s o left All = refl
   comes_at w a x s o left (Next l) = refl
   comes_at w a x s o left (Stale l b v) = refl
 
   -- ---- the first location
-  found_stale : (w : World V) (a : ℕ) (x : Seat V) (o : contents.Answered V) (d : ℕ × ℕ) (es : Entries) (v : ℕ) → d.1 ≢ v
+  found_stale : (w : World V) (a : ℕ) (x : Seat V) (o : contents.CallWithOutcome V) (d : ℕ × ℕ) (es : Entries) (v : ℕ) → d.1 ≢ v
       → has_loaded w a x o d es (notice.Number v) ≡ gives_up w a (because x (refusal.Stale d.0 d.1 v)) []
   found_stale w a x o d es v other =
       cond-false (d.1 == v) (loads w a x o es) (gives_up w a (because x (refusal.Stale d.0 d.1 v)) []) (differ d.1 v other (d.1 == v) refl)
 
   -- what the call results in as its other locations are judged
-  abbrev pub GoesOn : TxActor V → TxActor V → Told V → Answered V → Entries → Type 0
+  abbrev pub GoesOn : TxActor V → TxActor V → ActorNotice V → CallWithOutcome V → Entries → Type 0
   GoesOn r u t call es =
       (a : ℕ) (w : World V) (x : Option (Outcome V)) → actor_of w a ≡ words.actor_of r.words → MayAnswer w a r.words x call es →
       let reads = r.words.reads.entries in
       let f = comes_to w a (seat_of r) (with_outcome call x) (left_after reads es) (judged reads es) in
       Runs a u f.0 × (notice_of a t ≡ f.1)
 
-  pub goes_as : (r u : TxActor V) (t : Told V) (call : Answered V) (left : VecDeque (ℕ × ℕ) Global) (d : ℕ × ℕ) (es : Entries) (v : ℕ)
+  pub goes_as : (r u : TxActor V) (t : ActorNotice V) (call : CallWithOutcome V) (left : VecDeque (ℕ × ℕ) Global) (d : ℕ × ℕ) (es : Entries) (v : ℕ)
       → left.items ≡ d ∷ es → d.1 ≡ v → GoesOn r u t call es → IsToldLoad (at r (stage.Loading call left)) u t (notice.Number v)
   goes_as r u t call left d es v first same goes a w may s =
       let x = outcome_in (w.seats a).stage in
@@ -83,13 +83,13 @@ module _ {V : Type 0} where
       (goes a w x y (known same))
 
   -- it is aborted, for this cause
-  abbrev pub GivesUp : TxActor V → TxActor V → Told V → Refusal → Type 0
+  abbrev pub GivesUp : TxActor V → TxActor V → ActorNotice V → Refusal → Type 0
   GivesUp r u t cause =
       (a : ℕ) (w : World V) → actor_of w a ≡ words.actor_of r.words →
       let f = gives_up w a (because (seat_of r) cause) [] in
       Runs a u f.0 × (notice_of a t ≡ f.1)
 
-  pub stale_as : (r u : TxActor V) (t : Told V) (call : Answered V) (left : VecDeque (ℕ × ℕ) Global) (d : ℕ × ℕ) (es : Entries) (v : ℕ)
+  pub stale_as : (r u : TxActor V) (t : ActorNotice V) (call : CallWithOutcome V) (left : VecDeque (ℕ × ℕ) Global) (d : ℕ × ℕ) (es : Entries) (v : ℕ)
       → left.items ≡ d ∷ es → d.1 ≢ v → GivesUp r u t (refusal.Stale d.0 d.1 v)
       → IsToldLoad (at r (stage.Loading call left)) u t (notice.Number v)
   stale_as r u t call left d es v first other up a w may s =
@@ -99,18 +99,18 @@ module _ {V : Type 0} where
       (ap (λ (ds : Entries). after_load w a z (worlds.Loading o ds) (notice.Number v)) first ∙ found_stale w a z o d es v other)
       (up a w s.1)
 
-  moved_first : (w : World V) (a : ℕ) (x : Seat V) (o : contents.Answered V) (es : Entries) (d : ℕ × ℕ) (l word : ℕ)
+  moved_first : (w : World V) (a : ℕ) (x : Seat V) (o : contents.CallWithOutcome V) (es : Entries) (d : ℕ × ℕ) (l word : ℕ)
       → first_entry es ≡ Some d
       → after_load w a x (worlds.Loading o es) (notice.Moved l word) ≡ gives_up w a (because x (refusal.Moved l word)) []
   moved_first w a x o [] d l word some = absurd (let h : ⊥ = cc in h)
   moved_first w a x o (c ∷ es) d l word some = refl
 
-  none_first : (w : World V) (a : ℕ) (x : Seat V) (o : contents.Answered V) (es : Entries) (n : notice.Notice) → first_entry es ≡ None
+  none_first : (w : World V) (a : ℕ) (x : Seat V) (o : contents.CallWithOutcome V) (es : Entries) (n : notice.Notice) → first_entry es ≡ None
       → after_load w a x (worlds.Loading o es) n ≡ (w, Quiet)
   none_first w a x o [] n none = refl
   none_first w a x o (d ∷ es) n none = absurd (let h : ⊥ = cc in h)
 
-  pub moved_as : (r u : TxActor V) (t : Told V) (call : Answered V) (left : VecDeque (ℕ × ℕ) Global) (d : ℕ × ℕ) (l word : ℕ)
+  pub moved_as : (r u : TxActor V) (t : ActorNotice V) (call : CallWithOutcome V) (left : VecDeque (ℕ × ℕ) Global) (d : ℕ × ℕ) (l word : ℕ)
       → first_entry left.items ≡ Some d → GivesUp r u t (refusal.Moved l word)
       → IsToldLoad (at r (stage.Loading call left)) u t (notice.Moved l word)
   moved_as r u t call left d l word some up a w may s =
@@ -120,11 +120,11 @@ module _ {V : Type 0} where
       (up a w s.1)
 
   -- ---- nothing comes of it
-  pub load_stays : (r u : TxActor V) (t : Told V) (n : notice.Notice) → u ≡ r → t ≡ told.Quiet
+  pub load_stays : (r u : TxActor V) (t : ActorNotice V) (n : notice.Notice) → u ≡ r → t ≡ told.Quiet
       → ((a : ℕ) (w : World V) → after_load w a (seat_of r) (stage_in (w.seats a).stage r.stage) n ≡ (w, Quiet)) → IsToldLoad r u t n
   load_stays r u t n same quiet e a w may s = stays_as r u t a w _ same quiet (e a w) s
 
-  pub none_as : (r u : TxActor V) (t : Told V) (call : Answered V) (left : VecDeque (ℕ × ℕ) Global) (n : notice.Notice)
+  pub none_as : (r u : TxActor V) (t : ActorNotice V) (call : CallWithOutcome V) (left : VecDeque (ℕ × ℕ) Global) (n : notice.Notice)
       → u ≡ at r (stage.Loading call left) → t ≡ told.Quiet → first_entry left.items ≡ None
       → IsToldLoad (at r (stage.Loading call left)) u t n
   none_as r u t call left n same quiet none =
@@ -132,14 +132,14 @@ module _ {V : Type 0} where
       (λ a w. none_first w a (seat_of (at r (stage.Loading call left)))
       (with_outcome call (outcome_in (w.seats a).stage)) left.items n none)
 
-  loaded_else : (w : World V) (a : ℕ) (x : Seat V) (o : contents.Answered V) (es : Entries) (h : WordNotice) → ((v : ℕ) → h ≡ Number v → ⊥)
+  loaded_else : (w : World V) (a : ℕ) (x : Seat V) (o : contents.CallWithOutcome V) (es : Entries) (h : WordNotice) → ((v : ℕ) → h ≡ Number v → ⊥)
       → ((i j : ℕ) → h ≡ Moved i j → ⊥) → after_load w a x (worlds.Loading o es) (shown_notice h) ≡ (w, Quiet)
   loaded_else w a x o [] h p q = refl
   loaded_else w a x o (d ∷ es) (Number v) p q = absurd (p v refl)
   loaded_else w a x o (d ∷ es) (Moved i j) p q = absurd (q i j refl)
   loaded_else w a x o (d ∷ es) h p q = refl
 
-  pub else_as : (r u : TxActor V) (t : Told V) (call : Answered V) (left : VecDeque (ℕ × ℕ) Global) (h : WordNotice)
+  pub else_as : (r u : TxActor V) (t : ActorNotice V) (call : CallWithOutcome V) (left : VecDeque (ℕ × ℕ) Global) (h : WordNotice)
       → u ≡ at r (stage.Loading call left) → t ≡ told.Quiet → ((v : ℕ) → h ≡ Number v → ⊥) → ((i j : ℕ) → h ≡ Moved i j → ⊥)
       → IsToldLoad (at r (stage.Loading call left)) u t (shown_notice h)
   else_as r u t call left h same quiet p q =
@@ -147,7 +147,7 @@ module _ {V : Type 0} where
       (λ a w. loaded_else w a (seat_of (at r (stage.Loading call left)))
       (with_outcome call (outcome_in (w.seats a).stage)) left.items h p q)
 
-  told_nothing : (w : World V) (a : ℕ) (x : Seat V) (o : contents.Answered V) (es : Entries)
+  told_nothing : (w : World V) (a : ℕ) (x : Seat V) (o : contents.CallWithOutcome V) (es : Entries)
       → after_load w a x (worlds.Loading o es) notice.Quiet ≡ (w, Quiet)
   told_nothing w a x o [] = refl
   told_nothing w a x o (d ∷ es) = refl
@@ -158,30 +158,30 @@ module _ {V : Type 0} where
   quiet_stage w a x st s = refl
 
   -- nothing was answered
-  pub load_quiet : (r u : TxActor V) (t : Told V) (n : notice.Notice) → n ≡ notice.Quiet → u ≡ r → t ≡ told.Quiet → IsToldLoad r u t n
+  pub load_quiet : (r u : TxActor V) (t : ActorNotice V) (n : notice.Notice) → n ≡ notice.Quiet → u ≡ r → t ≡ told.Quiet → IsToldLoad r u t n
   load_quiet r u t n nothing same quiet =
       subst (λ (q : notice.Notice). IsToldLoad r u t q) (sym nothing)
       (load_stays r u t notice.Quiet same quiet (λ a w. quiet_stage w a (seat_of r) (w.seats a).stage r.stage))
 
   -- ---- r is at this stage
   other_stage : (w : World V) (a : ℕ) (x : Seat V) (st : worlds.Stage V) (s : Stage V) (n : notice.Notice)
-      → ((o : Answered V) (left : VecDeque (ℕ × ℕ) Global) → s ≡ stage.Loading o left → ⊥)
+      → ((o : CallWithOutcome V) (left : VecDeque (ℕ × ℕ) Global) → s ≡ stage.Loading o left → ⊥)
       → after_load w a x (stage_in st s) n ≡ (w, Quiet)
   other_stage w a x st (stage.Loading o left) n p = absurd (p o left refl)
   other_stage w a x st s n p = refl
 
-  pub at_rest : (r u : TxActor V) (t : Told V) (n : notice.Notice) → u ≡ r → t ≡ told.Quiet
-      → ((o : Answered V) (left : VecDeque (ℕ × ℕ) Global) → r.stage ≡ stage.Loading o left → ⊥) → IsToldLoad r u t n
+  pub at_rest : (r u : TxActor V) (t : ActorNotice V) (n : notice.Notice) → u ≡ r → t ≡ told.Quiet
+      → ((o : CallWithOutcome V) (left : VecDeque (ℕ × ℕ) Global) → r.stage ≡ stage.Loading o left → ⊥) → IsToldLoad r u t n
   at_rest r u t n same quiet p = load_stays r u t n same quiet (λ a w. other_stage w a (seat_of r) (w.seats a).stage r.stage n p)
 
-  pub load_heard : (r u : TxActor V) (t : Told V) (n m : notice.Notice) → n ≡ m → IsToldLoad r u t n → IsToldLoad r u t m
+  pub load_heard : (r u : TxActor V) (t : ActorNotice V) (n m : notice.Notice) → n ≡ m → IsToldLoad r u t n → IsToldLoad r u t m
   load_heard r u t n m e p = subst (λ (q : notice.Notice). IsToldLoad r u t q) e p
 
-  pub load_at_stage : (r u : TxActor V) (t : Told V) (n : notice.Notice) (s : Stage V) → r.stage ≡ s → IsToldLoad (at r s) u t n
+  pub load_at_stage : (r u : TxActor V) (t : ActorNotice V) (n : notice.Notice) (s : Stage V) → r.stage ≡ s → IsToldLoad (at r s) u t n
       → IsToldLoad r u t n
   load_at_stage r u t n s e p = subst (λ (z : Stage V). IsToldLoad (at r z) u t n) (sym e) p
 
-  prepared_at : (r : TxActor V) (s : Stage V) (o : Answered V) → CanAccept r o → CanAccept (at r s) o
+  prepared_at : (r : TxActor V) (s : Stage V) (o : CallWithOutcome V) → CanAccept r o → CanAccept (at r s) o
   prepared_at r s o p = record {
     writes = p.writes;
     calls = p.calls;

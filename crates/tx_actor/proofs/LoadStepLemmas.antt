@@ -19,17 +19,17 @@ use Rattle.actor_parts.specs.Dispatch.{AreSteps, is_loading, next_load, next_of,
 use Rattle.actor_parts.specs.declared.next.Next.TheVariants as next
 use Rattle.tx_actor.specs.Answers.{IsLoadOf}
 use Rattle.tx_actor.specs.Dispatch.{HasRoom}
-use Rattle.tx_actor.specs.Having.{HasCopies, HasCopiesAt, HasLoaded}
-use Rattle.tx_actor.specs.Keeping.{HasHeard, IsRunning}
-use Rattle.tx_actor.specs.Loading.{MayHear, OwnsCallAt}
-use Rattle.tx_actor.specs.Loads.{IsLoadable, IsToldLoad, MayLoad, after_load}
+use Rattle.tx_actor.specs.CopiesByStage.{HasCopies, HasCopiesAt, HasLoaded}
+use Rattle.tx_actor.specs.ActorBounds.{HasHeard, IsRunning}
+use Rattle.tx_actor.specs.LoadInWorld.{MayHear, OwnsCallAt}
+use Rattle.tx_actor.specs.LoadStep.{IsLoadable, IsToldLoad, MayLoad, after_load}
 use Rattle.tx_actor.specs.Reading.{LoadsKeep}
 use Rattle.tx_actor.specs.Running.{KnowsHomes, Runs, notice_of, seat_of, stage_in, stage_of}
-use Rattle.tx_actor.specs.Staying.{LoadsStayOwn}
+use Rattle.tx_actor.specs.CopiesAfterStep.{LoadsStayOwn}
 use Rattle.tx_actor.specs.Seated.{SeatsActors}
 use Rattle.tx_actor.specs.declared.actor.Stage as own
 use Rattle.tx_actor.specs.declared.actor.Stage.TheVariants as stage
-use Rattle.tx_actor.specs.declared.actor.Told.{Told}
+use Rattle.tx_actor.specs.declared.actor.ActorNotice.{ActorNotice}
 use Rattle.tx_actor.specs.declared.actor.TxActor.{TxActor}
 use Rattle.step_core.specs.Answers.{result_of}
 use Rattle.step_core.specs.Shown as words
@@ -103,7 +103,7 @@ module _ {V : Type 0} where
   load_next b w a r loading ready runs = next_as w a r runs ∙ loads_word r r.stage loading ready.room
 
   pub load_runs : AreSteps V → MayHear V → SeatsActors V → (b : BlocksView) (o : Contents V) (w : World V) (a : ℕ) (r s : TxActor V)
-      (y : running.Actor) (told : Result (Option WordAnswer) WordRefusal) (n : Told V) → is_loading (stage_of r.stage) ≡ true
+      (y : running.Actor) (told : Result (Option WordAnswer) WordRefusal) (n : ActorNotice V) → is_loading (stage_of r.stage) ≡ true
       → IsRunning b r → IsToldLoad (record r { words = y }) s n (notice_told told) → IsReached o w → Runs a r w → HasCopies r w a
       → HasMoved w a y told → Runs a s (happens w (Step a)).0 × (notice_of a n ≡ (happens w (Step a)).1)
   load_runs steps hear seats b o w a r s y told n loading ready heard reached runs copies took =
@@ -133,7 +133,7 @@ module _ {V : Type 0} where
       record { stripes = h.stripes; once = h.once; others = h.others; call = h.call; at = h.at; read = h.read }
   moved_copies r y w a s e h = absurd (true≢false (sym e))
 
-  own_in : LoadsStayOwn V → (o : Contents V) (w : World V) (a : ℕ) (m s : TxActor V) (n : Told V) → IsReached o w
+  own_in : LoadsStayOwn V → (o : Contents V) (w : World V) (a : ℕ) (m s : TxActor V) (n : ActorNotice V) → IsReached o w
       → is_loading (stage_of m.stage) ≡ true → Runs a m (acted w (moves a ∷ [])) → HasCopies m w a
       → HasLoaded m s n m.stage (word_notice w a)
       → Runs a s (happens w (Step a)).0 → notice_of a n ≡ (happens w (Step a)).1 → HasCopies s (happens w (Step a)).0 a
@@ -144,7 +144,7 @@ module _ {V : Type 0} where
       (law h.blocks h.clock o.words o.held h.events a m s n h.stripes)
 
   pub load_keeps : AreSteps V → LoadsStayOwn V → (o : Contents V) (w : World V) (a : ℕ) (r s : TxActor V) (y : running.Actor)
-      (told : Result (Option WordAnswer) WordRefusal) (n : Told V) → is_loading (stage_of r.stage) ≡ true
+      (told : Result (Option WordAnswer) WordRefusal) (n : ActorNotice V) → is_loading (stage_of r.stage) ≡ true
       → (let m : TxActor V = record r { words = y } in HasLoaded m s n m.stage (notice_told told)) → IsReached o w → Runs a r w
       → HasCopies r w a → HasMoved w a y told → Runs a s (happens w (Step a)).0 → notice_of a n ≡ (happens w (Step a)).1
       → HasCopies s (happens w (Step a)).0 a

@@ -7,7 +7,7 @@ use Rattle.std.proofs.lemmas.List.Elements.{All-contains}
 use Rattle.tx_sets.specs.Entries.{Entries}
 use Rattle.actor_parts.specs.Dispatch.{first, next_home, next_load, next_of, next_put, next_try}
 use Rattle.actor_parts.specs.declared.next.Next.TheVariants as next
-use Rattle.tx_actor.specs.Keeping.{NamesAmong}
+use Rattle.tx_actor.specs.ActorBounds.{NamesAmong}
 use Rattle.tx_actor.specs.Running.{stage_of}
 use Rattle.tx_actor.specs.declared.actor.Stage as own
 use Rattle.tx_actor.specs.declared.actor.Stage.TheVariants as stage

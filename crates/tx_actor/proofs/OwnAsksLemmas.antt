@@ -2,6 +2,7 @@
 -- collections remains its own; the acceptance of a call puts its outcome there, and into the copy.
 use Rattle.std.proofs.Common.{◌≡◌, ◌<◌, ℕ, Bool, true, false, ◌&&◌, cond, length, [], ◌∷◌, Some, refl, sym, ap, ◌∙◌}
 use Rattle.std.specs.Prelude.{slice_get}
+use Rattle.std.proofs.lemmas.Option.{same_Some}
 use Rattle.tx_sets.specs.Entries.{Entries}
 use Rattle.tx_machine.specs.Notices as told
 use Rattle.seq_model.specs.declared.call.Op.TheVariants.{Read, Write}
@@ -9,23 +10,22 @@ use Rattle.tx_machine.specs.Requests.{AskWrite}
 use Rattle.conflict.specs.declared.outcome.Outcome.{Outcome}
 use Rattle.tx_machine.specs.Boosted.{Boosted, longer, requested}
 use Rattle.replay_log.specs.Base.{Shown}
-use Rattle.replay_log.specs.Contents.{Answered, is_plain}
+use Rattle.replay_log.specs.Contents.{CallWithOutcome, is_plain}
 use Rattle.replay_log.specs.Worlds.{World, Seat, After, ask_op, cancels, commits, if_allowed, reads}
-use Rattle.tx_actor.specs.declared.actor.Answered as running
+use Rattle.tx_actor.specs.declared.actor.CallWithOutcome as running
 use Rattle.tx_actor.specs.declared.actor.TxActor.{TxActor}
 use Rattle.actor_parts.specs.declared.judged.Judged.{Judged}
 use Rattle.actor_parts.specs.declared.judged.Judged.TheVariants.{All, Next, Stale}
 use Rattle.tx_actor.specs.Answers.{CanAccept, CopiesAfter, IsAcceptedAt, MayAccept}
-use Rattle.actor_parts.specs.declared.copies.CopyOf.{CopyOf}
-use Rattle.actor_parts.specs.Copies.{answer_of, answered_on}
+use Rattle.actor_parts.specs.declared.copies.CopyOfCollection.{CopyOfCollection}
+use Rattle.actor_parts.specs.PrivateCopy.{answer_of, answered_on}
 use Rattle.actor_parts.specs.Judged.{comes_to}
 use Rattle.tx_actor.specs.Owns.{OwnsCopies}
 use Rattle.tx_actor.specs.Running.{answered_of, asked_of}
 use Rattle.actor_parts.proofs.AcceptsLemmas.{accepts}
 use Rattle.actor_parts.proofs.OutcomeLemmas.{answered_op}
-use Rattle.tx_actor.proofs.OwnsLemmas.{owns_accepted, owns_by}
-use Rattle.actor_parts.proofs.TakingLemmas.{at_place}
-use Rattle.tx_actor.proofs.PreparesLemmas.{same_outcome}
+use Rattle.tx_actor.proofs.CopyListLemmas.{owns_accepted, owns_by}
+use Rattle.actor_parts.proofs.TakeBackLemmas.{at_place}
 
 module _ {V : Type 0} where
   -- a world laid out as w is, with a's shadow of there
@@ -58,7 +58,7 @@ module _ {V : Type 0} where
   read_same a w x l = allowed_same a w x _ _ _ (reads_same a w x l _)
 
   -- a guarded request on words
-  words_same : (a : ℕ) (w : World V) (b : Bool) (s t : Boosted (Shown V) (Answered V)) → s.shadows a ≡ t.shadows a
+  words_same : (a : ℕ) (w : World V) (b : Bool) (s t : Boosted (Shown V) (CallWithOutcome V)) → s.shadows a ≡ t.shadows a
       → (cond b s t).shadows a ≡ t.shadows a
   words_same a w true s t e = e
   words_same a w false s t e = refl
@@ -79,9 +79,9 @@ module _ {V : Type 0} where
   cancel_same a w x = record { words = refl; blocks = refl; shadow = refl }
 
   -- ---- a call that continues
-  pub accepted_owns : (w : World V) (a : ℕ) (x : Seat V) (u n : TxActor V) (call : running.Answered V) (left : Entries)
+  pub accepted_owns : (w : World V) (a : ℕ) (x : Seat V) (u n : TxActor V) (call : running.CallWithOutcome V) (left : Entries)
       → call.place < length u.copies.items
-      → ((c : CopyOf V) → slice_get u.copies.items call.place ≡ Some c
+      → ((c : CopyOfCollection V) → slice_get u.copies.items call.place ≡ Some c
       → (o : Outcome V) × (call.outcome ≡ Some o) × (c.collection ≡ call.asked.collection) × (answer_of c.copied call.asked.op ≡ Some o))
       → IsAcceptedAt call.place call.outcome u.copies.items n.copies.items → MayAccept w a call → OwnsCopies u w a
       → OwnsCopies n (comes_to w a x (answered_of call) left All).0 a
@@ -100,12 +100,12 @@ module _ {V : Type 0} where
       owns_accepted w v a k o u n call.place call.outcome (refl, refl, shadow) here.1 at
       (λ d there. (
       let other = answers d there in
-      let same : other.0 ≡ o = same_outcome other.0 o (sym other.1 ∙ here.1) in (
+      let same : other.0 ≡ o = same_Some other.0 o (sym other.1 ∙ here.1) in (
         other.2,
         ap (answer_of d.copied) op ∙ (other.3 ∙ ap (λ (p : Outcome V). Some p) same),
       ))) own
 
-  pub comes_owns : (w : World V) (a : ℕ) (x : Seat V) (u n : TxActor V) (call : running.Answered V) (left : Entries) (j : Judged)
+  pub comes_owns : (w : World V) (a : ℕ) (x : Seat V) (u n : TxActor V) (call : running.CallWithOutcome V) (left : Entries) (j : Judged)
       → CanAccept u call → CopiesAfter j call u.copies.items n.copies.items → (j ≡ All → MayAccept w a call) → OwnsCopies u w a
       → OwnsCopies n (comes_to w a x (answered_of call) left j).0 a
   comes_owns w a x u n call left All prepared at may own = accepted_owns w a x u n call left prepared.place prepared.own at (may refl) own

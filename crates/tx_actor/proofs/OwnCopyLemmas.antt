@@ -22,74 +22,74 @@ use Rattle.step_core.specs.Shown as words
 use Rattle.actor_parts.specs.Blocks.{BlocksView, IsLaid}
 use Rattle.actor_parts.specs.Judged.{judged, left_after}
 use Rattle.actor_parts.specs.Shows.{put_back}
-use Rattle.actor_parts.specs.declared.copies.Copied.{Copied}
-use Rattle.actor_parts.specs.declared.copies.CopyOf.{CopyOf}
-use Rattle.actor_parts.specs.declared.copies.Found.{Found}
-use Rattle.actor_parts.specs.Copied.{IsCopyFor, IsReadOf}
-use Rattle.actor_parts.specs.Copies.{IsFound, IsKept}
+use Rattle.actor_parts.specs.declared.copies.PrivateCopy.{PrivateCopy}
+use Rattle.actor_parts.specs.declared.copies.CopyOfCollection.{CopyOfCollection}
+use Rattle.actor_parts.specs.declared.copies.BaseExcerpt.{BaseExcerpt}
+use Rattle.actor_parts.specs.CopyAtGate.{IsCopyFor, IsReadOf}
+use Rattle.actor_parts.specs.PrivateCopy.{IsFound, IsKept}
 use Rattle.actor_parts.specs.Footprints.{reads_in, with_known, writes_in}
-use Rattle.actor_parts.specs.Keeps.{IsOwnCopy}
-use Rattle.actor_parts.specs.Kept.{copy_of}
-use Rattle.actor_parts.specs.Loading.{AreRead, IsDoomed}
+use Rattle.actor_parts.specs.CopyInWorld.{IsOwnCopy}
+use Rattle.actor_parts.specs.CopyList.{copy_of}
+use Rattle.actor_parts.specs.LoadInWorld.{AreRead, IsDoomed}
 use Rattle.actor_parts.specs.Owns.{AreOnce, IsOwn}
 use Rattle.actor_parts.specs.PutBack.{KeepsCopies}
-use Rattle.actor_parts.specs.Staying.{EventsStay, StaysOrJoins, StepStays}
+use Rattle.actor_parts.specs.CopiesAfterEvent.{EventsStay, StaysOrJoins, StepStays}
 use Rattle.actor_parts.specs.Taking.{IsPutAt, copy_with}
 use Rattle.actor_parts.specs.Writes.{with_next}
 use Rattle.actor_parts.proofs.AlikeLemmas.{kept_answers, kept_copy, kept_holds, kept_once, kept_own, read_kept, read_of_kept, writes_kept}
-use Rattle.actor_parts.proofs.TakingLemmas.{at_place, taken_copies}
-use Rattle.tx_actor.specs.declared.actor.Asked.{Asked}
+use Rattle.actor_parts.proofs.TakeBackLemmas.{at_place, taken_copies}
+use Rattle.tx_actor.specs.declared.actor.CollectionCall.{CollectionCall}
 use Rattle.tx_actor.specs.declared.actor.Stage as own
 use Rattle.tx_actor.specs.declared.actor.Stage.TheVariants as stage
-use Rattle.tx_actor.specs.declared.actor.Told.{Told}
-use Rattle.tx_actor.specs.declared.actor.Told.TheVariants as told
+use Rattle.tx_actor.specs.declared.actor.ActorNotice.{ActorNotice}
+use Rattle.tx_actor.specs.declared.actor.ActorNotice.TheVariants as told
 use Rattle.tx_actor.specs.declared.actor.TxActor.{TxActor}
 use Rattle.tx_actor.specs.declared.prepares.Prepared.{Prepared}
 use Rattle.tx_actor.specs.Copying.{CanCopy, HasTaken, IsReadyAt, MayCopy}
-use Rattle.tx_actor.specs.Having.{HasCopies, HasCopiesAt, HasGone, OwnsAll, OwnsLoading}
+use Rattle.tx_actor.specs.CopiesByStage.{HasCopies, HasCopiesAt, HasGone, OwnsAll, OwnsLoading}
 use Rattle.tx_actor.specs.Prepares.{prepared_of}
 use Rattle.tx_actor.specs.Running.{Runs, asked_of, at, notice_of, stage_in}
-use Rattle.tx_actor.specs.Staying.{CopiesStayOwn}
-use Rattle.tx_actor.proofs.CopyingLemmas.{accepts_all, back_words, copied, left_same, now_words}
+use Rattle.tx_actor.specs.CopiesAfterStep.{CopiesStayOwn}
+use Rattle.tx_actor.proofs.CopyAtGateLemmas.{accepts_all, back_words, copied, left_same, now_words}
 use Rattle.tx_actor.proofs.OwnLoadLemmas.{JoinsLaw, goes_own}
-use Rattle.tx_actor.proofs.OwnsLemmas.{once_set}
+use Rattle.tx_actor.proofs.CopyListLemmas.{once_set}
 use Rattle.tx_actor.proofs.PreparesLemmas.{there_kept}
 use Rattle.tx_actor.proofs.RunsLemmas.{seat_stage}
 use Rattle.tx_actor.proofs.StageLemmas.{StaysLaw, whole_stays}
-use Rattle.actor_parts.proofs.CopiesLemmas.{apart}
+use Rattle.actor_parts.proofs.PrivateCopyLemmas.{apart}
 
 -- what remains once the gate of a call is put back
 abbrev pub BackLaw : Type 0 → Type 0
 BackLaw V =
-    (w : World V) (a k : ℕ) (asked : contents.Asked V) (c : Option (Copied V))
+    (w : World V) (a k : ℕ) (asked : contents.CollectionCall V) (c : Option (PrivateCopy V))
     → (k ≢ asked.collection → IsOwn w a k c → IsOwn (put_back a w asked) a k c)
     × (IsReadOf w a k c → IsReadOf (put_back a w asked) a k c)
 
 module _ {V : Type 0} where
   -- ---- each collection stands once
-  apart_from : (b : Bool) (j k : ℕ) (c : Copied V) (o : Option (Copied V)) → (j == k) ≡ b → cond b (Some c) o ≡ None
+  apart_from : (b : Bool) (j k : ℕ) (c : PrivateCopy V) (o : Option (PrivateCopy V)) → (j == k) ≡ b → cond b (Some c) o ≡ None
       → (k ≢ j) × (o ≡ None)
   apart_from true j k c o is e = let h : ⊥ = cc in absurd h
   apart_from false j k c o is e = (λ same. true≢false (sym (eq-eqb j k (sym same)) ∙ is), e)
 
-  none_if : (b : Bool) (c : Copied V) (o p : Option (Copied V)) → (o ≡ None → p ≡ None) → cond b (Some c) o ≡ None
+  none_if : (b : Bool) (c : PrivateCopy V) (o p : Option (PrivateCopy V)) → (o ≡ None → p ≡ None) → cond b (Some c) o ≡ None
       → cond b (Some c) p ≡ None
   none_if true c o p rest e = let h : ⊥ = cc in absurd h
   none_if false c o p rest e = rest e
 
-  none_behind : (cs : List (CopyOf V)) (c : CopyOf V) (k : ℕ) → k ≢ c.collection → copy_of cs k ≡ None → copy_of (cs ++ c ∷ []) k ≡ None
+  none_behind : (cs : List (CopyOfCollection V)) (c : CopyOfCollection V) (k : ℕ) → k ≢ c.collection → copy_of cs k ≡ None → copy_of (cs ++ c ∷ []) k ≡ None
   none_behind [] c k other e =
       cond-false (k == c.collection) (Some c.copied) None (apart k c.collection other (k == c.collection) refl)
   none_behind (x ∷ cs) c k other e =
       none_if (k == x.collection) x.copied (copy_of cs k) (copy_of (cs ++ c ∷ []) k) (none_behind cs c k other) e
 
-  once_behind : (cs : List (CopyOf V)) (c : CopyOf V) → copy_of cs c.collection ≡ None → AreOnce cs → AreOnce (cs ++ c ∷ [])
+  once_behind : (cs : List (CopyOfCollection V)) (c : CopyOfCollection V) → copy_of cs c.collection ≡ None → AreOnce cs → AreOnce (cs ++ c ∷ [])
   once_behind [] c none once = (refl, tt)
   once_behind (d ∷ cs) c none once =
       let z = apart_from (c.collection == d.collection) c.collection d.collection d.copied (copy_of cs c.collection) refl none in
       (none_behind cs c d.collection z.0 once.0, once_behind cs c z.1 once.1)
 
-  once_put : (k : ℕ) (c : Copied V) (i : ℕ) (before now : List (CopyOf V)) (o : Option (Copied V)) → copy_of before k ≡ o
+  once_put : (k : ℕ) (c : PrivateCopy V) (i : ℕ) (before now : List (CopyOfCollection V)) (o : Option (PrivateCopy V)) → copy_of before k ≡ o
       → IsPutAt k c i before now o → AreOnce before → AreOnce now
   once_put k c i before now None is put once = subst AreOnce (sym put.1) (once_behind before (copy_with k c) is once)
   once_put k c i before now (Some d) is put once =
@@ -98,8 +98,8 @@ module _ {V : Type 0} where
 
   -- ---- what was taken
   module _ (stays : StaysLaw V) (joins : JoinsLaw V) (back : BackLaw V) (v : BlocksView) (w : World V) (a : ℕ) (r u n : TxActor V)
-      (t : Told V)
-      (base : Base V) (asked : Asked V) (b : Block) (found : Found V) (i : ℕ) (x : Prepared V) (laid : IsLaid v w)
+      (t : ActorNotice V)
+      (base : Base V) (asked : CollectionCall V) (b : Block) (found : BaseExcerpt V) (i : ℕ) (x : Prepared V) (laid : IsLaid v w)
       (can : CanCopy v r base asked)
       (s : Runs a (at r (stage.Copying asked)) w) (may : MayCopy v w a (at r (stage.Copying asked)) base asked)
       (there : block_of v.blocks asked.collection ≡ Some b) (is : IsFound base asked.op found)
@@ -114,7 +114,7 @@ module _ {V : Type 0} where
     abbrev f : ℕ
     f = first_of w.words w.blocks k
 
-    abbrev d : Copied V
+    abbrev d : PrivateCopy V
     d = ready.at.copy
 
     abbrev p : Prepared V
@@ -139,7 +139,7 @@ module _ {V : Type 0} where
     left_is = ready.ready.left ∙ (λ j. with_known d (first_is j) (reads_in d o))
 
     -- the copy of the call's collection, with what is ready in it
-    kept : (e : Copied V) × (copy_of u.copies.items k ≡ Some e) × IsKept d e
+    kept : (e : PrivateCopy V) × (copy_of u.copies.items k ≡ Some e) × IsKept d e
     kept =
         there_kept (record r { copies = ready.copies }) u k d ready.alike
         (taken_copies b.stripes k i found r.copies.items ready.copies.items ready.at k
@@ -218,7 +218,7 @@ module _ {V : Type 0} where
         passed_on (accepts_all v w a r u base asked b found i x laid can s may there is ready) now_is after now tells got
 
   -- ---- the law
-  pub can_at : (v : BlocksView) (r : TxActor V) (base : Base V) (asked : Asked V) (s : own.Stage V) → CanCopy v r base asked
+  pub can_at : (v : BlocksView) (r : TxActor V) (base : Base V) (asked : CollectionCall V) (s : own.Stage V) → CanCopy v r base asked
       → CanCopy v (at r s) base asked
   can_at v r base asked s c = record {
     rests = c.rests;

@@ -19,7 +19,7 @@ use Rattle.seq_model.specs.declared.event.Event.{Event}
 use Rattle.seq_model.specs.declared.event.Event.TheVariants.{Ask, Starve, Step}
 use Rattle.seq_model.specs.declared.event.Request.{Request}
 use Rattle.seq_model.specs.declared.held.Held.{Held}
-use Rattle.replay_log.specs.Contents.{Asked, Block, HaveStripes}
+use Rattle.replay_log.specs.Contents.{CollectionCall, Block, HaveStripes}
 use Rattle.replay_log.specs.WorldProgress.{whose}
 use Rattle.replay_log.specs.Worlds.{World, Seat, Stage, After, Beginning, Copying, Loading, Open, Ready, acted, actor_of, ask_at, happens}
 use Rattle.replay_log.specs.Worlds.{has_begun, moves, no_one, opened, outcome_at, run, starve_at, step_at, word_notice}
@@ -29,19 +29,19 @@ use Rattle.actor_parts.specs.Blocks.{BlocksView, IsLaid}
 use Rattle.actor_parts.specs.Dispatch.{is_loading, next_of}
 use Rattle.actor_parts.specs.declared.next.Next.{Next}
 use Rattle.actor_parts.specs.declared.next.Next.TheVariants as next
-use Rattle.actor_parts.specs.declared.copies.CopyOf.{CopyOf}
-use Rattle.actor_parts.specs.declared.copies.Copied.{Copied}
-use Rattle.actor_parts.specs.Copied.{BeginsWithNothing, IsReadOf}
+use Rattle.actor_parts.specs.declared.copies.CopyOfCollection.{CopyOfCollection}
+use Rattle.actor_parts.specs.declared.copies.PrivateCopy.{PrivateCopy}
+use Rattle.actor_parts.specs.CopyAtGate.{BeginsWithNothing, IsReadOf}
 use Rattle.actor_parts.specs.Owns.{AreOfBlocks, IsOwn, MayCall}
-use Rattle.actor_parts.specs.Staying.{EventStays, EventsStay, StaysAsked, StepStays, Stays, call_in}
+use Rattle.actor_parts.specs.CopiesAfterEvent.{EventStays, EventsStay, StaysAsked, StepStays, Stays, call_in}
 use Rattle.tx_actor.specs.Calls.{AsksAt, CanCall, StandsOwn}
-use Rattle.tx_actor.specs.Having.{HasCopies, HasCopiesAt, KeepsCopies, KeepsFrom, OwnsAll, ReadsStill}
-use Rattle.tx_actor.specs.Keeping.{IsRunning}
+use Rattle.tx_actor.specs.CopiesByStage.{HasCopies, HasCopiesAt, KeepsCopies, KeepsFrom, OwnsAll, ReadsStill}
+use Rattle.tx_actor.specs.ActorBounds.{IsRunning}
 use Rattle.tx_actor.specs.Owns.{OwnsCopies}
 use Rattle.tx_actor.specs.Running.{Runs, notice_of, seat_of, stage_of}
 use Rattle.tx_actor.specs.declared.actor.Stage as own
 use Rattle.tx_actor.specs.declared.actor.Stage.TheVariants as stage
-use Rattle.tx_actor.specs.declared.actor.Told.{Told}
+use Rattle.tx_actor.specs.declared.actor.ActorNotice.{ActorNotice}
 use Rattle.tx_actor.specs.declared.actor.TxActor.{TxActor}
 pub use Rattle.tx_actor.proofs.OwnLoadLemmas.{JoinsLaw}
 pub use Rattle.tx_actor.proofs.StageLemmas.{StaysLaw}
@@ -72,7 +72,7 @@ StandLaw V =
 abbrev pub AskedLaw : Type 0 → Type 0
 AskedLaw V =
     (r u : TxActor V) (w v : World V) (a : ℕ) → ReadsStill r.copies.items u.copies.items
-    → ((k : ℕ) (c : Option (Copied V)) → IsReadOf w a k c → IsReadOf v a k c) → OwnsAll r w a → OwnsCopies u v a → OwnsAll u v a
+    → ((k : ℕ) (c : Option (PrivateCopy V)) → IsReadOf w a k c → IsReadOf v a k c) → OwnsAll r w a → OwnsCopies u v a → OwnsAll u v a
 
 abbrev pub AllLaw : Type 0 → Type 0
 AllLaw V = (b : BlocksView) (r : TxActor V) (w : World V) (a : ℕ) → IsLaid b w → IsRunning b r → OwnsAll r w a → HasCopies r w a
@@ -125,10 +125,10 @@ module _ {V : Type 0} where
       stage_by (v.seats a) s (ap (λ (t : own.Stage V). is_loading (stage_of t)) at) runs.0 ∙ ap (λ (t : own.Stage V). stage_of t) at
 
   -- ---- a step
-  pub calm_at : (s : Stage V) (n : Next) → next_of s ≡ n → ((k : ℕ) → n ≡ next.Copy k → ⊥) → (asked : Asked V) → s ≡ Copying asked → ⊥
+  pub calm_at : (s : Stage V) (n : Next) → next_of s ≡ n → ((k : ℕ) → n ≡ next.Copy k → ⊥) → (asked : CollectionCall V) → s ≡ Copying asked → ⊥
   calm_at s n e p asked is = p asked.collection (sym e ∙ ap next_of is)
 
-  step_stays : (w : World V) (a : ℕ) (s : Stage V) (f : After V) → (s ≡ Beginning → ⊥) → ((asked : Asked V) → s ≡ Copying asked → ⊥)
+  step_stays : (w : World V) (a : ℕ) (s : Stage V) (f : After V) → (s ≡ Beginning → ⊥) → ((asked : CollectionCall V) → s ≡ Copying asked → ⊥)
       → is_loading s ≡ false → StepStays w a s f → Stays w f.0 a
   step_stays w a Beginning f b c l h = absurd (b refl)
   step_stays w a (Copying asked) f b c l h = absurd (c asked refl)
@@ -158,7 +158,7 @@ module _ {V : Type 0} where
       (begins h.blocks h.clock o.words o.held h.events a rv h.stripes h.suits)
 
   pub step_keeps : StepsLaw V → BegunLaw V → EventsStay V → BeginsWithNothing V → (o : Contents V) (w : World V) (a : ℕ) (r s : TxActor V)
-      → is_loading (stage_of r.stage) ≡ false → ((asked : Asked V) → stage_of r.stage ≡ Copying asked → ⊥) → KeepsCopies r s
+      → is_loading (stage_of r.stage) ≡ false → ((asked : CollectionCall V) → stage_of r.stage ≡ Copying asked → ⊥) → KeepsCopies r s
       → IsReached o w → Runs a r w → Runs a s (happens w (Step a)).0 → HasCopies r w a → HasCopies s (happens w (Step a)).0 a
   step_keeps steps begun stays begins o w a r s quiet calm keep reached runs after h =
       let x = w.seats a in
@@ -211,8 +211,8 @@ module _ {V : Type 0} where
   ask_stays w a x r q stage.Idle p h = tt
   ask_stays w a x r q t p h = h
 
-  asked_reads : StaysLaw V → JoinsLaw V → (w : World V) (a : ℕ) (asked : Option (Asked V)) (f : After V) → StaysAsked w a asked f
-      → (k : ℕ) (c : Option (Copied V)) → IsReadOf w a k c → IsReadOf f.0 a k c
+  asked_reads : StaysLaw V → JoinsLaw V → (w : World V) (a : ℕ) (asked : Option (CollectionCall V)) (f : After V) → StaysAsked w a asked f
+      → (k : ℕ) (c : Option (PrivateCopy V)) → IsReadOf w a k c → IsReadOf f.0 a k c
   asked_reads stay join w a None f is k c = (stay w f.0 a k c is).1
   asked_reads stay join w a (Some asked) f (inl is) k c = (stay w f.0 a k c is.0).1
   asked_reads stay join w a (Some asked) f (inr is) k c = (join w f.0 a k (outcome_at w a asked) c is.0).1
@@ -230,7 +230,7 @@ module _ {V : Type 0} where
   Apart r s = r.stage ≢ stage.Open → (s.stage ≡ stage.Beginning) ⊎ (s ≡ r)
 
   pub ask_keeps : EventsStay V → StaysLaw V → JoinsLaw V → AskedLaw V → AllLaw V → CallsLaw V → (b : BlocksView) (o : Contents V)
-      (w : World V) (a : ℕ) (q : Request V) (r s : TxActor V) (n : Told V)
+      (w : World V) (a : ℕ) (q : Request V) (r s : TxActor V) (n : ActorNotice V)
       → AsksAt b r s n (λ a w. ask_at w a (seat_of r) (stage_of r.stage) q) → ReadsStill r.copies.items s.copies.items → Apart r s
       → IsReached o w → IsLaid b w → Runs a r w → IsRunning b s → HasCopies r w a → HasCopies s (happens w (Ask a q)).0 a
   ask_keeps stays stay join asked all calls b o w a q r s n asks still apart reached laid runs running h =
@@ -254,7 +254,7 @@ module _ {V : Type 0} where
         ]
       ]
 
-  pub ask_runs : CallsLaw V → (v : BlocksView) (o : Contents V) (w : World V) (a : ℕ) (q : Request V) (r s : TxActor V) (n : Told V)
+  pub ask_runs : CallsLaw V → (v : BlocksView) (o : Contents V) (w : World V) (a : ℕ) (q : Request V) (r s : TxActor V) (n : ActorNotice V)
       → AsksAt v r s n (λ a w. ask_at w a (seat_of r) (stage_of r.stage) q) → IsReached o w → IsLaid v w → Runs a r w → HasCopies r w a
       → Runs a s (happens w (Ask a q)).0 × (notice_of a n ≡ (happens w (Ask a q)).1)
   ask_runs calls v o w a q r s n h reached laid runs copies =
@@ -275,7 +275,7 @@ module _ {V : Type 0} where
   }
 
   -- ---- a store that was not asked for
-  ready_same : (t : own.Stage V) (ks : List ℕ) (cs : List (CopyOf V)) → stage_of t ≡ Ready ks
+  ready_same : (t : own.Stage V) (ks : List ℕ) (cs : List (CopyOfCollection V)) → stage_of t ≡ Ready ks
       → KeepsFrom t t cs cs × (t ≡ stage.Beginning → ⊥)
   ready_same (stage.Ready homes) ks cs e = ((tt, refl), λ q. let z : ⊥ = cc in z)
   ready_same t ks cs e = let z : ⊥ = cc in absurd z

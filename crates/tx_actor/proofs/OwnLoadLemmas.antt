@@ -28,48 +28,48 @@ use Rattle.actor_parts.specs.Dispatch.{is_loading}
 use Rattle.actor_parts.specs.Judged.{judged, left_after}
 use Rattle.actor_parts.specs.declared.judged.Judged.{Judged}
 use Rattle.actor_parts.specs.declared.judged.Judged.TheVariants.{All, Next, Stale}
-use Rattle.actor_parts.specs.declared.copies.Copied.{Copied}
-use Rattle.actor_parts.specs.declared.copies.CopyOf.{CopyOf}
-use Rattle.actor_parts.specs.Copied.{IsReadBy, IsReadOf}
-use Rattle.actor_parts.specs.Copies.{answer_of, answered_on}
-use Rattle.actor_parts.specs.Keeps.{IsOwnCopy}
-use Rattle.actor_parts.specs.Kept.{copy_of}
-use Rattle.actor_parts.specs.Loading.{AreRead, IsDoomed, LoadsIn}
+use Rattle.actor_parts.specs.declared.copies.PrivateCopy.{PrivateCopy}
+use Rattle.actor_parts.specs.declared.copies.CopyOfCollection.{CopyOfCollection}
+use Rattle.actor_parts.specs.CopyAtGate.{IsReadBy, IsReadOf}
+use Rattle.actor_parts.specs.PrivateCopy.{answer_of, answered_on}
+use Rattle.actor_parts.specs.CopyInWorld.{IsOwnCopy}
+use Rattle.actor_parts.specs.CopyList.{copy_of}
+use Rattle.actor_parts.specs.LoadInWorld.{AreRead, IsDoomed, LoadsIn}
 use Rattle.actor_parts.specs.Owns.{IsOwn}
-use Rattle.actor_parts.specs.Staying.{EventsStay, IsUnanswered, Joins, LoadStays, StaysOrJoins, StepStays}
-use Rattle.actor_parts.proofs.LoadingLemmas.{doomed_more, loads_reached}
+use Rattle.actor_parts.specs.CopiesAfterEvent.{EventsStay, IsUnanswered, Joins, LoadStays, StaysOrJoins, StepStays}
+use Rattle.actor_parts.proofs.LoadInWorldLemmas.{doomed_more, loads_reached}
 use Rattle.actor_parts.proofs.OutcomeLemmas.{answered_op}
-use Rattle.tx_actor.specs.declared.actor.Answered as running
+use Rattle.tx_actor.specs.declared.actor.CallWithOutcome as running
 use Rattle.tx_actor.specs.declared.actor.Stage as own
 use Rattle.tx_actor.specs.declared.actor.Stage.TheVariants as stage
-use Rattle.tx_actor.specs.declared.actor.Told.{Told}
-use Rattle.tx_actor.specs.declared.actor.Told.TheVariants as told
+use Rattle.tx_actor.specs.declared.actor.ActorNotice.{ActorNotice}
+use Rattle.tx_actor.specs.declared.actor.ActorNotice.TheVariants as told
 use Rattle.tx_actor.specs.declared.actor.TxActor.{TxActor}
-use Rattle.tx_actor.specs.Having.{HasAccepted, HasCopies, HasCopiesAt, HasFound, HasGone, HasLoaded, IsAsBefore, OwnsAll, OwnsLoading}
-use Rattle.tx_actor.specs.Having.{ReadsOn}
-use Rattle.tx_actor.specs.Loading.{OwnsCall}
+use Rattle.tx_actor.specs.CopiesByStage.{HasAccepted, HasCopies, HasCopiesAt, HasFound, HasGone, HasLoaded, IsAsBefore, OwnsAll, OwnsLoading}
+use Rattle.tx_actor.specs.CopiesByStage.{ReadsOn}
+use Rattle.tx_actor.specs.LoadInWorld.{OwnsCall}
 use Rattle.tx_actor.specs.Running.{Runs, answered_of, notice_of, outcome_in, stage_in, stage_of, with_outcome}
-use Rattle.tx_actor.specs.Staying.{LoadsStayOwn}
-use Rattle.tx_actor.proofs.HavingLemmas.{still_after}
-use Rattle.tx_actor.proofs.HearLemmas.{may_answer, never}
-use Rattle.tx_actor.proofs.OwnsLemmas.{owns_accepted}
+use Rattle.tx_actor.specs.CopiesAfterStep.{LoadsStayOwn}
+use Rattle.tx_actor.proofs.CopiesByStageLemmas.{still_after}
+use Rattle.tx_actor.proofs.LoadInWorldLemmas.{may_answer, never}
+use Rattle.tx_actor.proofs.CopyListLemmas.{owns_accepted}
 use Rattle.tx_actor.proofs.RunsLemmas.{seat_stage}
 use Rattle.tx_actor.proofs.StageLemmas.{StaysLaw, has_nothing, loading_moves}
 
 -- what remains of a collection where an outcome joins the shadow
 abbrev pub JoinsLaw : Type 0 → Type 0
 JoinsLaw V =
-    (w v : World V) (a k : ℕ) (o : contents.Answered V) (c : Option (Copied V)) → Joins w v a o
+    (w v : World V) (a k : ℕ) (o : contents.CallWithOutcome V) (c : Option (PrivateCopy V)) → Joins w v a o
     → (o.asked.collection ≢ k → IsOwn w a k c → IsOwn v a k c) × (IsReadOf w a k c → IsReadOf v a k c)
 
 module _ {V : Type 0} where
   -- ---- what is answered
-  quiet_stays : (z : World V) (a : ℕ) (p : contents.Answered V) (f : After V) (t : Told V) → t ≡ told.Quiet → notice_of a t ≡ f.1
+  quiet_stays : (z : World V) (a : ℕ) (p : contents.CallWithOutcome V) (f : After V) (t : ActorNotice V) → t ≡ told.Quiet → notice_of a t ≡ f.1
       → StaysOrJoins z a p f → StaysOrJoins z a p (f.0, Quiet)
   quiet_stays z a p f t quiet e h = subst (λ (n : Notice V). StaysOrJoins z a p (f.0, n)) (sym e ∙ ap (notice_of a) quiet) h
 
   -- ---- what the call has is the actor's own, where all of it has been read
-  whole : (r : TxActor V) (z : World V) (a : ℕ) (o : running.Answered V) (all : Entries) → OwnsLoading r z a o all
+  whole : (r : TxActor V) (z : World V) (a : ℕ) (o : running.CallWithOutcome V) (all : Entries) → OwnsLoading r z a o all
       → AreRead (actor_of z a).calls all → OwnsAll r z a
   whole r z a o all h are =
       let j = o.asked.collection in
@@ -95,8 +95,8 @@ module _ {V : Type 0} where
       }
 
   -- ---- what the call results in
-  module _ (stays : StaysLaw V) (joins : JoinsLaw V) (z : World V) (a : ℕ) (r u : TxActor V) (t : Told V) (o : running.Answered V)
-      (p : contents.Answered V) (es all : Entries) (f : After V) (h : OwnsLoading r z a o all)
+  module _ (stays : StaysLaw V) (joins : JoinsLaw V) (z : World V) (a : ℕ) (r u : TxActor V) (t : ActorNotice V) (o : running.CallWithOutcome V)
+      (p : contents.CallWithOutcome V) (es all : Entries) (f : After V) (h : OwnsLoading r z a o all)
       (doomed : IsDoomed (actor_of z a).calls all → IsDoomed (actor_of z a).calls (left_after r.words.reads.entries es))
       (passed : (cs : List Call) → ((l e : ℕ) → first_read (actor_of z a).calls l ≡ Some e → first_read cs l ≡ Some e)
       → AreRead cs (left_after r.words.reads.entries es) → AreRead cs all)
@@ -125,7 +125,7 @@ module _ {V : Type 0} where
               h.call.call_on.outcome i;
         })
 
-        of : (c : CopyOf V) → slice_get r.copies.items o.place ≡ Some c → (c.collection ≡ j) × (answer_of c.copied q.op ≡ Some q)
+        of : (c : CopyOfCollection V) → slice_get r.copies.items o.place ≡ Some c → (c.collection ≡ j) × (answer_of c.copied q.op ≡ Some q)
         of c at =
             let g = got.own c at in
             let e : Some g.0 ≡ Some q = sym g.1 ∙ h.call.call_on.outcome in
@@ -136,7 +136,7 @@ module _ {V : Type 0} where
             let n : notice_of a (told.Answered (Replied o.told)) ≡ f.1 = ap (notice_of a) (sym got.told) ∙ tells in
             absurd (subst IsUnanswered (sym n) st.1)
         by (inr st) =
-            let law : (k : ℕ) (c : Option (Copied V)) → IsReadOf z a k c → IsReadOf f.0 a k c = λ k c. (joins z f.0 a k p c st.0).1 in
+            let law : (k : ℕ) (c : Option (PrivateCopy V)) → IsReadOf z a k c → IsReadOf f.0 a k c = λ k c. (joins z f.0 a k p c st.0).1 in
             let shadow = st.0.1 ∙ ap (longer (z.boosted.shadows a)) outcome in
             subst (HasCopiesAt u f.0 a) (sym got.stage) (record {
               own = owns_accepted z f.0 a j q r u o.place o.outcome (st.0.0.words, st.0.0.blocks, shadow) h.call.call_on.outcome got.at of
@@ -172,7 +172,7 @@ module _ {V : Type 0} where
 
   -- ---- the load
   module _ (stays : StaysLaw V) (joins : JoinsLaw V) (events_stay : EventsStay V) (blocks : List Block) (clock : ℕ) (values : List ℕ)
-      (held : List (Held V)) (events : List (Event V)) (a : ℕ) (r u : TxActor V) (t : Told V) (stripes : HaveStripes blocks) where
+      (held : List (Held V)) (events : List (Event V)) (a : ℕ) (r u : TxActor V) (t : ActorNotice V) (stripes : HaveStripes blocks) where
     abbrev w : World V
     w = run (opened blocks clock values held) events
 
@@ -186,12 +186,12 @@ module _ {V : Type 0} where
       abbrev x : Option (Outcome V)
       x = outcome_in (w.seats a).stage
 
-      there : (call : running.Answered V) (left : VecDeque (ℕ × ℕ) Global) → r.stage ≡ stage.Loading call left
+      there : (call : running.CallWithOutcome V) (left : VecDeque (ℕ × ℕ) Global) → r.stage ≡ stage.Loading call left
           → (w.seats a).stage ≡ Loading (with_outcome call x) left.items
       there call left is =
           ap (λ (q : Seat V). q.stage) runs.0 ∙ (seat_stage (z.seats a) r ∙ ap (stage_in (w.seats a).stage) is)
 
-      module _ (call : running.Answered V) (left : Entries) (st : (w.seats a).stage ≡ Loading (with_outcome call x) left)
+      module _ (call : running.CallWithOutcome V) (left : Entries) (st : (w.seats a).stage ≡ Loading (with_outcome call x) left)
           (h : OwnsLoading r w a call left) where
         load : LoadStays w a (with_outcome call x) f
         load = subst (λ (s : Stage V). StepStays w a s f) st (events_stay blocks clock values held events (Step a) stripes)
@@ -236,13 +236,13 @@ module _ {V : Type 0} where
                 loads_reached blocks clock values held events a (with_outcome call x) d es stripes (st
                 ∙ ap (Loading (with_outcome call x)) e) n
 
-      stands : (call : running.Answered V) (left : VecDeque (ℕ × ℕ) Global) → r.stage ≡ stage.Loading call left
+      stands : (call : running.CallWithOutcome V) (left : VecDeque (ℕ × ℕ) Global) → r.stage ≡ stage.Loading call left
           → OwnsLoading r w a call left.items → IsAsBefore r u t → HasCopies u f.0 a
       stands call left is h same =
           subst (λ (q : TxActor V). HasCopiesAt q f.0 a q.stage) (sym same.0)
           (subst (HasCopiesAt r f.0 a) (sym is) (as_before call left.items (there call left is) h same.0 same.1))
 
-      judges : (call : running.Answered V) (left : VecDeque (ℕ × ℕ) Global) (es : Entries) (v : ℕ) → r.stage ≡ stage.Loading call left
+      judges : (call : running.CallWithOutcome V) (left : VecDeque (ℕ × ℕ) Global) (es : Entries) (v : ℕ) → r.stage ≡ stage.Loading call left
           → OwnsLoading r w a call left.items → left.items ≡ es → word_notice w a ≡ notice.Number v → HasFound r u t call es v
           → HasCopies u f.0 a
       judges call left [] v is h e n got = stands call left is h got
@@ -250,7 +250,7 @@ module _ {V : Type 0} where
           found call left.items (there call left is) h d es e (n ∙ ap notice.Number (sym got.0)) got.1
       judges call left (d ∷ es) v is h e n (inr got) = has_nothing u f.0 a got.1
 
-      hears : (call : running.Answered V) (left : VecDeque (ℕ × ℕ) Global) (n : notice.Notice) → r.stage ≡ stage.Loading call left
+      hears : (call : running.CallWithOutcome V) (left : VecDeque (ℕ × ℕ) Global) (n : notice.Notice) → r.stage ≡ stage.Loading call left
           → OwnsLoading r w a call left.items → word_notice w a ≡ n → HasLoaded r u t (stage.Loading call left) n → HasCopies u f.0 a
       hears call left (notice.Number v) is h e got = judges call left left.items v is h refl e got
       hears call left (notice.Moved l word) is h e (inl got) = has_nothing u f.0 a got

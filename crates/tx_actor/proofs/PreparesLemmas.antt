@@ -6,42 +6,43 @@ use Rattle.std.proofs.Common.{Option, Some, None, refl, sym, ap, subst, ◌∙�
 use Rattle.std.specs.Prelude.{slice_get}
 use Rattle.std.specs.Vec.{vec_capacity, vec_len}
 use Rattle.std.proofs.Math.ListN.{set}
+use Rattle.std.proofs.lemmas.Option.{same_Some}
 use Rattle.tx_sets.specs.Entries.{Entries, locations}
 use Rattle.tx_machine.specs.Actor as machine
 use Rattle.seq_model.specs.declared.call.Op.{Op}
 use Rattle.conflict.specs.declared.outcome.Outcome.{Outcome}
-use Rattle.replay_log.specs.Contents.{Answered as Outcomes, shifted}
+use Rattle.replay_log.specs.Contents.{CallWithOutcome as Outcomes, shifted}
 use Rattle.replay_log.specs.Pieces.{Piece}
 use Rattle.replay_log.specs.Worlds as worlds
 use Rattle.replay_log.specs.Worlds.{World, is_change, new_in, reply_of}
 use Rattle.replay_log.proofs.CountLemmas.{locations-cons}
-use Rattle.tx_actor.specs.declared.actor.Answered as running
-use Rattle.actor_parts.specs.declared.copies.CopyOf.{CopyOf}
+use Rattle.tx_actor.specs.declared.actor.CallWithOutcome as running
+use Rattle.actor_parts.specs.declared.copies.CopyOfCollection.{CopyOfCollection}
 use Rattle.tx_actor.specs.declared.actor.TxActor.{TxActor}
-use Rattle.actor_parts.specs.declared.copies.Copied.{Copied}
+use Rattle.actor_parts.specs.declared.copies.PrivateCopy.{PrivateCopy}
 use Rattle.tx_actor.specs.Answers.{CanAccept, IsPrepared}
-use Rattle.actor_parts.specs.Copies.{IsKept, IsReady, answer_of, holds_call}
+use Rattle.actor_parts.specs.PrivateCopy.{IsKept, IsReady, answer_of, holds_call}
 use Rattle.actor_parts.specs.Footprints.{known_edition, reads_in, with_known, writes_in}
-use Rattle.tx_actor.specs.Having.{ReadsStill}
+use Rattle.tx_actor.specs.CopiesByStage.{ReadsStill}
 use Rattle.tx_actor.specs.Owns.{OwnsCopies}
 use Rattle.tx_actor.specs.declared.prepares.Prepared.{Prepared}
 use Rattle.tx_actor.specs.Prepares.{HasRoomFor, IsAlike, IsReadyCall, MayPrepare, fits}
 use Rattle.tx_actor.specs.Running.{answered_of, asked_of, seat_of, stage_of}
-use Rattle.actor_parts.specs.Kept.{copy_of, has_piece}
+use Rattle.actor_parts.specs.CopyList.{copy_of, has_piece}
 use Rattle.actor_parts.specs.Writes.{MayWrite, with_next}
 use Rattle.actor_parts.proofs.BlocksLemmas.{up_to}
 use Rattle.actor_parts.proofs.AlikeLemmas.{KeptOf, all_kept, kept_answers, kept_at, kept_copy, kept_has, kept_holds, kept_length}
 use Rattle.actor_parts.proofs.AlikeLemmas.{kept_once, kept_own, kept_reads, read_of_kept}
 use Rattle.actor_parts.proofs.OutcomeLemmas.{answered_op, writes_nothing}
-use Rattle.actor_parts.proofs.TakingLemmas.{at_place, some_copy}
+use Rattle.actor_parts.proofs.TakeBackLemmas.{at_place}
 
-next_locations : {V : Type 0} → (c : Copied V) (f : ℕ) (ls : List ℕ) → locations (with_next c f ls) ≡ shifted f ls
+next_locations : {V : Type 0} → (c : PrivateCopy V) (f : ℕ) (ls : List ℕ) → locations (with_next c f ls) ≡ shifted f ls
 unfolding locations
 next_locations c f [] = refl
 next_locations c f (l ∷ ls) = locations-cons (f + l, known_edition c l + 1) (with_next c f ls)
     ∙ ap (λ is. (f + l) ∷ is) (next_locations c f ls)
 
-pub known_length : {V : Type 0} → (c : Copied V) (f : ℕ) (ls : List ℕ) → length (with_known c f ls) ≡ length ls
+pub known_length : {V : Type 0} → (c : PrivateCopy V) (f : ℕ) (ls : List ℕ) → length (with_known c f ls) ≡ length ls
 known_length c f [] = refl
 known_length c f (l ∷ ls) = ap suc (known_length c f ls)
 
@@ -67,14 +68,11 @@ undeclared true ds none lt =
     absurd (omega (arith, len, lt))
 
 module _ {V : Type 0} where
-  pub same_outcome : (o p : Outcome V) → Some o ≡ Some p → o ≡ p
-  same_outcome o p e = cc
-
   -- what is put there is there
-  pub ready_at : (cs : List (CopyOf V)) (i : ℕ) (c e d : CopyOf V) (o : Outcome V) → slice_get cs i ≡ Some c → IsReady o e.copied
+  pub ready_at : (cs : List (CopyOfCollection V)) (i : ℕ) (c e d : CopyOfCollection V) (o : Outcome V) → slice_get cs i ≡ Some c → IsReady o e.copied
       → slice_get (set cs i e) i ≡ Some d → IsReady o d.copied
   ready_at [] i c e d o at is there = let h : ⊥ = cc in absurd h
-  ready_at (x ∷ cs) zero c e d o at is there = subst (λ (z : CopyOf V). IsReady o z.copied) (some_copy e d there) is
+  ready_at (x ∷ cs) zero c e d o at is there = subst (λ (z : CopyOfCollection V). IsReady o z.copied) (same_Some e d there) is
   ready_at (x ∷ cs) (suc i) c e d o at is there = ready_at cs i c e d o at is there
 
   pub alike_itself : (r : TxActor V) → IsAlike r r
@@ -112,7 +110,7 @@ module _ {V : Type 0} where
       }
 
   -- ---- what is ready
-  may_write : (r u : TxActor V) (i f : ℕ) (op : Op V) (c : Copied V) (o : Outcome V) (ds : Entries) (n : ℕ) → IsAlike r u
+  may_write : (r u : TxActor V) (i f : ℕ) (op : Op V) (c : PrivateCopy V) (o : Outcome V) (ds : Entries) (n : ℕ) → IsAlike r u
       → MayPrepare r i f op → HasRoomFor u i o n (length ds) → answer_of c op ≡ Some o → fits r f c o ≡ true
       → ds ≡ with_next c f (writes_in c o) → MayWrite u.words ds
   may_write r u i f op c o ds n alike may room answer fit is =
@@ -146,7 +144,7 @@ module _ {V : Type 0} where
         small r.words.declared refl,
       )
 
-  accept_by : (r u : TxActor V) (i f : ℕ) (op : Op V) (c : CopyOf V) (o : Outcome V) (call : running.Answered V) (n : ℕ) → IsAlike r u
+  accept_by : (r u : TxActor V) (i f : ℕ) (op : Op V) (c : CopyOfCollection V) (o : Outcome V) (call : running.CallWithOutcome V) (n : ℕ) → IsAlike r u
       → MayPrepare r i f op → HasRoomFor u i o n (length call.writes.items) → slice_get r.copies.items i ≡ Some c
       → answer_of c.copied op ≡ Some o → fits r f c.copied o ≡ true → call.writes.items ≡ with_next c.copied f (writes_in c.copied o)
       → call.outcome ≡ Some o → call.place ≡ i → call.asked.collection ≡ c.collection → call.asked.op ≡ op
@@ -154,11 +152,11 @@ module _ {V : Type 0} where
   accept_by r u i f op c o call n alike may room at answer fit writes is place collection same told =
       let reply : o.reply ≡ reply_of (answered_of call) =
       sym (ap (λ q. reply_of (let p : Outcomes V = record { asked = asked_of call.asked; outcome = q } in p)) is) in
-      let here : (d : CopyOf V) → slice_get u.copies.items call.place ≡ Some d
+      let here : (d : CopyOfCollection V) → slice_get u.copies.items call.place ≡ Some d
       → (d.collection ≡ c.collection) × IsKept c.copied d.copied = λ d there. (
       let before = kept_at r.copies.items u.copies.items i d alike.copies (ap (slice_get u.copies.items) (sym place) ∙ there) in
-      let e : before.0 ≡ c = some_copy before.0 c (sym before.1 ∙ at) in
-      (before.2 ∙ ap (λ (z : CopyOf V). z.collection) e, subst (λ (z : CopyOf V). IsKept z.copied d.copied) e before.3)) in
+      let e : before.0 ≡ c = same_Some before.0 c (sym before.1 ∙ at) in
+      (before.2 ∙ ap (λ (z : CopyOfCollection V). z.collection) e, subst (λ (z : CopyOfCollection V). IsKept z.copied d.copied) e before.3)) in
       let held = may.held c at in
       record {
         writes = may_write r u i f op c.copied o call.writes.items n alike may room answer fit writes;
@@ -166,13 +164,13 @@ module _ {V : Type 0} where
         place = subst (λ (j : ℕ). j < length u.copies.items) (sym place)
             (subst (λ (m : ℕ). i < m) (sym (kept_length r.copies.items u.copies.items alike.copies)) may.there);
         ready = λ d x there out. (
-            let e : o ≡ x = same_outcome o x (sym is ∙ out) in
+            let e : o ≡ x = same_Some o x (sym is ∙ out) in
             let kept_d = here d there in (
               subst (λ q. IsReady q d.copied) e (room.ready d (ap (slice_get u.copies.items) (sym place) ∙ there)),
               kept_holds c.copied d.copied x.op kept_d.1
                   ∙ (ap (holds_call c.copied) (ap (λ (q : Outcome V). q.op) (sym e) ∙ answered_op c.copied op o answer) ∙ held),
             ));
-        kept = λ x out. ap (λ (q : Outcome V). q.reply) (same_outcome x o (sym out ∙ is)) ∙ reply;
+        kept = λ x out. ap (λ (q : Outcome V). q.reply) (same_Some x o (sym out ∙ is)) ∙ reply;
         told = told ∙ reply;
         own = λ d there. (
             let kept_d = here d there in (
@@ -183,20 +181,20 @@ module _ {V : Type 0} where
             ));
       }
 
-  pub prepared_by : (r u : TxActor V) (i f : ℕ) (op : Op V) (c : CopyOf V) (o : Outcome V) (call : running.Answered V) (n : ℕ) → IsAlike r u
+  pub prepared_by : (r u : TxActor V) (i f : ℕ) (op : Op V) (c : CopyOfCollection V) (o : Outcome V) (call : running.CallWithOutcome V) (n : ℕ) → IsAlike r u
       → MayPrepare r i f op → HasRoomFor u i o n (length call.writes.items) → slice_get r.copies.items i ≡ Some c
       → answer_of c.copied op ≡ Some o → fits r f c.copied o ≡ true → call.writes.items ≡ with_next c.copied f (writes_in c.copied o)
       → call.outcome ≡ Some o → call.place ≡ i → call.asked.collection ≡ c.collection → call.asked.op ≡ op
       → call.told ≡ o.reply → n ≡ length (reads_in c.copied o) → IsPrepared u call
   prepared_by r u i f op c o call n alike may room at answer fit writes is place collection same told count =
-      let many : (d : CopyOf V) (x : Outcome V) → slice_get u.copies.items call.place ≡ Some d → call.outcome ≡ Some x
+      let many : (d : CopyOfCollection V) (x : Outcome V) → slice_get u.copies.items call.place ≡ Some d → call.outcome ≡ Some x
       → length (reads_in d.copied x) ≡ n = λ d x there out. (
       let before = kept_at r.copies.items u.copies.items i d alike.copies (ap (slice_get u.copies.items) (sym place) ∙ there) in
-      let e : before.0 ≡ c = some_copy before.0 c (sym before.1 ∙ at) in
-      let made : x ≡ o = same_outcome x o (sym out ∙ is) in
+      let e : before.0 ≡ c = same_Some before.0 c (sym before.1 ∙ at) in
+      let made : x ≡ o = same_Some x o (sym out ∙ is) in
       ap (λ (q : Outcome V). length (reads_in d.copied q)) made
       ∙ (ap (λ (ls : List ℕ). length ls) (kept_reads before.0.copied d.copied o before.3)
-      ∙ (ap (λ (z : CopyOf V). length (reads_in z.copied o)) e ∙ sym count))) in
+      ∙ (ap (λ (z : CopyOfCollection V). length (reads_in z.copied o)) e ∙ sym count))) in
       let calls = room.word_calls in
       record {
         accept = accept_by r u i f op c o call n alike may room at answer fit writes is place collection same told;
@@ -213,18 +211,18 @@ module _ {V : Type 0} where
       (kept_copy r.copies.items u.copies.items k h.copies) is
 
   -- what there is of a collection is kept
-  some_kept : (c : Copied V) (p : Option (Copied V)) → KeptOf (Some c) p → (d : Copied V) × (p ≡ Some d) × IsKept c d
+  some_kept : (c : PrivateCopy V) (p : Option (PrivateCopy V)) → KeptOf (Some c) p → (d : PrivateCopy V) × (p ≡ Some d) × IsKept c d
   some_kept c None h = absurd h
   some_kept c (Some d) h = (d, refl, h)
 
-  pub there_kept : (r u : TxActor V) (k : ℕ) (c : Copied V) → IsAlike r u → copy_of r.copies.items k ≡ Some c
-      → (d : Copied V) × (copy_of u.copies.items k ≡ Some d) × IsKept c d
+  pub there_kept : (r u : TxActor V) (k : ℕ) (c : PrivateCopy V) → IsAlike r u → copy_of r.copies.items k ≡ Some c
+      → (d : PrivateCopy V) × (copy_of u.copies.items k ≡ Some d) × IsKept c d
   there_kept r u k c h at =
       some_kept c (copy_of u.copies.items k)
-      (subst (λ (o : Option (Copied V)). KeptOf o (copy_of u.copies.items k)) at (kept_copy r.copies.items u.copies.items k h.copies))
+      (subst (λ (o : Option (PrivateCopy V)). KeptOf o (copy_of u.copies.items k)) at (kept_copy r.copies.items u.copies.items k h.copies))
 
   -- the room for the reads of a call that is made ready
-  pub reads_there : (r u : TxActor V) (i f : ℕ) (op : Op V) (c : CopyOf V) (p : Prepared V) → slice_get r.copies.items i ≡ Some c
+  pub reads_there : (r u : TxActor V) (i f : ℕ) (op : Op V) (c : CopyOfCollection V) (p : Prepared V) → slice_get r.copies.items i ≡ Some c
       → IsAlike r u
       → IsReadyCall r u i f op c p
       → (vec_len u.words.calls + (length p.left.items + length p.call.writes.items) ≤ vec_capacity u.words.calls)
@@ -233,11 +231,11 @@ module _ {V : Type 0} where
       let o = ready.outcome in
       let d = at_place u.copies.items p.call.place ready.prepared.accept.place in
       let before = kept_at r.copies.items u.copies.items i d.0 alike.copies (ap (slice_get u.copies.items) (sym ready.at) ∙ d.1) in
-      let e : before.0 ≡ c = some_copy before.0 c (sym before.1 ∙ at) in
+      let e : before.0 ≡ c = same_Some before.0 c (sym before.1 ∙ at) in
       let same : length p.left.items ≡ length (reads_in d.0.copied o) =
       ap (λ (es : Entries). length es) ready.left
       ∙ (known_length c.copied f (reads_in c.copied o)
-      ∙ (ap (λ (z : CopyOf V). length (reads_in z.copied o)) (sym e)
+      ∙ (ap (λ (z : CopyOfCollection V). length (reads_in z.copied o)) (sym e)
       ∙ ap (λ (ls : List ℕ). length ls) (sym (kept_reads before.0.copied d.0.copied o before.3)))) in
       let calls = ready.prepared.calls d.0 o d.1 ready.is in (
         omega (arith, calls, same),

@@ -26,14 +26,14 @@ use Rattle.step_core.specs.declared.actor.Place.{Place}
 use Rattle.step_core.specs.declared.actor.Place.TheVariants as place
 use Rattle.actor_parts.specs.Blocks.{BlocksView}
 use Rattle.actor_parts.specs.Dispatch.{is_loading}
-use Rattle.tx_actor.specs.declared.actor.Answered as running
+use Rattle.tx_actor.specs.declared.actor.CallWithOutcome as running
 use Rattle.tx_actor.specs.declared.actor.Stage.{Stage}
 use Rattle.tx_actor.specs.declared.actor.Stage.TheVariants as stage
 use Rattle.tx_actor.specs.declared.actor.TxActor.{TxActor}
 use Rattle.tx_actor.specs.Answers.{CanAccept, CanLoad, HasRoomToLoad, IsLoadOf, at_rest}
 use Rattle.tx_actor.specs.Dispatch.{HasRoom}
-use Rattle.tx_actor.specs.Keeping.{CanGoOn, CanGoOnBehind, HeardAt, IsCallAt, IsCallOf, IsSome, NamesAmong}
-use Rattle.tx_actor.specs.Loads.{IsLoadable}
+use Rattle.tx_actor.specs.ActorBounds.{CanGoOn, CanGoOnBehind, HeardAt, IsCallAt, IsCallOf, IsSome, NamesAmong}
+use Rattle.tx_actor.specs.LoadStep.{IsLoadable}
 use Rattle.tx_actor.specs.Reading.{LoadsKeep}
 use Rattle.tx_actor.specs.Running.{stage_of}
 use Rattle.tx_actor.proofs.RoomLemmas.{one_more}
@@ -132,7 +132,7 @@ room_behind n x y d es m e fits k is h =
 
 module _ {V : Type 0} where
   -- ---- the call
-  accepts_still : (r : TxActor V) (y : Actor) (o : running.Answered V) (es : Entries) → KeepsRoom r.words y → taken_at y.place ≡ 0
+  accepts_still : (r : TxActor V) (y : Actor) (o : running.CallWithOutcome V) (es : Entries) → KeepsRoom r.words y → taken_at y.place ≡ 0
       → SameTx (words.actor_of r.words) (words.actor_of y) → HasRoomToLoad r.words es (length o.writes.items) → CanAccept (at_rest r) o
       → CanAccept (at_rest (record r { words = y })) o
   accepts_still r y o es k none same room h =
@@ -157,7 +157,7 @@ module _ {V : Type 0} where
         own = h.own;
       }
 
-  accepts_behind : (r : TxActor V) (y : Actor) (o : running.Answered V) (d : ℕ × ℕ) (es : Entries) (e : ℕ) → KeepsRoom r.words y
+  accepts_behind : (r : TxActor V) (y : Actor) (o : running.CallWithOutcome V) (d : ℕ × ℕ) (es : Entries) (e : ℕ) → KeepsRoom r.words y
       → HasReadOne r.words y d e → HasRoomToLoad r.words (d ∷ es) (length o.writes.items) → CanAccept (at_rest r) o
       → CanAccept (record r { words = y }) o
   accepts_behind r y o d es e k is room h =
@@ -184,7 +184,7 @@ module _ {V : Type 0} where
       }
 
   -- ---- what was answered
-  rest_of : (v : BlocksView) (r : TxActor V) (y : Actor) (o : running.Answered V) (d : ℕ × ℕ) (es left : Entries) → left ≡ d ∷ es
+  rest_of : (v : BlocksView) (r : TxActor V) (y : Actor) (o : running.CallWithOutcome V) (d : ℕ × ℕ) (es left : Entries) → left ≡ d ∷ es
       → IsCallOf v r.copies.items o left → IsCallOf v r.copies.items o es
   rest_of v r y o d es left first h = record {
     reads = λ i e lt. subst (λ (ds : Entries). All (λ c. c.0 < end_of v.words v.blocks) ds) first h.reads (suc i) e
@@ -196,7 +196,7 @@ module _ {V : Type 0} where
     call_on = h.call_on;
   }
 
-  module _ (v : BlocksView) (r : TxActor V) (y : Actor) (o : running.Answered V) (left : VecDeque (ℕ × ℕ) Global) (d : ℕ × ℕ) (es : Entries)
+  module _ (v : BlocksView) (r : TxActor V) (y : Actor) (o : running.CallWithOutcome V) (left : VecDeque (ℕ × ℕ) Global) (d : ℕ × ℕ) (es : Entries)
       (first : left.items ≡ d ∷ es) (fits : Fits (end_of v.words v.blocks) r.words) (keeps : KeepsRoom r.words y)
       (can : CanLoad r o (d ∷ es)) (named : o.asked.collection < length v.blocks) (call : IsCallOf v r.copies.items o left.items) where
     abbrev u : TxActor V

@@ -34,25 +34,25 @@ use Rattle.actor_parts.specs.Dispatch.{is_loading}
 use Rattle.actor_parts.specs.Judged.{judged, judged_one, left_after, left_one}
 use Rattle.actor_parts.specs.Requests.{HasNoReads, KeepsAt}
 use Rattle.actor_parts.proofs.BlocksLemmas.{up_to}
-use Rattle.actor_parts.specs.declared.copies.Copied.{Copied}
-use Rattle.actor_parts.specs.Copies.{answer_of, holds_call}
-use Rattle.actor_parts.specs.Footprints.{base_in, known_edition, places_in, reads_in, with_known, writes_in}
-use Rattle.actor_parts.specs.Kept.{copy_of}
+use Rattle.actor_parts.specs.declared.copies.PrivateCopy.{PrivateCopy}
+use Rattle.actor_parts.specs.PrivateCopy.{answer_of, holds_call}
+use Rattle.actor_parts.specs.Footprints.{base_in, known_edition, location_count, reads_in, with_known, writes_in}
+use Rattle.actor_parts.specs.CopyList.{copy_of}
 use Rattle.actor_parts.specs.Owns.{AreOfBlocks}
 use Rattle.actor_parts.specs.Writes.{MayWrite, with_next, written_as}
 use Rattle.actor_parts.proofs.CallingLemmas.{not_read}
 use Rattle.actor_parts.proofs.FootprintLemmas.{reads_below, sized, writes_below}
-use Rattle.tx_actor.specs.declared.actor.Answered as running
+use Rattle.tx_actor.specs.declared.actor.CallWithOutcome as running
 use Rattle.tx_actor.specs.declared.actor.Stage.{Stage}
 use Rattle.tx_actor.specs.declared.actor.Stage.TheVariants as stage
 use Rattle.tx_actor.specs.declared.actor.TxActor.{TxActor}
 use Rattle.tx_actor.specs.declared.prepares.Prepared.{Prepared}
 use Rattle.tx_actor.specs.Answers.{CanAccept, HasRoomToLoad, IsLoadOf, at_rest}
 use Rattle.tx_actor.specs.Dispatch.{HasRoom}
-use Rattle.tx_actor.specs.Keeping.{CanGoOn, KeepsIn, NamesAmong}
+use Rattle.tx_actor.specs.ActorBounds.{CanGoOn, KeepsIn, NamesAmong}
 use Rattle.tx_actor.specs.Prepares.{IsAlike, IsHeldAt, IsReadyCall}
 use Rattle.tx_actor.specs.Running.{at, stage_of}
-use Rattle.tx_actor.proofs.KeepingLemmas.{keeps_asked}
+use Rattle.tx_actor.proofs.ActorBoundsLemmas.{keeps_asked}
 use Rattle.actor_parts.proofs.AlikeLemmas.{kept_answers, kept_holds, writes_kept}
 use Rattle.tx_actor.proofs.PreparesLemmas.{reads_there, there_kept}
 
@@ -304,7 +304,7 @@ same_keeps n x y rests same placed =
 
 module _ {V : Type 0} where
   -- the same of an actor that is at another stage, or whose word actor is idle
-  accept_look : (r : TxActor V) (t : Stage V) (l : ℕ) (o : running.Answered V) → CanAccept r o
+  accept_look : (r : TxActor V) (t : Stage V) (l : ℕ) (o : running.CallWithOutcome V) → CanAccept r o
       → (let n : TxActor V = record r { words = record r.words { place = place.Look l }; stage = t } in CanAccept (at_rest n) o)
   accept_look r t l o p = record {
     writes = (refl, p.writes.1, p.writes.2, p.writes.3, p.writes.4);
@@ -317,7 +317,7 @@ module _ {V : Type 0} where
   }
 
   -- the first location that is not read is read next
-  pub goes_on_next : (v : BlocksView) (r : TxActor V) (o : running.Answered V) (es : Entries) (l : ℕ) (left : VecDeque (ℕ × ℕ) Global)
+  pub goes_on_next : (v : BlocksView) (r : TxActor V) (o : running.CallWithOutcome V) (es : Entries) (l : ℕ) (left : VecDeque (ℕ × ℕ) Global)
       → judged r.words.reads.entries es ≡ judged_as.Next l → left.items ≡ left_after r.words.reads.entries es → CanAccept r o
       → CanGoOn v r o es
       → KeepsIn v (at r stage.Idle) (record r { words = record r.words { place = place.Look l }; stage = stage.Loading o left })
@@ -367,25 +367,25 @@ module _ {V : Type 0} where
       (λ i. subst (NamesAmong (length v.blocks)) (sym now) tt) (ap (λ (s : Stage V). is_loading (stage_of s)) now)
 
   -- ---- what is made ready
-  known_below : (c : Copied V) (f end : ℕ) (ls : List ℕ) → f + places_in c ≤ end → All (λ l. l < places_in c) ls
+  known_below : (c : PrivateCopy V) (f end : ℕ) (ls : List ℕ) → f + location_count c ≤ end → All (λ l. l < location_count c) ls
       → All (λ d. d.0 < end) (with_known c f ls)
   known_below c f end [] le all k d lt = absurd (omega (arith, lt))
   known_below c f end (l ∷ ls) le all zero d lt =
-      let low : l < places_in c = all_head (λ (i : ℕ). i < places_in c) l ls all in
+      let low : l < location_count c = all_head (λ (i : ℕ). i < location_count c) l ls all in
       omega (arith, low, le)
   known_below c f end (l ∷ ls) le all (suc k) d lt =
-      known_below c f end ls le (all_tail (λ (i : ℕ). i < places_in c) l ls all) k d (omega (arith, lt))
+      known_below c f end ls le (all_tail (λ (i : ℕ). i < location_count c) l ls all) k d (omega (arith, lt))
 
-  next_below : (c : Copied V) (f end : ℕ) (ls : List ℕ) → f + places_in c ≤ end → All (λ l. l < places_in c) ls
+  next_below : (c : PrivateCopy V) (f end : ℕ) (ls : List ℕ) → f + location_count c ≤ end → All (λ l. l < location_count c) ls
       → All (λ d. d.0 < end) (with_next c f ls)
   next_below c f end [] le all k d lt = absurd (omega (arith, lt))
   next_below c f end (l ∷ ls) le all zero d lt =
-      let low : l < places_in c = all_head (λ (i : ℕ). i < places_in c) l ls all in
+      let low : l < location_count c = all_head (λ (i : ℕ). i < location_count c) l ls all in
       omega (arith, low, le)
   next_below c f end (l ∷ ls) le all (suc k) d lt =
-      next_below c f end ls le (all_tail (λ (i : ℕ). i < places_in c) l ls all) k d (omega (arith, lt))
+      next_below c f end ls le (all_tail (λ (i : ℕ). i < location_count c) l ls all) k d (omega (arith, lt))
 
-  known_locations : (c : Copied V) (f : ℕ) (ls : List ℕ) → locations (with_known c f ls) ≡ shifted f ls
+  known_locations : (c : PrivateCopy V) (f : ℕ) (ls : List ℕ) → locations (with_known c f ls) ≡ shifted f ls
   unfolding locations
   known_locations c f [] = refl
   known_locations c f (l ∷ ls) =
@@ -399,10 +399,10 @@ module _ {V : Type 0} where
       let c = h.copy.copied in
       let b = blocks k c h.of in
       let some : 0 < stripes_of (base_in c) = subst (λ (n : ℕ). 0 < n) (sym b.stripes) b.some in
-      let places : size b.block ≡ places_in c =
+      let places : size b.block ≡ location_count c =
       (λ j. size (record { kind = sym b.kind j; stripes = sym b.stripes j })) ∙ sized (stripes_of (base_in c)) (shown_of (base_in c)) in
       let behind = first_inside v.words v.blocks k b.block b.there in
-      let le : f + places_in c ≤ end_of v.words v.blocks = omega (arith, behind, places, first) in
+      let le : f + location_count c ≤ end_of v.words v.blocks = omega (arith, behind, places, first) in
       next_below c f (end_of v.words v.blocks) (writes_in c o) le (writes_below c o some)
 
   pub can_go_on : (v : BlocksView) (r u : TxActor V) (i f k : ℕ) (op : Op V) (h : IsHeldAt r.copies.items i k op) (p : Prepared V)
@@ -414,10 +414,10 @@ module _ {V : Type 0} where
       let end = end_of v.words v.blocks in
       let b = blocks k c h.of in
       let some : 0 < stripes_of (base_in c) = subst (λ (n : ℕ). 0 < n) (sym b.stripes) b.some in
-      let places : size b.block ≡ places_in c =
+      let places : size b.block ≡ location_count c =
       (λ j. size (record { kind = sym b.kind j; stripes = sym b.stripes j })) ∙ sized (stripes_of (base_in c)) (shown_of (base_in c)) in
       let behind = first_inside v.words v.blocks k b.block b.there in
-      let le : f + places_in c ≤ end = omega (arith, behind, places, first) in
+      let le : f + location_count c ≤ end = omega (arith, behind, places, first) in
       let kept = there_kept r u k c alike h.of in
       let d = kept.0 in
       let named : p.call.asked.collection ≡ k = ready.collection ∙ h.collection in

@@ -16,7 +16,7 @@ use Rattle.actor_parts.specs.Dispatch.{MayRelease}
 use Rattle.step_core.specs.Shown as words
 use Rattle.tx_actor.specs.Running.{IsSeatOf, is_recorded, seat_at, seat_in, stage_in}
 use Rattle.std.specs.Global.{Vec}
-use Rattle.actor_parts.specs.declared.copies.CopyOf.{CopyOf}
+use Rattle.actor_parts.specs.declared.copies.CopyOfCollection.{CopyOfCollection}
 use Rattle.tx_actor.specs.declared.actor.TxActor.{TxActor}
 use Rattle.actor_parts.proofs.HomesLemmas.{not_none}
 use Rattle.actor_parts.proofs.ShowsLemmas.{gives_it_up, guarded_asked}
@@ -66,7 +66,7 @@ module _ {V : Type 0} where
       ∙ sym (ap (λ (b : Bool). cond b (record (seat_in z.stage u) { calls = z.calls; copied = z.copied }) (seat_in z.stage u)) left))
 
   -- then its copies may go
-  pub left_alike : (x : Seat V) (r : TxActor V) (cs : Vec (CopyOf V)) → is_recorded r.stage ≡ true
+  pub left_alike : (x : Seat V) (r : TxActor V) (cs : Vec (CopyOfCollection V)) → is_recorded r.stage ≡ true
       → seat_at x r ≡ seat_at x (record r { copies = cs })
   left_alike x r cs left =
       let u : TxActor V = record r { copies = cs } in

@@ -10,31 +10,31 @@ use Rattle.tx_machine.specs.Opacity.{first_read}
 use Rattle.replay_log.specs.Contents.{HaveStripes, first_of}
 use Rattle.replay_log.specs.Worlds.{World, actor_of}
 use Rattle.actor_parts.specs.Blocks.{BlocksView, IsLaid}
-use Rattle.actor_parts.specs.declared.copies.Copied.{Copied}
-use Rattle.actor_parts.specs.declared.copies.Copied.TheVariants.{Keys, Whole}
-use Rattle.actor_parts.specs.declared.copies.CopyOf.{CopyOf}
-use Rattle.actor_parts.specs.Copied.{IsReadBy, IsReadOf}
-use Rattle.actor_parts.specs.Kept.{copy_of}
-use Rattle.actor_parts.specs.Loading.{AreRead, IsDoomed}
+use Rattle.actor_parts.specs.declared.copies.PrivateCopy.{PrivateCopy}
+use Rattle.actor_parts.specs.declared.copies.PrivateCopy.TheVariants.{Keys, Whole}
+use Rattle.actor_parts.specs.declared.copies.CopyOfCollection.{CopyOfCollection}
+use Rattle.actor_parts.specs.CopyAtGate.{IsReadBy, IsReadOf}
+use Rattle.actor_parts.specs.CopyList.{copy_of}
+use Rattle.actor_parts.specs.LoadInWorld.{AreRead, IsDoomed}
 use Rattle.actor_parts.specs.Owns.{AreOnce, IsOwn}
 use Rattle.actor_parts.proofs.OwnLemmas.{own_same}
-use Rattle.actor_parts.specs.Staying.{Stays}
-use Rattle.tx_actor.specs.declared.actor.Answered as running
+use Rattle.actor_parts.specs.CopiesAfterEvent.{Stays}
+use Rattle.tx_actor.specs.declared.actor.CallWithOutcome as running
 use Rattle.tx_actor.specs.declared.actor.Stage.{Stage}
 use Rattle.tx_actor.specs.declared.actor.Stage.TheVariants as stage
 use Rattle.tx_actor.specs.declared.actor.TxActor.{TxActor}
-use Rattle.tx_actor.specs.Having.{AsksNothing, HasCopies, HasCopiesAt, IsWhole, IsWholeOf, KeepsCopies, KeepsFrom, KeepsOpen, OwnsAll}
-use Rattle.tx_actor.specs.Having.{OwnsHomes, OwnsLoading, ReadsStill}
-use Rattle.tx_actor.specs.Keeping.{IsCallAt, IsRunning}
-use Rattle.tx_actor.specs.Loading.{IsCallOn}
+use Rattle.tx_actor.specs.CopiesByStage.{AsksNothing, HasCopies, HasCopiesAt, IsWhole, IsWholeOf, KeepsCopies, KeepsFrom, KeepsOpen, OwnsAll}
+use Rattle.tx_actor.specs.CopiesByStage.{OwnsHomes, OwnsLoading, ReadsStill}
+use Rattle.tx_actor.specs.ActorBounds.{IsCallAt, IsRunning}
+use Rattle.tx_actor.specs.LoadInWorld.{IsCallOn}
 use Rattle.tx_actor.specs.Owns.{OwnsCopies}
-use Rattle.tx_actor.proofs.HearLemmas.{owns_stands}
-use Rattle.tx_actor.proofs.OwnsLemmas.{owns_by, owns_nothing}
+use Rattle.tx_actor.proofs.LoadInWorldLemmas.{owns_stands}
+use Rattle.tx_actor.proofs.CopyListLemmas.{owns_by, owns_nothing}
 
 -- what remains of a collection where all remains
 abbrev pub StaysLaw : Type 0 → Type 0
 StaysLaw V =
-    (w v : World V) (a k : ℕ) (c : Option (Copied V)) → Stays w v a
+    (w v : World V) (a k : ℕ) (c : Option (PrivateCopy V)) → Stays w v a
     → (IsOwn w a k c → IsOwn v a k c) × (IsReadOf w a k c → IsReadOf v a k c)
 
 module _ {V : Type 0} where
@@ -61,16 +61,16 @@ module _ {V : Type 0} where
       → OwnsAll u v a
   whole_stays law r u w v a same st h = record {
     own = owns_by r u w v a same st.0.words st.0.blocks st.1 h.own;
-    read = λ k. subst (λ (cs : List (CopyOf V)). IsReadOf v a k (copy_of cs k)) (sym same)
+    read = λ k. subst (λ (cs : List (CopyOfCollection V)). IsReadOf v a k (copy_of cs k)) (sym same)
         ((law w v a k (copy_of r.copies.items k) st).1 (h.read k));
   }
 
   homes_stay : StaysLaw V → (r u : TxActor V) (w v : World V) (a : ℕ) (ks : List ℕ) → u.copies.items ≡ r.copies.items → Stays w v a
       → OwnsHomes r w a ks → OwnsHomes u v a ks
   homes_stay law r u w v a ks same st h k there =
-      subst (λ (cs : List (CopyOf V)). IsOwn v a k (copy_of cs k)) (sym same) ((law w v a k (copy_of r.copies.items k) st).0 (h k there))
+      subst (λ (cs : List (CopyOfCollection V)). IsOwn v a k (copy_of cs k)) (sym same) ((law w v a k (copy_of r.copies.items k) st).0 (h k there))
 
-  opens : (s : Stage V) (before now : List (CopyOf V)) → (s ≡ stage.Beginning → ⊥) → KeepsOpen s before now → IsWhole s × (now ≡ before)
+  opens : (s : Stage V) (before now : List (CopyOfCollection V)) → (s ≡ stage.Beginning → ⊥) → KeepsOpen s before now → IsWhole s × (now ≡ before)
   opens stage.Beginning before now begun k = absurd (begun refl)
   opens s before now begun k = k
 
@@ -97,7 +97,7 @@ module _ {V : Type 0} where
   has_stepped law r u w v a begun k st h = step_at law u.stage r.stage r u w v a begun k st h
 
   -- ---- a stage that asks for nothing
-  idle_at : (t : Stage V) (u : TxActor V) (v : World V) (a : ℕ) (now : List (CopyOf V)) → KeepsFrom t stage.Idle [] now
+  idle_at : (t : Stage V) (u : TxActor V) (v : World V) (a : ℕ) (now : List (CopyOfCollection V)) → KeepsFrom t stage.Idle [] now
       → HasCopiesAt u v a t
   idle_at stage.Open u v a now k = absurd k.0
   idle_at (stage.Reading l) u v a now k = absurd k.0
@@ -119,7 +119,7 @@ module _ {V : Type 0} where
       → ((k : ℕ) → IsOwn v a k None × IsReadOf v a k None) → OwnsAll u v a
   nothing u v a none stripes h = record {
     own = owns_nothing u v a none stripes (λ k. (h k).0);
-    read = λ k. subst (λ (cs : List (CopyOf V)). IsReadOf v a k (copy_of cs k)) (sym none) ((h k).1);
+    read = λ k. subst (λ (cs : List (CopyOfCollection V)). IsReadOf v a k (copy_of cs k)) (sym none) ((h k).1);
   }
 
   begin_at : (t : Stage V) (r u : TxActor V) (v : World V) (a : ℕ) → KeepsFrom t stage.Beginning r.copies.items u.copies.items
@@ -144,10 +144,10 @@ module _ {V : Type 0} where
   -- ---- another actor's event
   -- The call that is read for remains its actor's own where its shadow remains and what it has read, with as many locations left or fewer,
   -- once those that are passed have been read.
-  pub loading_moves : (r u : TxActor V) (w v : World V) (a : ℕ) (o : running.Answered V) (left fs : Entries)
+  pub loading_moves : (r u : TxActor V) (w v : World V) (a : ℕ) (o : running.CallWithOutcome V) (left fs : Entries)
       → u.copies.items ≡ r.copies.items → v.words ≡ w.words → v.blocks ≡ w.blocks → v.boosted.shadows a ≡ w.boosted.shadows a
       → ((l e : ℕ) → first_read (actor_of w a).calls l ≡ Some e → first_read (actor_of v a).calls l ≡ Some e)
-      → ((k : ℕ) (c : Option (Copied V)) → k ≢ o.asked.collection → IsReadOf w a k c → IsReadOf v a k c)
+      → ((k : ℕ) (c : Option (PrivateCopy V)) → k ≢ o.asked.collection → IsReadOf w a k c → IsReadOf v a k c)
       → (IsDoomed (actor_of w a).calls left → IsDoomed (actor_of v a).calls fs)
       → ((cs : List Call) → ((l e : ℕ) → first_read (actor_of v a).calls l ≡ Some e → first_read cs l ≡ Some e) → AreRead cs fs
       → AreRead cs left)
@@ -156,16 +156,16 @@ module _ {V : Type 0} where
   loading_moves r u w v a o left fs same words blocks shadow more others doomed passed h = record {
     stripes = subst HaveStripes (sym blocks) h.stripes;
     once = subst AreOnce (sym same) h.once;
-    others = λ k ne. subst (λ (cs : List (CopyOf V)). IsOwn v a k (copy_of cs k) × IsReadOf v a k (copy_of cs k)) (sym same) (
+    others = λ k ne. subst (λ (cs : List (CopyOfCollection V)). IsOwn v a k (copy_of cs k) × IsReadOf v a k (copy_of cs k)) (sym same) (
       own_same w v a k (copy_of r.copies.items k) words blocks shadow (h.others k ne).0,
       others k (copy_of r.copies.items k) ne (h.others k ne).1,
     );
     call = owns_stands w v a o left fs words blocks shadow doomed h.call;
-    at = ap (λ (cs : List (CopyOf V)). copy_of cs o.asked.collection) same ∙ h.at;
+    at = ap (λ (cs : List (CopyOfCollection V)). copy_of cs o.asked.collection) same ∙ h.at;
     read = λ cs grows are. h.read cs (λ l e is. grows l e (more l e is)) (passed cs grows are);
   }
 
-  loading_stays : StaysLaw V → (r : TxActor V) (w v : World V) (a : ℕ) (o : running.Answered V) (left : Entries)
+  loading_stays : StaysLaw V → (r : TxActor V) (w v : World V) (a : ℕ) (o : running.CallWithOutcome V) (left : Entries)
       → actor_of v a ≡ actor_of w a → Stays w v a → OwnsLoading r w a o left → OwnsLoading r v a o left
   loading_stays law r w v a o left same st h =
       let calls : (actor_of v a).calls ≡ (actor_of w a).calls = ap (λ (y : machine.Actor). y.calls) same in
@@ -193,13 +193,13 @@ module _ {V : Type 0} where
   has_stayed law r w v a same st h = other_at law r.stage r w v a same st h
 
   -- ---- where all is its own
-  read_grows : (read now : ℕ → Option ℕ) (f : ℕ) (c : Copied V) → ((l e : ℕ) → read l ≡ Some e → now l ≡ Some e) → IsReadBy read f c
+  read_grows : (read now : ℕ → Option ℕ) (f : ℕ) (c : PrivateCopy V) → ((l e : ℕ) → read l ≡ Some e → now l ≡ Some e) → IsReadBy read f c
       → IsReadBy now f c
   read_grows read now f (Keys m es) more is =
       (λ o held i there. (let r = is.0 o held i there in (r.0, more (f + i) r.0 r.1)), λ i e there. more (f + i) e (is.1 i e there))
   read_grows read now f (Whole s) more is = tt
 
-  loading_whole : (b : BlocksView) (r : TxActor V) (w : World V) (a : ℕ) (o : running.Answered V) (left : _) → IsLaid b w
+  loading_whole : (b : BlocksView) (r : TxActor V) (w : World V) (a : ℕ) (o : running.CallWithOutcome V) (left : _) → IsLaid b w
       → IsCallAt b r.copies.items (stage.Loading o left) → OwnsAll r w a → OwnsLoading r w a o left.items
   loading_whole b r w a o left laid call h =
       let k = o.asked.collection in
@@ -242,7 +242,7 @@ module _ {V : Type 0} where
 
   -- ---- a request of an idle actor
   pub has_asked : StaysLaw V → (r u : TxActor V) (w v : World V) (a : ℕ) → ReadsStill r.copies.items u.copies.items
-      → ((k : ℕ) (c : Option (Copied V)) → IsReadOf w a k c → IsReadOf v a k c) → OwnsAll r w a → OwnsCopies u v a → OwnsAll u v a
+      → ((k : ℕ) (c : Option (PrivateCopy V)) → IsReadOf w a k c → IsReadOf v a k c) → OwnsAll r w a → OwnsCopies u v a → OwnsAll u v a
   has_asked law r u w v a still stay h own = record {
     own = own;
     read = λ k. still v a k (stay k (copy_of r.copies.items k) (h.read k));

@@ -29,7 +29,7 @@ use Rattle.seq_model.specs.Contents.{Contents}
 use Rattle.tx_machine.specs.Boosted.{Boosted, Action, TakeGate, PutGate, gated, is_none, shadows_copied}
 use Rattle.tx_machine.specs.Boosted.{word_step}
 use Rattle.replay_log.specs.Base.{Shown}
-use Rattle.replay_log.specs.Contents.{Answered, Asked, Block, HaveStripes, content, end_of, home_of, is_plain}
+use Rattle.replay_log.specs.Contents.{CallWithOutcome, CollectionCall, Block, HaveStripes, content, end_of, home_of, is_plain}
 use Rattle.replay_log.specs.Guards.{IsAllowed, step_action}
 use Rattle.replay_log.specs.Worlds.{World, Seat, Stage, After, Idle, Beginning, Open, Locking, Releasing, Closing, Cancelling, Leaving}
 use Rattle.replay_log.specs.Worlds.{Reading, Trying, Copying, Loading, Gating, Ready, Storing, Homing, Returning, acted, actor_of}
@@ -47,12 +47,12 @@ use Rattle.actor_parts.specs.Dispatch.{next_home, next_load, next_of, next_put, 
 use Rattle.actor_parts.specs.Guarded.{committed_at}
 use Rattle.actor_parts.specs.Requests.{HasNoReads}
 use Rattle.tx_actor.specs.Dispatch.{HasRoom, Records}
-use Rattle.tx_actor.specs.Keeping.{IsRunning}
+use Rattle.tx_actor.specs.ActorBounds.{IsRunning}
 use Rattle.tx_actor.specs.Running as ran
 use Rattle.tx_actor.specs.Running.{KnowsHomes, Runs, is_recorded, notice_of, seat_of, stage_of}
 use Rattle.tx_actor.specs.declared.actor.Stage as own
 use Rattle.tx_actor.specs.declared.actor.Stage.TheVariants as stage
-use Rattle.tx_actor.specs.declared.actor.Told.{Told}
+use Rattle.tx_actor.specs.declared.actor.ActorNotice.{ActorNotice}
 use Rattle.tx_actor.specs.declared.actor.TxActor.{TxActor}
 use Rattle.actor_parts.specs.declared.next.Next.{Next}
 use Rattle.actor_parts.specs.declared.next.Next.TheVariants as next
@@ -203,15 +203,15 @@ module _ {V : Type 0} where
   stage_quiet r s e d = ap (λ (t : own.Stage V). is_loading (stage_of t)) e ∙ d
 
   -- ---- the action that is next
-  pub due_word : (a : ℕ) (o : Option (Action (Asked V))) → IsDue a next.Word o → o ≡ Some (moves a)
+  pub due_word : (a : ℕ) (o : Option (Action (CollectionCall V))) → IsDue a next.Word o → o ≡ Some (moves a)
   due_word a None h = absurd h
   due_word a (Some e) h = ap Some h
 
-  pub due_try : (a k : ℕ) (o : Option (Action (Asked V))) → IsDue a (next.TryGate k) o → o ≡ Some (TakeGate a k)
+  pub due_try : (a k : ℕ) (o : Option (Action (CollectionCall V))) → IsDue a (next.TryGate k) o → o ≡ Some (TakeGate a k)
   due_try a k None h = absurd h
   due_try a k (Some e) h = ap Some h
 
-  pub due_put : (a k : ℕ) (o : Option (Action (Asked V))) → IsDue a (next.PutGate k) o → o ≡ Some (PutGate a k (λ l. false))
+  pub due_put : (a k : ℕ) (o : Option (Action (CollectionCall V))) → IsDue a (next.PutGate k) o → o ≡ Some (PutGate a k (λ l. false))
   due_put a k None h = absurd h
   due_put a k (Some e) h = ap Some h
 
@@ -263,7 +263,7 @@ module _ {V : Type 0} where
   plain_put stage.Releasing k e = let z : ⊥ = cc in absurd z
   plain_put t k e = refl
 
-  pub runs_moved : (w : World V) (a : ℕ) (r : TxActor V) (e : Action (Asked V)) → (acted w (e ∷ [])).boosted.words ≡ w.boosted.words
+  pub runs_moved : (w : World V) (a : ℕ) (r : TxActor V) (e : Action (CollectionCall V)) → (acted w (e ∷ [])).boosted.words ≡ w.boosted.words
       → Runs a r w → Runs a r (acted w (e ∷ []))
   runs_moved w a r e same h = (
     h.0,
@@ -274,15 +274,15 @@ module _ {V : Type 0} where
   pub try_words : (w : World V) (a k : ℕ) → (acted w (TakeGate a k ∷ [])).boosted.words ≡ w.boosted.words
   try_words w a k =
       let b = w.boosted in
-      cond_both {A = Boosted (Shown V) (Answered V)} _ (gated b (put b.gates k (Some a)) b.shadows) b
-      (λ (z : Boosted (Shown V) (Answered V)). z.words ≡ b.words) (λ _. refl) (λ _. refl)
+      cond_both {A = Boosted (Shown V) (CallWithOutcome V)} _ (gated b (put b.gates k (Some a)) b.shadows) b
+      (λ (z : Boosted (Shown V) (CallWithOutcome V)). z.words ≡ b.words) (λ _. refl) (λ _. refl)
 
   pub put_words : (w : World V) (a k : ℕ) (which : ℕ → Bool) → (acted w (PutGate a k which ∷ [])).boosted.words ≡ w.boosted.words
   put_words w a k which =
       let b = w.boosted in
-      cond_both {A = Boosted (Shown V) (Answered V)} _
+      cond_both {A = Boosted (Shown V) (CallWithOutcome V)} _
       (gated b (put b.gates k None) (shadows_copied (content w.words w.blocks) b a k which)) b
-      (λ (z : Boosted (Shown V) (Answered V)). z.words ≡ b.words) (λ _. refl) (λ _. refl)
+      (λ (z : Boosted (Shown V) (CallWithOutcome V)). z.words ≡ b.words) (λ _. refl) (λ _. refl)
 
   -- ---- the first value store: its request, and then a step of the words
   pub first_is : (s : Stage V) → next_of s ≡ next.FirstStore → (ks : List ℕ) × (s ≡ Ready ks)
@@ -380,7 +380,7 @@ module _ {V : Type 0} where
       st ((reached_linked o w reached).seats a).stage w a
 
   -- ---- what a step on a gate makes of the seat is what the actor makes of itself
-  pub try_runs : AreSteps V → (w : World V) (a k : ℕ) (r s : TxActor V) (free : Bool) (n : Told V)
+  pub try_runs : AreSteps V → (w : World V) (a k : ℕ) (r s : TxActor V) (free : Bool) (n : ActorNotice V)
       → next_of (stage_of r.stage) ≡ next.TryGate k → free ≡ is_none (w.boosted.gates k)
       → ran.Does r s n (λ a w. after_try w a (seat_of r) (stage_of r.stage) free) → Runs a r w
       → Runs a s (happens w (Step a)).0 × (notice_of a n ≡ (happens w (Step a)).1)
@@ -396,7 +396,7 @@ module _ {V : Type 0} where
         after.1 ∙ sym (ap (λ (p : After V). p.1) e),
       )
 
-  pub put_runs : AreSteps V → (w : World V) (a k : ℕ) (r s : TxActor V) (n : Told V) → next_of (stage_of r.stage) ≡ next.PutGate k
+  pub put_runs : AreSteps V → (w : World V) (a k : ℕ) (r s : TxActor V) (n : ActorNotice V) → next_of (stage_of r.stage) ≡ next.PutGate k
       → ran.Does r s n (λ a w. after_put w a (seat_of r) (stage_of r.stage)) → Runs a r w
       → Runs a s (happens w (Step a)).0 × (notice_of a n ≡ (happens w (Step a)).1)
   put_runs steps w a k r s n due does runs =

@@ -4,6 +4,7 @@ use Rattle.std.proofs.Common.{◌≡◌, ◌<◌, ◌≤◌, ◌+◌, ◌++◌, 
 use Rattle.std.proofs.Common.{eq-eqb, sym, ap, subst, ◌∙◌, arith}
 use Rattle.std.specs.Vec.{vec_capacity, vec_len}
 use Rattle.std.proofs.lemmas.Bool.{cond-true}
+use Rattle.std.proofs.lemmas.Option.{same_Some}
 use Rattle.tx_sets.specs.Entries.{Entries, locations, lookup}
 use Rattle.tx_machine.specs.Actor as machine
 use Rattle.seq_model.specs.declared.call.Call.{Call}
@@ -18,23 +19,22 @@ use Rattle.replay_log.proofs.CountLemmas.{locations-cons}
 use Rattle.step_core.specs.Shown as words
 use Rattle.step_core.specs.declared.actor.Actor.{Actor}
 use Rattle.step_core.specs.declared.actor.Place.TheVariants as place
-use Rattle.actor_parts.specs.declared.copies.Copied.{Copied}
-use Rattle.actor_parts.specs.declared.copies.CopyOf.{CopyOf}
+use Rattle.actor_parts.specs.declared.copies.PrivateCopy.{PrivateCopy}
+use Rattle.actor_parts.specs.declared.copies.CopyOfCollection.{CopyOfCollection}
 use Rattle.actor_parts.specs.declared.judged.Judged.TheVariants as judged_as
 use Rattle.actor_parts.specs.Blocks.{BlocksView}
-use Rattle.actor_parts.specs.Copies.{answer_of}
+use Rattle.actor_parts.specs.PrivateCopy.{answer_of}
 use Rattle.actor_parts.specs.Footprints.{known_edition, reads_in, with_known, writes_in}
 use Rattle.actor_parts.specs.Judged.{comes_to, judged, judged_one, left_after}
-use Rattle.actor_parts.specs.Keeps.{call_on}
-use Rattle.actor_parts.specs.Kept.{AreKept}
+use Rattle.actor_parts.specs.CopyInWorld.{call_on}
+use Rattle.actor_parts.specs.CopyList.{AreKept}
 use Rattle.actor_parts.specs.Room.{surely_fits, takes_more}
 use Rattle.actor_parts.specs.Writes.{MayWrite, with_next, written_as}
 use Rattle.actor_parts.proofs.BlocksLemmas.{up_to}
 use Rattle.actor_parts.proofs.RoomLemmas.{few_fit, surely_shifted}
-use Rattle.actor_parts.proofs.TakingLemmas.{some_copy}
-use Rattle.tx_actor.specs.declared.actor.Answered as running
+use Rattle.tx_actor.specs.declared.actor.CallWithOutcome as running
 use Rattle.tx_actor.specs.declared.actor.Stage.TheVariants as stage
-use Rattle.tx_actor.specs.declared.actor.Told.TheVariants as told
+use Rattle.tx_actor.specs.declared.actor.ActorNotice.TheVariants as told
 use Rattle.tx_actor.specs.declared.actor.TxActor.{TxActor}
 use Rattle.tx_actor.specs.Answers.{IsAcceptedAt}
 use Rattle.tx_actor.specs.Calls.{AsksOwn, CanCall}
@@ -98,7 +98,7 @@ module _ {V : Type 0} where
   }
 
   -- the call that is accepted
-  abbrev pub put_call : ℕ → ℕ → Op V → Outcome V → Entries → running.Answered V
+  abbrev pub put_call : ℕ → ℕ → Op V → Outcome V → Entries → running.CallWithOutcome V
   put_call i k op o ds = record {
     asked = record { collection = k; op = op };
     outcome = Some o;
@@ -111,7 +111,7 @@ module _ {V : Type 0} where
   abbrev pub made_call : ℕ → Op V → Reply V → Call V × Reply V
   made_call k op reply = (record { target = k; op = op }, reply)
 
-  pub put_writes : (c : Copied V) (f : ℕ) (o : Outcome V) (at : ℕ × ℕ) → writes_in c o ≡ at.0 ∷ [] → known_edition c at.0 ≡ at.1
+  pub put_writes : (c : PrivateCopy V) (f : ℕ) (o : Outcome V) (at : ℕ × ℕ) → writes_in c o ≡ at.0 ∷ [] → known_edition c at.0 ≡ at.1
       → with_next c f (writes_in c o) ≡ (f + at.0, at.1 + 1) ∷ []
   put_writes c f o at writes edition = ap (with_next c f) writes ∙ (λ j. (f + at.0, edition j + 1) ∷ [])
 
@@ -168,8 +168,8 @@ module _ {V : Type 0} where
       (λ d there. (
         o,
         refl,
-        ap (λ (z : CopyOf V). z.collection) (some_copy d h.copy (sym there ∙ h.at)) ∙ h.collection,
-        ap (λ (z : CopyOf V). answer_of z.copied op) (some_copy d h.copy (sym there ∙ h.at)) ∙ read.answer,
+        ap (λ (z : CopyOfCollection V). z.collection) (same_Some d h.copy (sym there ∙ h.at)) ∙ h.collection,
+        ap (λ (z : CopyOfCollection V). answer_of z.copied op) (same_Some d h.copy (sym there ∙ h.at)) ∙ read.answer,
       )) accepted yes own) in
       subst (λ st. Answers a (running_at.at n st) t (calls_on w a (seat_of r) (call_on k op))) (sym (as_stage ∙ can.stage))
       (subst (Answers a m t) comes (went.0, went.1, owns))

@@ -6,8 +6,8 @@ use Rattle.tx_machine.specs.Boosted.{Accept}
 use Rattle.replay_log.specs.Contents.{content}
 use Rattle.replay_log.specs.Guards.{Allows}
 use Rattle.replay_log.specs.Worlds.{World, actor_of, new_in, outcome_at, reply_of}
-use Rattle.tx_actor.specs.declared.actor.Answered as running
-use Rattle.actor_parts.specs.declared.copies.CopyOf.{CopyOf}
+use Rattle.tx_actor.specs.declared.actor.CallWithOutcome as running
+use Rattle.actor_parts.specs.declared.copies.CopyOfCollection.{CopyOfCollection}
 use Rattle.tx_actor.specs.declared.actor.TxActor.{TxActor}
 use Rattle.tx_sets.specs.Entries.{Entries, locations, lookup}
 use Rattle.tx_sets.specs.declared.access_set.TheConstants.{LOCATION_LIMIT}
@@ -21,42 +21,42 @@ use Rattle.actor_parts.specs.declared.judged.Judged.{Judged}
 use Rattle.actor_parts.specs.declared.judged.Judged.TheVariants.{All, Next}
 use Rattle.actor_parts.specs.Judged.{judged}
 use Rattle.actor_parts.specs.Accepts.{written}
-use Rattle.actor_parts.specs.Copies.{IsAccepted, IsReady, answer_of, holds_call}
+use Rattle.actor_parts.specs.PrivateCopy.{IsAccepted, IsReady, answer_of, holds_call}
 use Rattle.actor_parts.specs.Footprints.{reads_in}
 use Rattle.tx_actor.specs.Running.{answered_of, asked_of}
 use Rattle.actor_parts.specs.Writes.{MayWrite, written_as}
 
 -- The copy at this place has accepted the outcome, if there is one, and the others are as they were.
-abbrev pub IsAcceptedAt : {V : Type 0} → ℕ → Option (Outcome V) → (before now : List (CopyOf V)) → Type 0
+abbrev pub IsAcceptedAt : {V : Type 0} → ℕ → Option (Outcome V) → (before now : List (CopyOfCollection V)) → Type 0
 IsAcceptedAt {V} i None before now = now ≡ before
 IsAcceptedAt {V} i (Some o) before now =
-    (c d : CopyOf V) × (slice_get before i ≡ Some c) × (d.collection ≡ c.collection) × IsAccepted o c.copied d.copied
+    (c d : CopyOfCollection V) × (slice_get before i ≡ Some c) × (d.collection ≡ c.collection) × IsAccepted o c.copied d.copied
     × (holds_call c.copied o.op ≡ true) × (now ≡ slice_set before i d)
 
 -- What judging a call's locations leaves of the copies: its outcome joins its copy where the call is accepted, and else all stand.
-abbrev pub CopiesAfter : {V : Type 0} → Judged → running.Answered V → (before now : List (CopyOf V)) → Type 0
+abbrev pub CopiesAfter : {V : Type 0} → Judged → running.CallWithOutcome V → (before now : List (CopyOfCollection V)) → Type 0
 CopiesAfter {V} All o before now = IsAcceptedAt o.place o.outcome before now
 CopiesAfter {V} j o before now = now ≡ before
 
 -- All that accepting the call takes is there: room for its writes and for its entry among the calls, and in the copy at its place its
 -- outcome is ready, which is what that copy of its collection answers.
-pub record CanAccept {V : Type 0} (r : TxActor V) (o : running.Answered V) : Type 0 where
+pub record CanAccept {V : Type 0} (r : TxActor V) (o : running.CallWithOutcome V) : Type 0 where
   pub writes : MayWrite r.words o.writes.items
   pub calls : vec_len r.calls < vec_capacity r.calls
   pub place : o.place < length r.copies.items
-  pub ready : (c : CopyOf V) (x : Outcome V) → slice_get r.copies.items o.place ≡ Some c → o.outcome ≡ Some x
+  pub ready : (c : CopyOfCollection V) (x : Outcome V) → slice_get r.copies.items o.place ≡ Some c → o.outcome ≡ Some x
       → IsReady x c.copied × (holds_call c.copied x.op ≡ true)
   pub kept : (x : Outcome V) → o.outcome ≡ Some x → x.reply ≡ reply_of (answered_of o)
   pub told : o.told ≡ reply_of (answered_of o)
-  pub own : (c : CopyOf V) → slice_get r.copies.items o.place ≡ Some c
+  pub own : (c : CopyOfCollection V) → slice_get r.copies.items o.place ≡ Some c
       → (x : Outcome V) × (o.outcome ≡ Some x) × (c.collection ≡ o.asked.collection) × (answer_of c.copied o.asked.op ≡ Some x)
 
 -- The call is made ready: it can be accepted, and before that there is room to read all that it reads.
-pub record IsPrepared {V : Type 0} (r : TxActor V) (o : running.Answered V) : Type 0 where
+pub record IsPrepared {V : Type 0} (r : TxActor V) (o : running.CallWithOutcome V) : Type 0 where
   pub accept : CanAccept r o
-  pub calls : (c : CopyOf V) (x : Outcome V) → slice_get r.copies.items o.place ≡ Some c → o.outcome ≡ Some x
+  pub calls : (c : CopyOfCollection V) (x : Outcome V) → slice_get r.copies.items o.place ≡ Some c → o.outcome ≡ Some x
       → vec_len r.words.calls + (length (reads_in c.copied x) + length o.writes.items) ≤ vec_capacity r.words.calls
-  pub reads : (c : CopyOf V) (x : Outcome V) → slice_get r.copies.items o.place ≡ Some c → o.outcome ≡ Some x
+  pub reads : (c : CopyOfCollection V) (x : Outcome V) → slice_get r.copies.items o.place ≡ Some c → o.outcome ≡ Some x
       → r.words.declared ≡ false → length (reads_in c.copied x) ≤ r.words.reads.room
 
 -- A word actor has room to read these locations one after another, and for so many writes after them; they fit its read set.
@@ -78,14 +78,14 @@ abbrev pub at_rest : {V : Type 0} → TxActor V → TxActor V
 at_rest r = record r { words = record r.words { place = place.Open } }
 
 -- The first of these locations is being read, there is room for the others, and once all are read the call can be accepted.
-pub record CanLoad {V : Type 0} (r : TxActor V) (o : running.Answered V) (left : Entries) : Type 0 where
+pub record CanLoad {V : Type 0} (r : TxActor V) (o : running.CallWithOutcome V) (left : Entries) : Type 0 where
   pub place : IsLoadOf r.words.place left
   pub room : HasRoomToLoad r.words left (length o.writes.items)
   pub accept : CanAccept (at_rest r) o
 
 -- In this world the call may be accepted: what it reads has been read, with the copied editions; its outcome is the world's, and its
 -- writes are the world's.
-pub record MayAccept {V : Type 0} (w : World V) (a : ℕ) (o : running.Answered V) : Type 0 where
+pub record MayAccept {V : Type 0} (w : World V) (a : ℕ) (o : running.CallWithOutcome V) : Type 0 where
   pub guard : Allows (content w.words w.blocks) w.boosted (Accept a (asked_of o.asked))
   pub outcome : outcome_at w a (asked_of o.asked) ≡ answered_of o
   pub writes : written (actor_of w a) (w.boosted.shadows a).editions ((content w.words w.blocks).writes (answered_of o))
@@ -93,7 +93,7 @@ pub record MayAccept {V : Type 0} (w : World V) (a : ℕ) (o : running.Answered 
 
 -- In this world, which has x as its outcome, a call may continue whose locations, with these editions, are judged by the read set of y:
 -- with all of them there it may be accepted, and x is its own outcome; the one that is to be read is in no set, and its word actor is idle.
-pub record MayAnswer {V : Type 0} (w : World V) (a : ℕ) (y : Actor) (x : Option (Outcome V)) (o : running.Answered V) (es : Entries)
+pub record MayAnswer {V : Type 0} (w : World V) (a : ℕ) (y : Actor) (x : Option (Outcome V)) (o : running.CallWithOutcome V) (es : Entries)
     : Type 0 where
   pub accepts : judged y.reads.entries es ≡ All → MayAccept w a o × (x ≡ o.outcome)
   pub reads : (l : ℕ) → judged y.reads.entries es ≡ Next l

@@ -16,12 +16,12 @@ use Rattle.replay_log.specs.Worlds as worlds
 use Rattle.replay_log.specs.Worlds.{World, Seat, After, acted, actor_of, asks, at_stage, replied, seated}
 use Rattle.actor_parts.specs.Blocks.{IsLaid, BlocksView}
 use Rattle.tx_actor.specs.Running.{Runs, notice_of}
-use Rattle.tx_actor.specs.declared.actor.Told.{Told}
+use Rattle.tx_actor.specs.declared.actor.ActorNotice.{ActorNotice}
 use Rattle.tx_actor.specs.declared.actor.TxActor.{TxActor}
 
 module _ {V : Type 0} where
   -- In every world that is laid out so and in which r is an actor, it is u after f, which answers t.
-  abbrev pub Asks : BlocksView → TxActor V → TxActor V → Told V → (ℕ → World V → After V) → Type 0
+  abbrev pub Asks : BlocksView → TxActor V → TxActor V → ActorNotice V → (ℕ → World V → After V) → Type 0
   Asks v r u t f = (a : ℕ) (w : World V) → IsLaid v w → Runs a r w → Runs a u (f a w).0 × (notice_of a t ≡ (f a w).1)
 
   -- In every world that is laid out so and in which r is an actor, a call finds what it asks of, and its word finds room; and r is below

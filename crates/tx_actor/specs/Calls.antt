@@ -7,11 +7,11 @@ use Rattle.step_core.specs.Shown as words
 use Rattle.step_core.specs.declared.actor.Actor.{Actor}
 use Rattle.step_core.specs.declared.actor.Place.TheVariants as place
 use Rattle.tx_actor.specs.declared.actor.Stage.TheVariants as stage
-use Rattle.tx_actor.specs.declared.actor.Told.{Told}
+use Rattle.tx_actor.specs.declared.actor.ActorNotice.{ActorNotice}
 use Rattle.tx_actor.specs.declared.actor.TxActor.{TxActor}
 use Rattle.tx_actor.specs.Asks.{Stands}
 use Rattle.actor_parts.specs.Blocks.{BlocksView, IsLaid}
-use Rattle.actor_parts.specs.Keeps.{call_on}
+use Rattle.actor_parts.specs.CopyInWorld.{call_on}
 use Rattle.actor_parts.specs.Owns.{AreOfBlocks, MayCall}
 use Rattle.tx_actor.specs.Owns.{OwnsCopies}
 use Rattle.tx_actor.specs.Running.{Runs, notice_of}
@@ -35,7 +35,7 @@ module _ {V : Type 0} where
 
   -- In every world that is laid out so, in which r is an actor that owns its copies and may call, it is u after f, which answers t, and
   -- owns its copies.
-  abbrev pub AsksOwn : BlocksView → TxActor V → TxActor V → Told V → (ℕ → World V → After V) → Type 0
+  abbrev pub AsksOwn : BlocksView → TxActor V → TxActor V → ActorNotice V → (ℕ → World V → After V) → Type 0
   AsksOwn v r u t f =
       (a : ℕ) (w : World V) → IsLaid v w → Runs a r w → OwnsCopies r w a → MayCall w a
       → Runs a u (f a w).0 × (notice_of a t ≡ (f a w).1) × OwnsCopies u (f a w).0 a
@@ -45,7 +45,7 @@ module _ {V : Type 0} where
   StandsOwn r u = Stands r u × ((a : ℕ) (w : World V) → OwnsCopies r w a → OwnsCopies u w a)
 
   -- The same of any request: idle within a transaction it owns its copies, and may call, and owns them afterwards.
-  abbrev pub AsksAt : BlocksView → TxActor V → TxActor V → Told V → (ℕ → World V → After V) → Type 0
+  abbrev pub AsksAt : BlocksView → TxActor V → TxActor V → ActorNotice V → (ℕ → World V → After V) → Type 0
   AsksAt v r u t f =
       (a : ℕ) (w : World V) → IsLaid v w → Runs a r w → (r.stage ≡ stage.Open → OwnsCopies r w a × MayCall w a)
       → Runs a u (f a w).0 × (notice_of a t ≡ (f a w).1) × (r.stage ≡ stage.Open → OwnsCopies u (f a w).0 a)

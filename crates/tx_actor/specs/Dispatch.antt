@@ -3,28 +3,28 @@ use Rattle.std.specs.Prelude.{◌≡◌, ℕ, ◌<◌, Bool, true, false}
 use Rattle.tx_machine.specs.Notices as notice
 use Rattle.replay_log.specs.Worlds.{World, After, starve_at}
 use Rattle.actor_parts.specs.Dispatch.{MayGoOn, after_home, after_word}
-use Rattle.actor_parts.specs.Copies.{holds_of}
-use Rattle.actor_parts.specs.Kept.{copy_of}
+use Rattle.actor_parts.specs.PrivateCopy.{holds_of}
+use Rattle.actor_parts.specs.CopyList.{copy_of}
 use Rattle.tx_actor.specs.Answers.{CanLoad}
 use Rattle.tx_actor.specs.Running.{Does, Runs, notice_of, seat_at, seat_of, stage_of}
 use Rattle.std.specs.Vec.{vec_len, vec_capacity}
 use Rattle.tx_actor.specs.declared.actor.Stage as running
 use Rattle.tx_actor.specs.declared.actor.Stage.TheVariants as stage
-use Rattle.tx_actor.specs.declared.actor.Told.{Told}
+use Rattle.tx_actor.specs.declared.actor.ActorNotice.{ActorNotice}
 use Rattle.tx_actor.specs.declared.actor.TxActor.{TxActor}
 
 module _ {V : Type 0} where
   -- In every world in which r is an actor, it is u after f, which answers t, where it may continue.
-  abbrev pub Steps : TxActor V → TxActor V → Told V → (ℕ → World V → After V) → Type 0
+  abbrev pub Steps : TxActor V → TxActor V → ActorNotice V → (ℕ → World V → After V) → Type 0
   Steps r u t f = (a : ℕ) (w : World V) → MayGoOn a w (stage_of r.stage) → Runs a r w
       → Runs a u (f a w).0 × (notice_of a t ≡ (f a w).1)
 
   -- r becomes u by what the words answered
-  abbrev pub IsToldWord : TxActor V → TxActor V → Told V → notice.Notice → Type 0
+  abbrev pub IsToldWord : TxActor V → TxActor V → ActorNotice V → notice.Notice → Type 0
   IsToldWord r u t n = Steps r u t (λ a w. after_word w a (seat_at (w.seats a) r) (stage_of r.stage) n)
 
   -- and by a base that was put back
-  abbrev pub IsGoneHome : TxActor V → TxActor V → Told V → Type 0
+  abbrev pub IsGoneHome : TxActor V → TxActor V → ActorNotice V → Type 0
   IsGoneHome r u t = Steps r u t (λ a w. after_home w a (seat_at (w.seats a) r) (stage_of r.stage))
 
   -- a step of the words that makes a record of the transaction, or ends it
@@ -43,7 +43,7 @@ module _ {V : Type 0} where
   waits_at s = false
 
   -- r becomes u by a failed allocation
-  abbrev pub Starves : TxActor V → TxActor V → Told V → Type 0
+  abbrev pub Starves : TxActor V → TxActor V → ActorNotice V → Type 0
   Starves r u t = Does r u t (λ a w. starve_at w a (seat_of r) (stage_of r.stage))
 
   -- What the request that is under way has to find in its actor: room for the reply of a read; a gate is tried, and held, for a call that

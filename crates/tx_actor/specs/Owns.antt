@@ -3,7 +3,7 @@ use Rattle.std.specs.Prelude.{ℕ}
 use Rattle.replay_log.specs.Contents.{HaveStripes}
 use Rattle.replay_log.specs.Worlds.{World}
 use Rattle.tx_actor.specs.declared.actor.TxActor.{TxActor}
-use Rattle.actor_parts.specs.Kept.{copy_of}
+use Rattle.actor_parts.specs.CopyList.{copy_of}
 use Rattle.actor_parts.specs.Owns.{AreOnce, IsOwn}
 
 -- What r has of all collections is what a has of them in w.

@@ -6,8 +6,8 @@ use Rattle.step_core.specs.declared.actor.Actor.{Actor}
 use Rattle.replay_log.specs.Worlds.{World, acted, actor_of, moves, word_notice}
 use Rattle.actor_parts.specs.Blocks.{BlocksView}
 use Rattle.actor_parts.specs.Dispatch.{is_loading}
-use Rattle.tx_actor.specs.Keeping.{HasHeard, IsRunning}
-use Rattle.tx_actor.specs.Loads.{IsLoadable}
+use Rattle.tx_actor.specs.ActorBounds.{HasHeard, IsRunning}
+use Rattle.tx_actor.specs.LoadStep.{IsLoadable}
 use Rattle.tx_actor.specs.Running.{stage_of}
 use Rattle.tx_actor.specs.declared.actor.TxActor.{TxActor}
 

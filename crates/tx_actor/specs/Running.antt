@@ -7,24 +7,24 @@ use Rattle.step_core.specs.Shown as words
 use Rattle.replay_log.specs.Contents as contents
 use Rattle.replay_log.specs.Worlds as worlds
 use Rattle.replay_log.specs.Worlds.{World, Seat, After}
-use Rattle.actor_parts.specs.Kept.{copy_of, has_piece}
-use Rattle.tx_actor.specs.declared.actor.Asked.{Asked}
-use Rattle.tx_actor.specs.declared.actor.Answered as running
+use Rattle.actor_parts.specs.CopyList.{copy_of, has_piece}
+use Rattle.tx_actor.specs.declared.actor.CollectionCall.{CollectionCall}
+use Rattle.tx_actor.specs.declared.actor.CallWithOutcome as running
 use Rattle.tx_actor.specs.declared.actor.Stage.{Stage}
 use Rattle.tx_actor.specs.declared.actor.Stage.TheVariants as stage
-use Rattle.tx_actor.specs.declared.actor.Told.{Told}
-use Rattle.tx_actor.specs.declared.actor.Told.TheVariants as told
+use Rattle.tx_actor.specs.declared.actor.ActorNotice.{ActorNotice}
+use Rattle.tx_actor.specs.declared.actor.ActorNotice.TheVariants as told
 use Rattle.tx_actor.specs.declared.actor.TxActor.{TxActor}
 
 module _ {V : Type 0} where
-  abbrev pub asked_of : Asked V → contents.Asked V
+  abbrev pub asked_of : CollectionCall V → contents.CollectionCall V
   asked_of asked = record { collection = asked.collection; op = asked.op }
 
-  abbrev pub answered_of : running.Answered V → contents.Answered V
+  abbrev pub answered_of : running.CallWithOutcome V → contents.CallWithOutcome V
   answered_of o = record { asked = asked_of o.asked; outcome = o.outcome }
 
   -- the call with this outcome
-  abbrev pub with_outcome : running.Answered V → Option (Outcome V) → contents.Answered V
+  abbrev pub with_outcome : running.CallWithOutcome V → Option (Outcome V) → contents.CallWithOutcome V
   with_outcome o x = record { asked = asked_of o.asked; outcome = x }
 
   abbrev pub stage_of : Stage V → worlds.Stage V
@@ -91,7 +91,7 @@ module _ {V : Type 0} where
   IsSeatOf x r = (x.rv ≡ r.rv) × (x.wv ≡ r.wv) × (x.cause ≡ r.cause)
 
   -- what actor a is answered
-  abbrev pub notice_of : ℕ → Told V → Notice V
+  abbrev pub notice_of : ℕ → ActorNotice V → Notice V
   notice_of a told.Quiet = Quiet
   notice_of a (told.Answered x) = Answered a x
   notice_of a (told.Refused x) = Refused a x
@@ -107,11 +107,11 @@ module _ {V : Type 0} where
       (w.seats a ≡ seat_at (w.seats a) r) × (worlds.actor_of w a ≡ words.actor_of r.words) × KnowsHomes r.stage (worlds.written_homes w a)
 
   -- In every world in which r is an actor, it is u after f, which answers t.
-  abbrev pub Does : TxActor V → TxActor V → Told V → (ℕ → World V → After V) → Type 0
+  abbrev pub Does : TxActor V → TxActor V → ActorNotice V → (ℕ → World V → After V) → Type 0
   Does r u t f = (a : ℕ) (w : World V) → Runs a r w → Runs a u (f a w).0 × (notice_of a t ≡ (f a w).1)
 
   -- The same, whatever seat the world has for it; its word actor stands.
-  abbrev pub Reseats : TxActor V → TxActor V → Told V → (ℕ → World V → After V) → Type 0
+  abbrev pub Reseats : TxActor V → TxActor V → ActorNotice V → (ℕ → World V → After V) → Type 0
   Reseats r u t f = (a : ℕ) (w : World V) → worlds.actor_of w a ≡ words.actor_of r.words
       → Runs a u (f a w).0 × (notice_of a t ≡ (f a w).1)
 

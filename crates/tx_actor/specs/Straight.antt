@@ -8,8 +8,8 @@ use Rattle.conflict.specs.declared.outcome.Outcome.{Outcome}
 use Rattle.shadow.specs.Memo.{entry_outcome}
 use Rattle.step_core.specs.Shown as words
 use Rattle.step_core.specs.declared.actor.Actor.{Actor}
-use Rattle.actor_parts.specs.declared.copies.Copied.{Copied}
-use Rattle.actor_parts.specs.Copies.{answer_of, holds_call}
+use Rattle.actor_parts.specs.declared.copies.PrivateCopy.{PrivateCopy}
+use Rattle.actor_parts.specs.PrivateCopy.{answer_of, holds_call}
 use Rattle.actor_parts.specs.Footprints.{known_edition, reads_in, writes_in}
 use Rattle.actor_parts.specs.Puts.{put_on}
 use Rattle.actor_parts.specs.Room.{surely_fits}
@@ -21,13 +21,13 @@ module _ {V : Type 0} where
   is_put op = false
 
   -- the outcome of a put on this copy
-  abbrev pub put_outcome : Copied V → Op V → Outcome V
+  abbrev pub put_outcome : PrivateCopy V → Op V → Outcome V
   put_outcome c (Put k v) = put_on c k v
   put_outcome c op = entry_outcome op None
 
 -- The call is a put, which this copy of its collection, whose first location is f, answers. It reads and writes this location alone, which
 -- was read with the edition that was copied, and which the sets surely take.
-pub record IsPutRead {V : Type 0} (x : Actor) (c : Copied V) (f : ℕ) (op : Op V) (at : ℕ × ℕ) : Type 0 where
+pub record IsPutRead {V : Type 0} (x : Actor) (c : PrivateCopy V) (f : ℕ) (op : Op V) (at : ℕ × ℕ) : Type 0 where
   pub put : is_put op ≡ true
   pub answer : answer_of c op ≡ Some (put_outcome c op)
   pub reads : reads_in c (put_outcome c op) ≡ at.0 ∷ []
@@ -40,7 +40,7 @@ pub record IsPutRead {V : Type 0} (x : Actor) (c : Copied V) (f : ℕ) (op : Op 
   pub next : at.1 + 1 < 2 ^ 64
 
 -- the call is a put on a key that this copy has, and writes this location alone
-pub record CanPut {V : Type 0} (c : Copied V) (op : Op V) (l : ℕ) : Type 0 where
+pub record CanPut {V : Type 0} (c : PrivateCopy V) (op : Op V) (l : ℕ) : Type 0 where
   pub put : is_put op ≡ true
   pub held : holds_call c op ≡ true
   pub answer : answer_of c op ≡ Some (put_outcome c op)

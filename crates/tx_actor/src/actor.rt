@@ -1,6 +1,6 @@
 //! What an actor keeps: its word actor, where its request stands, its numbers, its cause, its calls, and what it has of collections.
-use crate::hand::{Asking, Kept};
-use actor_parts::{Boxed, CopyOf, Writes};
+use crate::hand::{ActorSpares, CallInHand};
+use actor_parts::{Boxed, CopyOfCollection, Writes};
 use conflict::Outcome;
 use seq_model::{Answer, Call, Op, Refusal, Reply};
 use std::collections::VecDeque;
@@ -8,15 +8,15 @@ use step_core::Actor;
 
 /// A call on a collection.
 #[derive(Drop)]
-pub struct Asked<V> {
+pub struct CollectionCall<V> {
     pub collection: u32,
     pub op: Op<V>,
 }
 
 /// A call with the outcome that it is going to have, and what its acceptance takes.
 #[derive(Drop)]
-pub struct Answered<V> {
-    pub asked: Asked<V>,
+pub struct CallWithOutcome<V> {
+    pub asked: CollectionCall<V>,
     pub outcome: Option<Outcome<V>>,
     /// Where the copy of its collection stands among the copies.
     pub place: usize,
@@ -38,11 +38,11 @@ pub enum Stage<V> {
     Leaving,
     Reading(u32),
     /// The gate of the call's collection is tried; so many tries are left after this one.
-    Trying(Asking<V>, u32),
+    Trying(CallInHand<V>, u32),
     /// That gate is held.
-    Copying(Asking<V>),
+    Copying(CallInHand<V>),
     /// The first of these locations is read, to be judged by the edition that was copied.
-    Loading(Boxed<Answered<V>>, VecDeque<(u32, u64)>),
+    Loading(Boxed<CallWithOutcome<V>>, VecDeque<(u32, u64)>),
     /// These collections have a written location.
     Locking(VecDeque<u32>),
     /// The gates of the first of these collections are held, and the next one is tried, with so many tries left after this one.
@@ -60,7 +60,7 @@ pub enum Stage<V> {
 
 /// What a step or a request answers.
 #[derive(Drop)]
-pub enum Told<V> {
+pub enum ActorNotice<V> {
     Quiet,
     Answered(Answer<V>),
     Refused(Refusal),
@@ -79,9 +79,9 @@ pub struct TxActor<V> {
     /// emptied list in which its calls gathered.
     pub made: Vec<(Call<V>, Reply<V>)>,
     /// What it has of the collections that its calls touched, each of which stands here once.
-    pub copies: Vec<CopyOf<V>>,
+    pub copies: Vec<CopyOfCollection<V>>,
     /// Memory that earlier calls and transactions took.
-    pub spares: Kept<V>,
+    pub spares: ActorSpares<V>,
 }
 
 impl<V: Drop> Drop for TxActor<V> {

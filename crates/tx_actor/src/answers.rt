@@ -7,34 +7,34 @@ ghost use Rattle.replay_log.specs.Worlds.{World};
 ghost use Rattle.step_core.specs.Shown.{actor_of};
 ghost use Rattle.tx_actor.specs.Answers.{CanAccept, CopiesAfter, IsAcceptedAt, MayAccept, MayAnswer};
 ghost use Rattle.conflict.specs.declared.outcome.Outcome.{Outcome};
-ghost use Rattle.actor_parts.specs.declared.copies.CopyOf.{CopyOf};
-ghost use Rattle.actor_parts.specs.Copies.{IsReady, holds_call};
+ghost use Rattle.actor_parts.specs.declared.copies.CopyOfCollection.{CopyOfCollection};
+ghost use Rattle.actor_parts.specs.PrivateCopy.{IsReady, holds_call};
 ghost use Rattle.actor_parts.specs.Judged.{comes_to, judged, left_after};
 ghost use Rattle.actor_parts.specs.declared.judged.Judged.TheVariants as judged_as;
 ghost use Rattle.actor_parts.specs.Blocks.{BlocksView};
-ghost use Rattle.tx_actor.specs.Having.{HasGone};
-ghost use Rattle.tx_actor.specs.Keeping.{CanGoOn, KeepsIn};
+ghost use Rattle.tx_actor.specs.CopiesByStage.{HasGone};
+ghost use Rattle.tx_actor.specs.ActorBounds.{CanGoOn, KeepsIn};
 ghost use Rattle.tx_actor.specs.Running.{Runs, answered_of, at, notice_of, seat_of, with_outcome};
-ghost use Rattle.tx_actor.specs.declared.actor.Told.TheVariants as told;
+ghost use Rattle.tx_actor.specs.declared.actor.ActorNotice.TheVariants as told;
 ghost use Rattle.seq_model.specs.declared.event.Answer.TheVariants.{Replied};
 
-use crate::actor::{Answered, Stage, Told, TxActor};
-use actor_parts::{Boxed, CopyOf, Judged, judge, write_all};
+use crate::actor::{ActorNotice, CallWithOutcome, Stage, TxActor};
+use actor_parts::{Boxed, CopyOfCollection, Judged, judge, write_all};
 use conflict::Outcome;
 use seq_model::{Answer, Call, Op, Refusal, Reply, Value};
 use std::collections::VecDeque;
 use std::mem;
 use step_core::Place;
 
-/// The outcome, which is ready in the copy at this place, joins it. Hands its reply out.
+/// The outcome, which is ready in the copy at this position, joins it. Hands its reply out.
 #[inline(always)]
 fn accept_at<V: Value>(
-    copies: &mut Vec<CopyOf<V>>,
+    copies: &mut Vec<CopyOfCollection<V>>,
     place: usize,
     outcome: &mut Option<Outcome<V>>,
 ) -> Reply<V>
     requires place { place < length copies.old.items }
-    requires ready { (c : CopyOf V) (x : Outcome V) → slice_get copies.old.items place ≡ Some c → outcome.old ≡ Some x →
+    requires ready { (c : CopyOfCollection V) (x : Outcome V) → slice_get copies.old.items place ≡ Some c → outcome.old ≡ Some x →
         IsReady x c.copied × (holds_call c.copied x.op ≡ true) }
     requires some { IsSome outcome.old }
     ensures accepted { IsAcceptedAt place outcome.old copies.old.items copies.new.items }
@@ -52,7 +52,7 @@ fn accept_at<V: Value>(
 impl<V: Value> TxActor<V> {
     /// A call is accepted, for which all is prepared: its writes are asked, and its outcome joins what there is of its collection.
     #[inline(always)]
-    fn accepts(&mut self, call: Boxed<Answered<V>>) -> Told<V>
+    fn accepts(&mut self, call: Boxed<CallWithOutcome<V>>) -> ActorNotice<V>
         requires prepared { CanAccept self.old call }
         ensures does { (a : ℕ) (w : World V) → worlds.actor_of w a ≡ actor_of self.old.words → MayAccept w a call →
             let f = comes_to w a (seat_of self.old) (answered_of call) [] judged_as.All in
@@ -76,17 +76,17 @@ impl<V: Value> TxActor<V> {
         let told = mem::replace(&mut answered.told, Reply::Done);
         self.spares.keep_call(call);
         self.stage = Stage::Open;
-        Told::Answered(Answer::Replied(told))
+        ActorNotice::Answered(Answer::Replied(told))
     }
 
     /// A call that is prepared continues: its locations are judged by the read set, from the first. Where the set has them all with these
     /// editions it is accepted; the first that the set does not have is read next; one that it has with another edition is stale.
     #[inline(always)]
-    pub(crate) fn goes_on(
+    pub(crate) fn continue_call(
         &mut self,
-        call: Boxed<Answered<V>>,
+        call: Boxed<CallWithOutcome<V>>,
         left: VecDeque<(u32, u64)>,
-    ) -> Told<V>
+    ) -> ActorNotice<V>
         requires prepared { CanAccept self.old call }
         ensures does { (a : ℕ) (w : World V) (x : Option (Outcome V)) → worlds.actor_of w a ≡ actor_of self.old.words →
             MayAnswer w a self.old.words x call left.items →
@@ -107,12 +107,12 @@ impl<V: Value> TxActor<V> {
             Judged::Next(location) => {
                 self.words.place = Place::Look(location);
                 self.stage = Stage::Loading(call, left);
-                Told::Quiet
+                ActorNotice::Quiet
             }
             Judged::Stale(location, base_edition, word_edition) => {
                 self.spares.keep_left(left);
                 self.spares.keep_call(call);
-                self.gives_up(Refusal::Stale {
+                self.abort_for(Refusal::Stale {
                     location,
                     base_edition,
                     word_edition,

@@ -5,17 +5,17 @@ ghost use Rattle.replay_log.specs.Worlds as worlds;
 ghost use Rattle.replay_log.specs.Worlds.{calls_on, is_known};
 ghost use Rattle.step_core.specs.Shown.{actor_of};
 ghost use Rattle.tx_actor.specs.Calls.{AsksOwn, CanCall, ask_call, is_allowed};
-ghost use Rattle.actor_parts.specs.Keeps.{call_on};
+ghost use Rattle.actor_parts.specs.CopyInWorld.{call_on};
 ghost use Rattle.actor_parts.specs.Requests.{HasNoReads};
-ghost use Rattle.tx_actor.specs.Having.{ReadsStill};
-ghost use Rattle.tx_actor.specs.Keeping.{KeepsIn};
-ghost use Rattle.tx_actor.specs.Prepares.{IsAlike, IsHeldAt, IsHeldPlace};
+ghost use Rattle.tx_actor.specs.CopiesByStage.{ReadsStill};
+ghost use Rattle.tx_actor.specs.ActorBounds.{KeepsIn};
+ghost use Rattle.tx_actor.specs.Prepares.{IsAlike, IsHeldAt, IsHeldPosition};
 ghost use Rattle.tx_actor.specs.Running.{seat_of};
 
-use crate::actor::{Stage, Told, TxActor};
+use crate::actor::{ActorNotice, Stage, TxActor};
 use crate::steps::MORE_TRIES;
 use crate::straight::put_place;
-use actor_parts::{Blocks, CopyOf, is_change, is_known, place_of};
+use actor_parts::{Blocks, CopyOfCollection, is_change, is_known, position_of};
 use seq_model::{CALL_LIMIT, Memory, Op, Refusal, Value};
 use std::alloc::Global;
 use step_core::Actor;
@@ -33,10 +33,14 @@ fn is_allowed<V>(blocks: &Blocks, words: &Actor, collection: u32, op: &Op<V>) ->
 
 /// Where the copy of the collection stands, if it has what the call touches.
 #[inline(always)]
-fn held_place<V: Value>(copies: &[CopyOf<V>], collection: u32, op: &Op<V>) -> Option<usize>
-    ensures { IsHeldPlace copies.now collection op.now result }
+fn held_position<V: Value>(
+    copies: &[CopyOfCollection<V>],
+    collection: u32,
+    op: &Op<V>,
+) -> Option<usize>
+    ensures { IsHeldPosition copies.now collection op.now result }
 {
-    match place_of(copies, collection) {
+    match position_of(copies, collection) {
         Some(place) => {
             if copies[place].copied.holds(op) {
                 return Some(place);
@@ -48,7 +52,7 @@ fn held_place<V: Value>(copies: &[CopyOf<V>], collection: u32, op: &Op<V>) -> Op
 }
 
 impl<V: Value> TxActor<V> {
-    /// The copy at this place has what the call touches. All that the call takes is made ready first.
+    /// The copy at this position has what the call touches. All that the call takes is made ready first.
     #[inline(never)]
     fn calls_ready(
         &mut self,
@@ -57,7 +61,7 @@ impl<V: Value> TxActor<V> {
         place: usize,
         collection: u32,
         op: Op<V>,
-    ) -> Result<Told<V>, Memory>
+    ) -> Result<ActorNotice<V>, Memory>
         requires can { CanCall blocks.now self.old }
         requires there { collection < length blocks.now.blocks }
         requires known { is_known (block_of blocks.now.blocks collection) op ≡ true }
@@ -71,15 +75,15 @@ impl<V: Value> TxActor<V> {
     {
         let first = blocks.first_of(collection);
         match self.prepares(alloc, place, first, op)? {
-            Some(prepared) => Ok(self.goes_on(prepared.call, prepared.left)),
+            Some(prepared) => Ok(self.continue_call(prepared.call, prepared.left)),
             None => {
                 self.stage = Stage::Open;
-                Ok(Told::Refused(Refusal::TooLong))
+                Ok(ActorNotice::Refused(Refusal::TooLong))
             }
         }
     }
 
-    /// The copy at this place has what the call touches.
+    /// The copy at this position has what the call touches.
     #[inline(always)]
     fn calls_held(
         &mut self,
@@ -88,7 +92,7 @@ impl<V: Value> TxActor<V> {
         place: usize,
         collection: u32,
         op: Op<V>,
-    ) -> Result<Told<V>, Memory>
+    ) -> Result<ActorNotice<V>, Memory>
         requires can { CanCall blocks.now self.old }
         requires there { collection < length blocks.now.blocks }
         requires known { is_known (block_of blocks.now.blocks collection) op ≡ true }
@@ -120,7 +124,7 @@ impl<V: Value> TxActor<V> {
         blocks: &Blocks,
         collection: u32,
         op: Op<V>,
-    ) -> Result<Told<V>, Memory>
+    ) -> Result<ActorNotice<V>, Memory>
         requires can { CanCall blocks.now self.old }
         requires there { collection < length blocks.now.blocks }
         requires known { is_known (block_of blocks.now.blocks collection) op ≡ true }
@@ -131,7 +135,7 @@ impl<V: Value> TxActor<V> {
         ensures keeps { HasNoReads self.old.words → KeepsIn blocks.now self.old self.new }
         ensures still { ReadsStill self.old.copies.items self.new.copies.items }
     {
-        match held_place(&self.copies, collection, &op) {
+        match held_position(&self.copies, collection, &op) {
             Some(place) => {
                 let told = self.calls_held(alloc, blocks, place, collection, op)?;
                 Ok(told)
@@ -139,7 +143,7 @@ impl<V: Value> TxActor<V> {
             None => {
                 let asked = self.spares.ask(alloc, collection, op)?;
                 self.stage = Stage::Trying(asked, MORE_TRIES);
-                Ok(Told::Quiet)
+                Ok(ActorNotice::Quiet)
             }
         }
     }
@@ -149,13 +153,13 @@ impl<V: Value> TxActor<V> {
     /// where the call's locations don't fit the sets, else it is accepted, or a location is read first, or the transaction is aborted, as
     /// its copy is stale. Where it has not what the call touches, the collection's gate is tried next. `Memory`, where an allocation fails,
     /// leaves the actor as it was.
-    pub fn asks_to_call(
+    pub fn request_call(
         &mut self,
         alloc: Global,
         blocks: &Blocks,
         collection: u32,
         op: Op<V>,
-    ) -> Result<Told<V>, Memory>
+    ) -> Result<ActorNotice<V>, Memory>
         requires { CanCall blocks.now self.old }
         ensures ok { IfOk result (λ told. AsksOwn blocks.now self.old self.new told
             (λ a w. ask_call w a (seat_of self.old) collection op)) }
@@ -166,10 +170,10 @@ impl<V: Value> TxActor<V> {
         ensures still { ReadsStill self.old.copies.items self.new.copies.items }
     {
         if !is_allowed(blocks, &self.words, collection, &op) {
-            return Ok(Told::Refused(Refusal::NoSuch));
+            return Ok(ActorNotice::Refused(Refusal::NoSuch));
         }
         if self.calls.len() >= CALL_LIMIT {
-            return Ok(Told::Refused(Refusal::TooLong));
+            return Ok(ActorNotice::Refused(Refusal::TooLong));
         }
         let told = self.calls_on(alloc, blocks, collection, op)?;
         Ok(told)

@@ -3,19 +3,19 @@
 ghost use Rattle.std.specs.Prelude.{◌≡◌, ◌<◌, ◌+◌, ◌≤◌, ◌^◌, IfOk, OnErr, Some, length};
 ghost use Rattle.replay_log.specs.Base.{locations_of, shown_of, stripes_of};
 ghost use Rattle.replay_log.specs.Contents.{block_of, first_of};
-ghost use Rattle.actor_parts.specs.Copies.{IsFound};
+ghost use Rattle.actor_parts.specs.PrivateCopy.{IsFound};
 ghost use Rattle.tx_actor.specs.Copying.{AreReadyIn, CanCopy, CanCopyAt, HasTaken, HasTakenAt, IsReadyIn, IsUnmoved, MayTake, StepsOn};
 ghost use Rattle.tx_actor.specs.Copying.{StepsOnAt};
 ghost use Rattle.actor_parts.specs.Requests.{HasNoReads};
 ghost use Rattle.tx_actor.specs.Dispatch.{Starves};
-ghost use Rattle.tx_actor.specs.Having.{KeepsCopies};
-ghost use Rattle.tx_actor.specs.Keeping.{KeepsIn};
+ghost use Rattle.tx_actor.specs.CopiesByStage.{KeepsCopies};
+ghost use Rattle.tx_actor.specs.ActorBounds.{KeepsIn};
 ghost use Rattle.tx_actor.specs.Running.{at};
-ghost use Rattle.tx_actor.specs.declared.actor.Told.TheVariants as told;
+ghost use Rattle.tx_actor.specs.declared.actor.ActorNotice.TheVariants as told;
 
-use crate::actor::{Answered, Stage, Told, TxActor};
-use crate::hand::Asking;
-use actor_parts::{Blocks, Found, fits_base, take_back};
+use crate::actor::{ActorNotice, CallWithOutcome, Stage, TxActor};
+use crate::hand::CallInHand;
+use actor_parts::{BaseExcerpt, Blocks, fits_base, take_back};
 use replay_log::Base;
 use seq_model::{Memory, Refusal, Value};
 use std::alloc::Global;
@@ -30,8 +30,8 @@ impl<V: Value> TxActor<V> {
         alloc: Global,
         stripes: u32,
         first: u32,
-        found: Found<V>,
-        call: &mut Answered<V>,
+        found: BaseExcerpt<V>,
+        call: &mut CallWithOutcome<V>,
     ) -> Result<VecDeque<(u32, u64)>, Memory>
         requires { MayTake self.old stripes first found call.old.asked }
         ensures ok { IfOk result (λ left. IsReadyIn self.old self.new stripes first found call.old.asked call.new left) }
@@ -60,7 +60,7 @@ impl<V: Value> TxActor<V> {
         alloc: Global,
         blocks: &Blocks,
         base: &Base<V>,
-        call: &mut Answered<V>,
+        call: &mut CallWithOutcome<V>,
     ) -> Result<Option<VecDeque<(u32, u64)>>, Memory>
         requires { CanCopy blocks.now self.old base.now call.old.asked }
         ensures ok { IfOk result (λ copied. AreReadyIn blocks.now self.old self.new base.now call.old.asked call.new copied) }
@@ -80,13 +80,13 @@ impl<V: Value> TxActor<V> {
         }
     }
 
-    fn has_copied(
+    fn on_copied(
         &mut self,
         alloc: Global,
         blocks: &Blocks,
         base: &Base<V>,
-        asked: Asking<V>,
-    ) -> Result<Told<V>, Memory>
+        asked: CallInHand<V>,
+    ) -> Result<ActorNotice<V>, Memory>
         requires { CanCopy blocks.now self.old base.now asked }
         ensures ok { IfOk result (λ told. StepsOn blocks.now (at self.old (Stage.Copying asked)) self.new told base.now asked) }
         ensures err { OnErr result (Starves (at self.old (Stage.Copying asked)) self.new told.Quiet) }
@@ -97,11 +97,11 @@ impl<V: Value> TxActor<V> {
         let collection = asked.get().collection;
         let mut call = asked.answering();
         match self.copies_for(alloc, blocks, base, call.get_mut()) {
-            Ok(Some(left)) => Ok(self.goes_on(call, left)),
+            Ok(Some(left)) => Ok(self.continue_call(call, left)),
             Ok(None) => {
                 self.spares.keep_call(call);
                 self.stage = Stage::Open;
-                Ok(Told::Refused(Refusal::TooLong))
+                Ok(ActorNotice::Refused(Refusal::TooLong))
             }
             Err(_) => {
                 let _ = self.starves_copying(collection);
@@ -113,12 +113,12 @@ impl<V: Value> TxActor<V> {
     /// The gate of its call is held, and this is the base of the call's collection: what the call touches is copied, and the gate may be
     /// put back. `TooLong` where its locations don't fit the sets, else it is accepted, or a location is read first, or the transaction is
     /// aborted, as the copy is stale. Where an allocation fails the transaction is aborted for `Memory`, and holds the gate.
-    pub fn copied(
+    pub fn copy_at_gate(
         &mut self,
         alloc: Global,
         blocks: &Blocks,
         base: &Base<V>,
-    ) -> Result<Told<V>, Memory>
+    ) -> Result<ActorNotice<V>, Memory>
         requires { CanCopyAt blocks.now self.old base.now self.old.stage }
         ensures ok { IfOk result (λ told. StepsOnAt blocks.now self.old self.new told base.now self.old.stage) }
         ensures err { OnErr result (Starves self.old self.new told.Quiet) }
@@ -128,8 +128,8 @@ impl<V: Value> TxActor<V> {
     {
         let stage = mem::replace(&mut self.stage, Stage::Idle);
         match stage {
-            Stage::Copying(asked) => self.has_copied(alloc, blocks, base, asked),
-            other => Ok(self.stays(other)),
+            Stage::Copying(asked) => self.on_copied(alloc, blocks, base, asked),
+            other => Ok(self.unchanged(other)),
         }
     }
 }

@@ -1,11 +1,13 @@
 //! The call in hand of an actor, which moves as a pointer from its first try to its reply, and the memory that the next one has from it.
 ghost use Rattle.std.specs.Prelude.{◌≡◌, IfOk, OnErr, []};
-ghost use Rattle.actor_parts.specs.Copies.{IsFound, changes_in, locations_in};
-ghost use Rattle.actor_parts.specs.Kept.{HaveSame};
+ghost use Rattle.actor_parts.specs.PrivateCopy.{IsFound, changes_in, locations_in};
+ghost use Rattle.actor_parts.specs.CopyList.{HaveSame};
 ghost use Rattle.actor_parts.specs.Taking.{IsTakenAt, IsTakenFrom};
 
-use crate::actor::{Answered, Asked};
-use actor_parts::{Boxed, Copied, CopyOf, Found, Spares, find, take, take_from};
+use crate::actor::{CallWithOutcome, CollectionCall};
+use actor_parts::{
+    BaseExcerpt, Boxed, CopyOfCollection, PrivateCopy, Spares, find, take, take_from,
+};
 use replay_log::{Base, Log};
 use seq_model::{Memory, Op, Refusal, Reply, Value};
 use smallvec::SmallVec;
@@ -16,49 +18,49 @@ use std::mem;
 
 /// A call on a collection, in the box that will hold its outcome. Contracts see the call alone.
 #[derive(Drop)]
-pub struct Asking<V> {
-    call: Boxed<Answered<V>>,
+pub struct CallInHand<V> {
+    call: Boxed<CallWithOutcome<V>>,
 }
 
-impl<V> Model for Asking<V> {
-    ghost use Rattle.tx_actor.specs.declared.actor.Asked.{Asked};
+impl<V> Model for CallInHand<V> {
+    ghost use Rattle.tx_actor.specs.declared.actor.CollectionCall.{CollectionCall};
 
-    ghost Value = { Asked V };
+    ghost Value = { CollectionCall V };
 
     ghost view = { λ a. a.call.asked };
 }
 
-impl<V> Asking<V> {
+impl<V> CallInHand<V> {
     /// The call.
-    pub fn get(&self) -> &Asked<V>
+    pub fn get(&self) -> &CollectionCall<V>
         ensures { result.now ≡ self.now }
     {
         &self.call.get().asked
     }
 
     /// The call, in the same box, with room for its answer. What that holds is unused.
-    pub(crate) fn answering(self) -> Boxed<Answered<V>>
+    pub(crate) fn answering(self) -> Boxed<CallWithOutcome<V>>
         ensures { result.asked ≡ self }
     {
-        let Asking { call } = self;
+        let CallInHand { call } = self;
         call
     }
 }
 
 /// Memory that served an actor, to serve it again: that of its earlier transactions, and the box of its last call. Contracts see nothing
 /// of it.
-pub struct Kept<V> {
+pub struct ActorSpares<V> {
     copies: Spares<V>,
-    call: Option<Boxed<Answered<V>>>,
+    call: Option<Boxed<CallWithOutcome<V>>>,
 }
 
-impl<V: Drop> Drop for Kept<V> {
+impl<V: Drop> Drop for ActorSpares<V> {
     fn drop(self) {
-        let Kept { copies: _, call: _ } = self;
+        let ActorSpares { copies: _, call: _ } = self;
     }
 }
 
-impl<V> Model for Kept<V> {
+impl<V> Model for ActorSpares<V> {
     ghost use Rattle.std.specs.Prelude.{⊤};
 
     ghost Value = { ⊤ };
@@ -68,10 +70,10 @@ impl<V> Model for Kept<V> {
 
 #[cold]
 #[inline(never)]
-fn blank<V: Drop>(alloc: Global, asked: Asked<V>) -> Answered<V>
+fn blank<V: Drop>(alloc: Global, asked: CollectionCall<V>) -> CallWithOutcome<V>
     ensures { result.asked ≡ asked }
 {
-    Answered {
+    CallWithOutcome {
         asked,
         outcome: None,
         place: 0,
@@ -80,10 +82,10 @@ fn blank<V: Drop>(alloc: Global, asked: Asked<V>) -> Answered<V>
     }
 }
 
-impl<V: Drop> Kept<V> {
+impl<V: Drop> ActorSpares<V> {
     /// None yet. It takes no memory.
-    pub fn new(alloc: Global) -> Kept<V> {
-        Kept {
+    pub fn new(alloc: Global) -> ActorSpares<V> {
+        ActorSpares {
             copies: Spares::new(alloc),
             call: None,
         }
@@ -96,31 +98,31 @@ impl<V: Drop> Kept<V> {
         alloc: Global,
         collection: u32,
         op: Op<V>,
-    ) -> Result<Asking<V>, Memory>
+    ) -> Result<CallInHand<V>, Memory>
         ensures { IfOk result (λ asking. asking ≡ record { collection = collection; op = op }) }
     {
-        let asked = Asked { collection, op };
+        let asked = CollectionCall { collection, op };
         match mem::replace(&mut self.call, None) {
             Some(kept) => {
                 let mut call = kept;
                 call.get_mut().asked = asked;
-                Ok(Asking { call })
+                Ok(CallInHand { call })
             }
             None => {
                 let call = Boxed::new(alloc, blank(alloc, asked))?;
-                Ok(Asking { call })
+                Ok(CallInHand { call })
             }
         }
     }
 
     /// Like [`Spares::clear`], [`Spares::log_of`] and their kin.
-    pub(crate) fn clear(&mut self, copies: &mut Vec<CopyOf<V>>)
+    pub(crate) fn clear(&mut self, copies: &mut Vec<CopyOfCollection<V>>)
         ensures { copies.new.items ≡ [] }
     {
         self.copies.clear(copies);
     }
 
-    pub(crate) fn log_of(&mut self, copied: Copied<V>) -> Log<V>
+    pub(crate) fn log_of(&mut self, copied: PrivateCopy<V>) -> Log<V>
         ensures changes { result.changes ≡ changes_in copied }
         ensures locations { result.locations ≡ locations_in copied }
     {
@@ -131,7 +133,7 @@ impl<V: Drop> Kept<V> {
         self.copies.keep_log(log);
     }
 
-    pub(crate) fn keep_copied(&mut self, copied: Copied<V>) {
+    pub(crate) fn keep_copied(&mut self, copied: PrivateCopy<V>) {
         self.copies.keep_copied(copied);
     }
 
@@ -152,12 +154,12 @@ impl<V: Drop> Kept<V> {
     }
 
     /// Keeps the box of a call that has ended.
-    pub(crate) fn keep_call(&mut self, call: Boxed<Answered<V>>) {
+    pub(crate) fn keep_call(&mut self, call: Boxed<CallWithOutcome<V>>) {
         self.call = Some(call);
     }
 }
 
-impl<V: Value> Kept<V> {
+impl<V: Value> ActorSpares<V> {
     /// Like `find` of `actor_parts`.
     #[inline(always)]
     pub(crate) fn find(
@@ -165,7 +167,7 @@ impl<V: Value> Kept<V> {
         alloc: Global,
         base: &Base<V>,
         op: &Op<V>,
-    ) -> Result<Found<V>, Refusal>
+    ) -> Result<BaseExcerpt<V>, Refusal>
         ensures { IfOk result (λ found. IsFound base.now op.now found) }
     {
         find(&mut self.copies, alloc, base, op)
@@ -174,11 +176,11 @@ impl<V: Value> Kept<V> {
     /// Like `take` of `actor_parts`.
     pub(crate) fn take(
         &mut self,
-        copies: &mut Vec<CopyOf<V>>,
+        copies: &mut Vec<CopyOfCollection<V>>,
         alloc: Global,
         stripes: u32,
         collection: u32,
-        found: Found<V>,
+        found: BaseExcerpt<V>,
     ) -> Result<usize, Memory>
         ensures ok { IfOk result (λ place. IsTakenAt stripes collection found place copies.old.items copies.new.items) }
         ensures err { OnErr result (HaveSame copies.old.items copies.new.items) }
@@ -190,7 +192,7 @@ impl<V: Value> Kept<V> {
     #[inline(always)]
     pub(crate) fn take_from(
         &mut self,
-        copies: &mut Vec<CopyOf<V>>,
+        copies: &mut Vec<CopyOfCollection<V>>,
         alloc: Global,
         stripes: u32,
         collection: u32,

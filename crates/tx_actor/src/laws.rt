@@ -3,24 +3,24 @@ ghost use Rattle.std.specs.Prelude.{◌≡◌, ◌≢◌, ◌<◌, ℕ, [], None
 ghost use Rattle.conflict.specs.declared.outcome.Outcome.{Outcome};
 ghost use Rattle.tx_machine.specs.Boosted.{longer};
 ghost use Rattle.replay_log.specs.Contents.{HaveStripes};
-ghost use Rattle.actor_parts.specs.Copies.{answer_of, answered_on};
+ghost use Rattle.actor_parts.specs.PrivateCopy.{answer_of, answered_on};
 ghost use Rattle.replay_log.specs.Worlds.{World, actor_of};
-ghost use Rattle.tx_actor.specs.Loading.{KeepsCall, MayHear};
-ghost use Rattle.actor_parts.specs.Loading.{LoadsReached};
+ghost use Rattle.tx_actor.specs.LoadInWorld.{KeepsCall, MayHear};
+ghost use Rattle.actor_parts.specs.LoadInWorld.{LoadsReached};
 ghost use Rattle.tx_actor.specs.Seated.{SeatsActors};
-ghost use Rattle.actor_parts.specs.declared.copies.CopyOf.{CopyOf};
+ghost use Rattle.actor_parts.specs.declared.copies.CopyOfCollection.{CopyOfCollection};
 ghost use Rattle.tx_actor.specs.declared.actor.TxActor.{TxActor};
 ghost use Rattle.tx_actor.specs.Answers.{IsAcceptedAt};
 ghost use Rattle.actor_parts.specs.Blocks.{BlocksView, IsLaid};
 ghost use Rattle.actor_parts.specs.Owns.{AreOfBlocks, IsOwn};
-ghost use Rattle.actor_parts.specs.declared.copies.Copied.{Copied};
-ghost use Rattle.actor_parts.specs.Copied.{IsReadOf};
-ghost use Rattle.actor_parts.specs.Staying.{Stays};
-ghost use Rattle.tx_actor.specs.Having.{HasCopies, KeepsCopies, OwnsAll, ReadsStill};
-ghost use Rattle.tx_actor.specs.Keeping.{IsRunning};
+ghost use Rattle.actor_parts.specs.declared.copies.PrivateCopy.{PrivateCopy};
+ghost use Rattle.actor_parts.specs.CopyAtGate.{IsReadOf};
+ghost use Rattle.actor_parts.specs.CopiesAfterEvent.{Stays};
+ghost use Rattle.tx_actor.specs.CopiesByStage.{HasCopies, KeepsCopies, OwnsAll, ReadsStill};
+ghost use Rattle.tx_actor.specs.ActorBounds.{IsRunning};
 ghost use Rattle.tx_actor.specs.Reading.{LoadsKeep};
 ghost use Rattle.tx_actor.specs.Owns.{OwnsCopies};
-ghost use Rattle.tx_actor.specs.Staying.{CopiesStayOwn, LoadsStayOwn};
+ghost use Rattle.tx_actor.specs.CopiesAfterStep.{CopiesStayOwn, LoadsStayOwn};
 ghost use Rattle.tx_actor.specs.Trying.{HoldsGates};
 
 use crate::actor::Stage;
@@ -60,7 +60,7 @@ pub fn copies_stay_own<V: Value>()
     ensures accepted { (r u : TxActor V) (w v : World V) (a i j : ℕ) (o : Outcome V) → v.words ≡ w.words → v.blocks ≡ w.blocks →
         v.boosted.shadows a ≡ longer (w.boosted.shadows a) (answered_on j o.op o) →
         IsAcceptedAt i (Some o) r.copies.items u.copies.items →
-        ((c : CopyOf V) → slice_get r.copies.items i ≡ Some c → (c.collection ≡ j) × (answer_of c.copied o.op ≡ Some o)) →
+        ((c : CopyOfCollection V) → slice_get r.copies.items i ≡ Some c → (c.collection ≡ j) × (answer_of c.copied o.op ≡ Some o)) →
         OwnsCopies r w a → OwnsCopies u v a }
     ensures blocks { (v : BlocksView) (r : TxActor V) (w : World V) (a : ℕ) → IsLaid v w → OwnsCopies r w a → AreOfBlocks v r.copies.items }
 {}
@@ -77,7 +77,7 @@ pub fn copies_by_stage<V: Value>()
     ensures others { (r : TxActor V) (w v : World V) (a : ℕ) → actor_of v a ≡ actor_of w a → Stays w v a → HasCopies r w a →
         HasCopies r v a }
     ensures asked { (r u : TxActor V) (w v : World V) (a : ℕ) → ReadsStill r.copies.items u.copies.items →
-        ((k : ℕ) (c : Option (Copied V)) → IsReadOf w a k c → IsReadOf v a k c) → OwnsAll r w a → OwnsCopies u v a → OwnsAll u v a }
+        ((k : ℕ) (c : Option (PrivateCopy V)) → IsReadOf w a k c → IsReadOf v a k c) → OwnsAll r w a → OwnsCopies u v a → OwnsAll u v a }
     ensures all { (b : BlocksView) (r : TxActor V) (w : World V) (a : ℕ) → IsLaid b w → IsRunning b r → OwnsAll r w a → HasCopies r w a }
 {
     copies_stay::<V>();
@@ -93,7 +93,7 @@ pub fn loads_stay_own<V: Value>()
 
 /// So it is where a call's part of a base is copied: what was there is unchanged, and what is taken is its own, or one of its locations was
 /// read with another edition, so that the call is never accepted.
-pub fn copied_stay_own<V: Value>()
+pub fn taken_parts_are_own<V: Value>()
     ensures { CopiesStayOwn V }
 {
     copies_stay::<V>();

@@ -24,7 +24,7 @@ mod straight;
 mod taking;
 pub mod turn_laws;
 
-pub use actor::{Answered, Asked, Stage, Told, TxActor};
-pub use hand::{Asking, Kept};
+pub use actor::{ActorNotice, CallWithOutcome, CollectionCall, Stage, TxActor};
+pub use hand::{ActorSpares, CallInHand};
 pub use prepares::Prepared;
-pub use taking::{Taken, Waiting};
+pub use taking::{KeyedCall, WaitingCall};

@@ -4,13 +4,13 @@ ghost use Rattle.std.specs.Prelude.{◌≡◌, ◌⊎◌, Some};
 ghost use Rattle.tx_machine.specs.Notices as notice;
 ghost use Rattle.tx_actor.specs.Answers.{CanAccept};
 ghost use Rattle.actor_parts.specs.Dispatch.{notice_told, shown_notice};
-ghost use Rattle.tx_actor.specs.Loads.{IsLoadable, IsToldLoad, first_entry};
+ghost use Rattle.tx_actor.specs.LoadStep.{IsLoadable, IsToldLoad, first_entry};
 ghost use Rattle.actor_parts.specs.Blocks.{BlocksView};
-ghost use Rattle.tx_actor.specs.Having.{AsksNothing, HasFound, HasLoaded, IsAsBefore};
-ghost use Rattle.tx_actor.specs.Keeping.{KeepsHeard};
+ghost use Rattle.tx_actor.specs.CopiesByStage.{AsksNothing, HasFound, HasLoaded, IsAsBefore};
+ghost use Rattle.tx_actor.specs.ActorBounds.{KeepsHeard};
 ghost use Rattle.tx_actor.specs.Running.{at};
 
-use crate::actor::{Answered, Stage, Told, TxActor};
+use crate::actor::{ActorNotice, CallWithOutcome, Stage, TxActor};
 use crate::dispatch::is_quiet;
 use actor_parts::{Boxed, WordNotice, of_told};
 use seq_model::{Refusal, Value};
@@ -29,13 +29,13 @@ pub(crate) fn first_left(left: &VecDeque<(u32, u64)>) -> Option<(u32, u64)>
 impl<V: Value> TxActor<V> {
     /// The first location, which was copied with this edition, was read with that one.
     #[inline(always)]
-    fn has_first(
+    fn on_first_found(
         &mut self,
-        call: Boxed<Answered<V>>,
+        call: Boxed<CallWithOutcome<V>>,
         left: VecDeque<(u32, u64)>,
         first: (u32, u64),
         edition: u64,
-    ) -> Told<V>
+    ) -> ActorNotice<V>
         requires prepared { CanAccept self.old call }
         requires first { first_entry left.items ≡ Some first }
         ensures does { IsToldLoad (at self.old (Stage.Loading call left)) self.new result (notice.Number edition) }
@@ -46,7 +46,7 @@ impl<V: Value> TxActor<V> {
         if copied != edition {
             self.spares.keep_left(left);
             self.spares.keep_call(call);
-            return self.gives_up(Refusal::Stale {
+            return self.abort_for(Refusal::Stale {
                 location: first.0,
                 base_edition: copied,
                 word_edition: edition,
@@ -54,74 +54,74 @@ impl<V: Value> TxActor<V> {
         }
         let mut left = left;
         let _ = left.pop_front();
-        self.goes_on(call, left)
+        self.continue_call(call, left)
     }
 
     /// The first location was read with this edition, for a call that is in hand.
     #[inline(always)]
-    pub fn has_found(
+    pub fn on_found(
         &mut self,
-        call: Boxed<Answered<V>>,
+        call: Boxed<CallWithOutcome<V>>,
         left: VecDeque<(u32, u64)>,
         edition: u64,
-    ) -> Told<V>
+    ) -> ActorNotice<V>
         requires prepared { CanAccept self.old call }
         ensures does { IsToldLoad (at self.old (Stage.Loading call left)) self.new result (notice.Number edition) }
         ensures keeps { (v : BlocksView) → KeepsHeard v (at self.old (Stage.Loading call left)) self.new (notice.Number edition) }
         ensures goes { HasFound (at self.old (Stage.Loading call left)) self.new result call left.items edition }
     {
         match first_left(&left) {
-            None => self.stays(Stage::Loading(call, left)),
-            Some(first) => self.has_first(call, left, first, edition),
+            None => self.unchanged(Stage::Loading(call, left)),
+            Some(first) => self.on_first_found(call, left, first, edition),
         }
     }
 
     /// The first location has moved.
     #[inline(never)]
-    fn has_moved(
+    fn on_moved(
         &mut self,
-        call: Boxed<Answered<V>>,
+        call: Boxed<CallWithOutcome<V>>,
         left: VecDeque<(u32, u64)>,
         location: u32,
         word: u64,
-    ) -> Told<V>
+    ) -> ActorNotice<V>
         ensures does { IsToldLoad (at self.old (Stage.Loading call left)) self.new result (notice.Moved location word) }
         ensures keeps { (v : BlocksView) → KeepsHeard v (at self.old (Stage.Loading call left)) self.new (notice.Moved location word) }
         ensures goes { AsksNothing self.new ⊎ IsAsBefore (at self.old (Stage.Loading call left)) self.new result }
     {
         match first_left(&left) {
-            None => self.stays(Stage::Loading(call, left)),
+            None => self.unchanged(Stage::Loading(call, left)),
             Some(_) => {
                 self.spares.keep_left(left);
                 self.spares.keep_call(call);
-                self.gives_up(Refusal::Moved { location, word })
+                self.abort_for(Refusal::Moved { location, word })
             }
         }
     }
 
     #[inline(always)]
-    fn has_loaded(
+    fn on_loaded(
         &mut self,
         heard: WordNotice,
-        call: Boxed<Answered<V>>,
+        call: Boxed<CallWithOutcome<V>>,
         left: VecDeque<(u32, u64)>,
-    ) -> Told<V>
+    ) -> ActorNotice<V>
         requires prepared { IsLoadable self.old (Stage.Loading call left) (shown_notice heard) }
         ensures does { IsToldLoad (at self.old (Stage.Loading call left)) self.new result (shown_notice heard) }
         ensures keeps { (v : BlocksView) → KeepsHeard v (at self.old (Stage.Loading call left)) self.new (shown_notice heard) }
         ensures goes { let r = at self.old (Stage.Loading call left) in HasLoaded r self.new result r.stage (shown_notice heard) }
     {
         match heard {
-            WordNotice::Number(edition) => self.has_found(call, left, edition),
-            WordNotice::Moved(location, word) => self.has_moved(call, left, location, word),
-            _ => self.stays(Stage::Loading(call, left)),
+            WordNotice::Number(edition) => self.on_found(call, left, edition),
+            WordNotice::Moved(location, word) => self.on_moved(call, left, location, word),
+            _ => self.unchanged(Stage::Loading(call, left)),
         }
     }
 
     /// Its word actor has taken a step of the load of a call's location, which answered this. Where an edition was read, all that the
     /// call's acceptance takes is there.
     #[inline(always)]
-    pub fn loaded(&mut self, told: Result<Option<WordAnswer>, WordRefusal>) -> Told<V>
+    pub fn on_load_step(&mut self, told: Result<Option<WordAnswer>, WordRefusal>) -> ActorNotice<V>
         requires prepared { IsLoadable self.old self.old.stage (notice_told told) }
         ensures does { IsToldLoad self.old self.new result (notice_told told) }
         ensures keeps { (v : BlocksView) → KeepsHeard v self.old self.new (notice_told told) }
@@ -129,12 +129,12 @@ impl<V: Value> TxActor<V> {
     {
         let heard = of_told(told);
         if is_quiet(heard) {
-            return Told::Quiet;
+            return ActorNotice::Quiet;
         }
         let stage = mem::replace(&mut self.stage, Stage::Idle);
         match stage {
-            Stage::Loading(call, left) => self.has_loaded(heard, call, left),
-            other => self.stays(other),
+            Stage::Loading(call, left) => self.on_loaded(heard, call, left),
+            other => self.unchanged(other),
         }
     }
 }

@@ -3,14 +3,14 @@ ghost use Rattle.std.specs.Prelude.{◌≡◌, ◌<◌, ◌^◌, All, OnOk, slic
 ghost use Rattle.replay_log.specs.Base.{IsPreparedFor, StaysPrepared, after, editions_of, locations_of, shown_of, stripes_of};
 ghost use Rattle.replay_log.specs.Log.{AreRaised};
 ghost use Rattle.actor_parts.specs.Blocks.{BlocksView};
-ghost use Rattle.tx_actor.specs.Keeping.{KeepsIn};
+ghost use Rattle.tx_actor.specs.ActorBounds.{KeepsIn};
 ghost use Rattle.actor_parts.specs.Logs.{OthersStand, changes_had, locations_had};
 ghost use Rattle.tx_actor.specs.Asks.{Stands};
-ghost use Rattle.actor_parts.specs.Kept.{copy_of};
+ghost use Rattle.actor_parts.specs.CopyList.{copy_of};
 ghost use Rattle.tx_actor.specs.Running.{is_recorded};
 
 use crate::actor::TxActor;
-use actor_parts::place_of;
+use actor_parts::position_of;
 use replay_log::{Base, Log};
 use seq_model::{Memory, Value};
 use std::alloc::Global;
@@ -25,7 +25,7 @@ impl<V: Value> TxActor<V> {
         ensures editions { editions_of base.new ≡ editions_of base.old }
         ensures room { StaysPrepared base.old base.new }
     {
-        match place_of(&self.copies, collection) {
+        match position_of(&self.copies, collection) {
             Some(place) => self.copies[place].copied.prepare(base),
             None => Ok(()),
         }
@@ -42,7 +42,7 @@ impl<V: Value> TxActor<V> {
         ensures stands { is_recorded self.old.stage ≡ true → Stands self.old self.new }
         ensures keeps { is_recorded self.old.stage ≡ true → (v : BlocksView) → KeepsIn v self.old self.new }
     {
-        match place_of(&self.copies, collection) {
+        match position_of(&self.copies, collection) {
             Some(place) => self.spares.log_of(self.copies.remove(place).copied),
             None => Log::new(alloc),
         }
@@ -65,7 +65,7 @@ impl<V: Value> TxActor<V> {
         ensures stands { is_recorded self.old.stage ≡ true → Stands self.old self.new }
         ensures keeps { is_recorded self.old.stage ≡ true → (v : BlocksView) → KeepsIn v self.old self.new }
     {
-        match place_of(&self.copies, collection) {
+        match position_of(&self.copies, collection) {
             Some(place) => {
                 let mut copied = self.copies.remove(place).copied;
                 copied.fold(base);

@@ -1,10 +1,10 @@
 //! What a call on a copied collection takes is made ready before its first location is read: no allocation for it can fail then.
 ghost use Rattle.std.specs.Prelude.{◌≡◌, ◌<◌, IfOk, OnOk, Some, length, slice_get};
 ghost use Rattle.conflict.specs.declared.outcome.Outcome.{Outcome};
-ghost use Rattle.actor_parts.specs.declared.copies.CopyOf.{CopyOf};
+ghost use Rattle.actor_parts.specs.declared.copies.CopyOfCollection.{CopyOfCollection};
 ghost use Rattle.tx_actor.specs.Prepares.{ArePrepared, AreReadied, HasRoomFor, IsAlike, MayPrepare, prepared_of};
 
-use crate::actor::{Answered, TxActor};
+use crate::actor::{CallWithOutcome, TxActor};
 use crate::room::reserve_call;
 use actor_parts::{Boxed, reserve_words, weigh};
 use conflict::Outcome;
@@ -16,7 +16,7 @@ use step_core::Actor;
 /// A call that is ready to continue, with what is left to be judged of it: locations, with the editions that were copied.
 #[derive(Drop)]
 pub struct Prepared<V> {
-    pub call: Boxed<Answered<V>>,
+    pub call: Boxed<CallWithOutcome<V>>,
     pub left: VecDeque<(u32, u64)>,
 }
 
@@ -62,20 +62,20 @@ impl<V: Value> TxActor<V> {
         }
     }
 
-    /// Makes ready what a call takes which the copy at this place holds: its outcome, its writes, and room for all that it will read. The
-    /// collection begins at location `first`. None where its locations don't fit the sets. What the actor shows is unchanged, also where an
-    /// allocation fails.
+    /// Makes ready what a call takes which the copy at this position holds: its outcome, its writes, and room for all that it will read.
+    /// The collection begins at location `first`. None where its locations don't fit the sets. What the actor shows is unchanged, also
+    /// where an allocation fails.
     pub(crate) fn readies(
         &mut self,
         alloc: Global,
         place: usize,
         first: u32,
-        call: &mut Answered<V>,
+        call: &mut CallWithOutcome<V>,
     ) -> Result<Option<VecDeque<(u32, u64)>>, Memory>
         requires { MayPrepare self.old place first call.old.asked.op }
         ensures alike { IsAlike self.old self.new }
         ensures asked { call.new.asked ≡ call.old.asked }
-        ensures ok { IfOk result (λ left. (c : CopyOf V) → slice_get self.old.copies.items place ≡ Some c →
+        ensures ok { IfOk result (λ left. (c : CopyOfCollection V) → slice_get self.old.copies.items place ≡ Some c →
             AreReadied self.old self.new place first call.old.asked c call.new left) }
     {
         let mut left = self.spares.left(alloc);
@@ -112,7 +112,7 @@ impl<V: Value> TxActor<V> {
     ) -> Result<Option<Prepared<V>>, Memory>
         requires { MayPrepare self.old place first op }
         ensures alike { IsAlike self.old self.new }
-        ensures ok { IfOk result (λ prepared. (c : CopyOf V) → slice_get self.old.copies.items place ≡ Some c →
+        ensures ok { IfOk result (λ prepared. (c : CopyOfCollection V) → slice_get self.old.copies.items place ≡ Some c →
             ArePrepared self.old self.new place first op c prepared) }
     {
         let collection = self.copies[place].collection;

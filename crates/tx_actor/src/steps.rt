@@ -16,14 +16,14 @@ ghost use Rattle.step_core.specs.Sound.{Fits, owed};
 ghost use Rattle.actor_parts.specs.Blocks.{BlocksView};
 ghost use Rattle.tx_actor.specs.Dispatch.{HasRoom};
 ghost use Rattle.actor_parts.specs.Dispatch.{MayRelease};
-ghost use Rattle.actor_parts.specs.declared.copies.CopyOf.{CopyOf};
-ghost use Rattle.tx_actor.specs.Having.{IsWhole, KeepsCopies, KeepsFrom};
-ghost use Rattle.tx_actor.specs.Keeping.{IsRunning, KeepsIn, NamesAmong};
+ghost use Rattle.actor_parts.specs.declared.copies.CopyOfCollection.{CopyOfCollection};
+ghost use Rattle.tx_actor.specs.CopiesByStage.{IsWhole, KeepsCopies, KeepsFrom};
+ghost use Rattle.tx_actor.specs.ActorBounds.{IsRunning, KeepsIn, NamesAmong};
 ghost use Rattle.tx_actor.specs.Running.{IsSeatOf, KnowsHomes, Reseats, Runs, asked_of, at, is_recorded, notice_of, seat_in, seat_of};
 ghost use Rattle.tx_actor.specs.Running.{stage_in, stage_of};
 
-use crate::actor::{Stage, Told, TxActor};
-use crate::hand::{Asking, Kept};
+use crate::actor::{ActorNotice, Stage, TxActor};
+use crate::hand::{ActorSpares, CallInHand};
 use crate::room::keep_larger;
 use actor_parts::{abort, cancel, release};
 use seq_model::{Answer, Call, Op, Refusal, Reply};
@@ -61,7 +61,7 @@ fn gating_or_ready<V: Drop>(homes: VecDeque<u32>) -> Stage<V>
     ensures names { (n : ℕ) → All (λ k. k < n) homes.items → NamesAmong n result }
     ensures room { (r : TxActor V) → HasRoom r result }
     ensures shown { is_recorded result ≡ false }
-    ensures copies { (s : Stage V) (cs : List (CopyOf V)) → IsWhole s → KeepsFrom result s cs cs }
+    ensures copies { (s : Stage V) (cs : List (CopyOfCollection V)) → IsWhole s → KeepsFrom result s cs cs }
 {
     if has_none(&homes) {
         return Stage::Ready(homes);
@@ -78,7 +78,7 @@ fn next_gate<V: Drop>(homes: VecDeque<u32>, got: usize) -> Stage<V>
     ensures names { (n : ℕ) → All (λ k. k < n) homes.items → NamesAmong n result }
     ensures room { (r : TxActor V) → HasRoom r result }
     ensures shown { is_recorded result ≡ false }
-    ensures copies { (s : Stage V) (cs : List (CopyOf V)) → IsWhole s → KeepsFrom result s cs cs }
+    ensures copies { (s : Stage V) (cs : List (CopyOfCollection V)) → IsWhole s → KeepsFrom result s cs cs }
 {
     if homes.len() <= got {
         return Stage::Ready(homes);
@@ -94,7 +94,7 @@ pub(crate) fn leaving_or_cancelling<V>(words: &Actor) -> Stage<V>
     ensures names { (n : ℕ) → NamesAmong n result }
     ensures room { (r : TxActor V) → HasRoom r result }
     ensures shown { is_recorded result ≡ false }
-    ensures copies { (s : Stage V) (before now : List (CopyOf V)) → KeepsFrom result s before now }
+    ensures copies { (s : Stage V) (before now : List (CopyOfCollection V)) → KeepsFrom result s before now }
 {
     match words.place {
         Place::Leave => Stage::Leaving,
@@ -119,7 +119,7 @@ impl<V: Drop> TxActor<V> {
             calls: Vec::new(alloc),
             made: Vec::new(alloc),
             copies: Vec::new(alloc),
-            spares: Kept::new(alloc),
+            spares: ActorSpares::new(alloc),
         }
     }
 
@@ -142,40 +142,40 @@ impl<V: Drop> TxActor<V> {
     }
 
     /// A transaction has begun.
-    pub fn begun(&mut self, rv: u64) -> Told<V>
+    pub fn finish_begin(&mut self, rv: u64) -> ActorNotice<V>
         ensures does { Reseats self.old self.new result (λ a w. has_begun w a (seat_of self.old) (notice.Begun rv)) }
         ensures keeps { (v : BlocksView) → KeepsIn v (at self.old Stage.Idle) self.new }
         ensures leaves { KeepsCopies (at self.old Stage.Beginning) self.new }
     {
         keep_larger(&mut self.calls, &mut self.made);
         self.clear(Stage::Open, rv);
-        Told::Answered(Answer::Begun(rv))
+        ActorNotice::Answered(Answer::Begun(rv))
     }
 
     /// None begins at this reading of the clock.
-    pub fn exhausted(&mut self, clock: u64) -> Told<V>
+    pub fn refuse_begin(&mut self, clock: u64) -> ActorNotice<V>
         ensures does { Reseats self.old self.new result (λ a w. has_begun w a (seat_of self.old) (notice.Exhausted clock)) }
         ensures keeps { (v : BlocksView) → KeepsIn v (at self.old Stage.Idle) self.new }
         ensures leaves { KeepsCopies (at self.old Stage.Idle) self.new }
     {
         self.clear(Stage::Idle, 0);
-        Told::Refused(Refusal::Exhausted { clock })
+        ActorNotice::Refused(Refusal::Exhausted { clock })
     }
 
     /// The last lock of a commit was given back.
-    pub fn released(&mut self) -> Told<V>
+    pub fn finish_commit(&mut self) -> ActorNotice<V>
         ensures does { Reseats self.old self.new result (λ a w. has_released w a (seat_of self.old) notice.Released) }
         ensures keeps { (v : BlocksView) → KeepsIn v (at self.old Stage.Idle) self.new }
         ensures leaves { KeepsCopies (at self.old Stage.Idle) self.new }
     {
         let number = self.wv;
         self.clear(Stage::Idle, 0);
-        Told::Answered(Answer::Committed(number))
+        ActorNotice::Answered(Answer::Committed(number))
     }
 
     /// The clock was loaded that commits a transaction without writes.
     #[inline(never)]
-    pub fn closed(&mut self) -> Told<V>
+    pub fn finish_reading(&mut self) -> ActorNotice<V>
         ensures does { Reseats self.old self.new result (λ a w. (
           seated (recorded w a (seat_of self.old) false self.old.rv) a no_one,
           Answered a
@@ -188,12 +188,12 @@ impl<V: Drop> TxActor<V> {
         let number = self.rv;
         mem::swap(&mut self.made, &mut self.calls);
         self.clear(Stage::Idle, 0);
-        Told::Answered(Answer::Committed(number))
+        ActorNotice::Answered(Answer::Committed(number))
     }
 
     /// The clock was loaded that ends an aborted transaction.
     #[inline(never)]
-    pub fn ended(&mut self) -> Told<V>
+    pub fn finish_abort(&mut self) -> ActorNotice<V>
         ensures does { Reseats self.old self.new result (λ a w. ended w a (seat_of self.old)) }
         ensures keeps { (v : BlocksView) → KeepsIn v (at self.old Stage.Idle) self.new }
         ensures leaves { KeepsCopies (at self.old Stage.Idle) self.new }
@@ -203,13 +203,13 @@ impl<V: Drop> TxActor<V> {
         mem::swap(&mut self.made, &mut self.calls);
         self.clear(Stage::Idle, 0);
         match cause {
-            None => Told::Answered(Answer::Aborted),
-            Some(refusal) => Told::Refused(refusal),
+            None => ActorNotice::Answered(Answer::Aborted),
+            Some(refusal) => ActorNotice::Refused(refusal),
         }
     }
 
     /// A word was read.
-    pub fn read(&mut self, location: u32, value: u64) -> Told<V>
+    pub fn read(&mut self, location: u32, value: u64) -> ActorNotice<V>
         requires room { vec_len self.old.calls < vec_capacity self.old.calls }
         ensures does { Reseats self.old self.new result (λ a w. has_read w a (seat_of self.old) location (notice.Number value)) }
         ensures keeps { (v : BlocksView) → KeepsIn v (at self.old Stage.Idle) self.new }
@@ -222,12 +222,12 @@ impl<V: Drop> TxActor<V> {
         };
         self.calls.push_reserved((call, Reply::Number(value)));
         self.stage = Stage::Open;
-        Told::Answered(Answer::Replied(Reply::Number(value)))
+        ActorNotice::Answered(Answer::Replied(Reply::Number(value)))
     }
 
     /// It is to end, and holds no gate.
     #[inline(always)]
-    pub(crate) fn cancels(&mut self) -> Told<V>
+    pub(crate) fn start_cancel(&mut self) -> ActorNotice<V>
         ensures does { Reseats self.old self.new result (λ a w. (worlds.cancels w a (seat_of self.old), Quiet)) }
         ensures keeps { (v : BlocksView) → KeepsIn v (at self.old Stage.Idle) self.new }
         ensures leaves { KeepsCopies (at self.old Stage.Idle) self.new }
@@ -235,49 +235,49 @@ impl<V: Drop> TxActor<V> {
     {
         cancel(&mut self.words, 0);
         self.stage = leaving_or_cancelling(&self.words);
-        Told::Quiet
+        ActorNotice::Quiet
     }
 
     /// It is to end, once the gates of these collections are put back.
     #[inline(always)]
-    pub fn puts_back(&mut self, homes: VecDeque<u32>) -> Told<V>
+    pub fn put_back_gates(&mut self, homes: VecDeque<u32>) -> ActorNotice<V>
         ensures does { Reseats self.old self.new result (λ a w. worlds.gives_up w a (seat_of self.old) homes.items) }
         ensures keeps { (v : BlocksView) → KeepsIn v (at self.old (Stage.Returning homes)) self.new }
         ensures leaves { KeepsCopies (at self.old Stage.Idle) self.new }
     {
         if has_none(&homes) {
-            return self.cancels();
+            return self.start_cancel();
         }
         self.stage = Stage::Returning(homes);
-        Told::Quiet
+        ActorNotice::Quiet
     }
 
     /// It is aborted for this cause, and holds no gate.
     #[inline(always)]
-    pub fn gives_up(&mut self, cause: Refusal) -> Told<V>
+    pub fn abort_for(&mut self, cause: Refusal) -> ActorNotice<V>
         ensures does { Reseats self.old self.new result (λ a w. worlds.gives_up w a (because (seat_of self.old) cause) []) }
         ensures keeps { (v : BlocksView) → KeepsIn v (at self.old Stage.Idle) self.new }
         ensures leaves { KeepsCopies (at self.old Stage.Idle) self.new }
         ensures copies { self.new.copies ≡ self.old.copies }
     {
         self.cause = Some(cause);
-        self.cancels()
+        self.start_cancel()
     }
 
     /// It is aborted for this cause, and holds the gates of these collections.
     #[inline(always)]
-    pub fn gives_up_with(&mut self, cause: Refusal, homes: VecDeque<u32>) -> Told<V>
+    pub fn abort_returning(&mut self, cause: Refusal, homes: VecDeque<u32>) -> ActorNotice<V>
         ensures does { Reseats self.old self.new result (λ a w. worlds.gives_up w a (because (seat_of self.old) cause) homes.items) }
         ensures keeps { (v : BlocksView) → KeepsIn v (at self.old (Stage.Returning homes)) self.new }
         ensures leaves { KeepsCopies (at self.old Stage.Idle) self.new }
     {
         self.cause = Some(cause);
-        self.puts_back(homes)
+        self.put_back_gates(homes)
     }
 
     /// The gate of a call was tried, and found free or not.
     #[inline(always)]
-    pub fn tried(&mut self, asked: Asking<V>, tries: u32, free: bool) -> Told<V>
+    pub fn after_try(&mut self, asked: CallInHand<V>, tries: u32, free: bool) -> ActorNotice<V>
         ensures does { Reseats self.old self.new result (λ a w. has_tried w a (seat_of self.old) free asked.collection []
             (λ n. worlds.Trying (asked_of asked) n) (worlds.Copying (asked_of asked)) tries) }
         ensures keeps { (v : BlocksView) → KeepsIn v (at self.old (Stage.Trying asked tries)) self.new }
@@ -285,26 +285,26 @@ impl<V: Drop> TxActor<V> {
     {
         if free {
             self.stage = Stage::Copying(asked);
-            return Told::Quiet;
+            return ActorNotice::Quiet;
         }
         if tries > 0 {
             self.stage = Stage::Trying(asked, tries - 1);
-            return Told::Quiet;
+            return ActorNotice::Quiet;
         }
         let collection = asked.get().collection;
         self.spares.keep_call(asked.answering());
-        self.gives_up(Refusal::GateBusy { collection })
+        self.abort_for(Refusal::GateBusy { collection })
     }
 
     /// The gate of the next collection that a commit writes was tried, and found free or not; it holds the gates before it.
     #[inline(always)]
-    pub fn tried_home(
+    pub fn after_home_try(
         &mut self,
         homes: VecDeque<u32>,
         got: usize,
         tries: u32,
         free: bool,
-    ) -> Told<V>
+    ) -> ActorNotice<V>
         requires next { got < length homes.items }
         ensures does { (k : ℕ) (ks : List ℕ) → drop got homes.items ≡ k ∷ ks →
             Reseats self.old self.new result (λ a w. has_tried w a (seat_of self.old) free k (take got homes.items)
@@ -315,21 +315,21 @@ impl<V: Drop> TxActor<V> {
     {
         if free {
             self.stage = next_gate(homes, got + 1);
-            return Told::Quiet;
+            return ActorNotice::Quiet;
         }
         if tries > 0 {
             self.stage = Stage::Gating(homes, got, tries - 1);
-            return Told::Quiet;
+            return ActorNotice::Quiet;
         }
         let collection = homes[got];
         let mut held = homes;
         held.truncate(got);
-        self.gives_up_with(Refusal::GateBusy { collection }, held)
+        self.abort_returning(Refusal::GateBusy { collection }, held)
     }
 
     /// A transaction is to begin.
     #[inline(always)]
-    pub fn begins(&mut self) -> Told<V>
+    pub fn start(&mut self) -> ActorNotice<V>
         ensures does { Reseats self.old self.new result (λ a w. ask_idle w a (seat_of self.old) request.Begin) }
         ensures keeps { (v : BlocksView) → KeepsIn v self.old self.new }
         ensures copies { self.new.copies ≡ self.old.copies }
@@ -337,11 +337,11 @@ impl<V: Drop> TxActor<V> {
     {
         begin(&mut self.words, false);
         self.stage = Stage::Beginning;
-        Told::Quiet
+        ActorNotice::Quiet
     }
 
     /// A transaction that writes nothing is to begin.
-    pub fn begins_to_read(&mut self) -> Told<V>
+    pub fn start_reader(&mut self) -> ActorNotice<V>
         ensures does { Reseats self.old self.new result (λ a w. ask_idle w a (seat_of self.old) request.BeginRead) }
         ensures keeps { (v : BlocksView) → KeepsIn v self.old self.new }
         ensures copies { self.new.copies ≡ self.old.copies }
@@ -349,22 +349,22 @@ impl<V: Drop> TxActor<V> {
     {
         begin(&mut self.words, true);
         self.stage = Stage::Beginning;
-        Told::Quiet
+        ActorNotice::Quiet
     }
 
     /// An allocation fails for a begin.
-    pub fn begin_starves(&mut self) -> Told<V>
+    pub fn starve_begin(&mut self) -> ActorNotice<V>
         ensures does { Reseats self.old self.new result (λ a w. starve_at w a (seat_of self.old) worlds.Beginning) }
         ensures keeps { (v : BlocksView) → KeepsIn v (at self.old Stage.Idle) self.new }
         ensures leaves { KeepsCopies (at self.old Stage.Idle) self.new }
     {
         abort(&mut self.words, 0);
         self.clear(Stage::Idle, 0);
-        Told::Refused(Refusal::Memory)
+        ActorNotice::Refused(Refusal::Memory)
     }
 
     /// All is locked and checked, at this number; a location of each of these collections was written.
-    pub fn locked(&mut self, number: u64, homes: VecDeque<u32>) -> Told<V>
+    pub fn after_locks(&mut self, number: u64, homes: VecDeque<u32>) -> ActorNotice<V>
         ensures does { (a : ℕ) (w : World V) → homes.items ≡ written_homes w a → worlds.actor_of w a ≡ actor_of self.old.words →
             let f = has_locked w a (seat_of self.old) (notice.LockedAt number) in
             Runs a self.new f.0 × (notice_of a result ≡ f.1) }
@@ -373,22 +373,22 @@ impl<V: Drop> TxActor<V> {
     {
         self.wv = number;
         self.stage = gating_or_ready(homes);
-        Told::Quiet
+        ActorNotice::Quiet
     }
 
     /// The last lock of a transaction that is aborted was given back.
-    pub fn cancelled(&mut self) -> Told<V>
+    pub fn after_cancel(&mut self) -> ActorNotice<V>
         ensures does { Reseats self.old self.new result (λ a w. has_cancelled w a (seat_of self.old) notice.Cancelled) }
         ensures keeps { (v : BlocksView) → KeepsIn v (at self.old Stage.Idle) self.new }
         ensures leaves { KeepsCopies (at self.old Stage.Idle) self.new }
     {
         abort(&mut self.words, 0);
         self.stage = Stage::Leaving;
-        Told::Quiet
+        ActorNotice::Quiet
     }
 
     /// A value was stored, and others are left.
-    pub fn stored_one(&mut self, homes: VecDeque<u32>) -> Told<V>
+    pub fn after_store(&mut self, homes: VecDeque<u32>) -> ActorNotice<V>
         ensures does { (a : ℕ) (w : World V) (x : Seat V) → IsSeatOf x self.old → worlds.actor_of w a ≡ actor_of self.old.words →
             let f = has_stored w a x homes.items notice.Quiet in
             Runs a self.new f.0 × (notice_of a result ≡ f.1) }
@@ -397,12 +397,12 @@ impl<V: Drop> TxActor<V> {
         ensures leaves { KeepsCopies (at self.old (Stage.Storing homes)) self.new }
     {
         self.stage = Stage::Storing(homes);
-        Told::Quiet
+        ActorNotice::Quiet
     }
 
     /// All values are stored, or a base was put back, and these are still to be put back.
     #[inline(always)]
-    pub fn goes_home(&mut self, homes: VecDeque<u32>) -> Told<V>
+    pub fn return_bases(&mut self, homes: VecDeque<u32>) -> ActorNotice<V>
         ensures does { (a : ℕ) (w : World V) (x : Seat V) → IsSeatOf x self.old → MayRelease a w homes.items →
             worlds.actor_of w a ≡ actor_of self.old.words →
             let f = worlds.goes_home w a x homes.items in
@@ -416,9 +416,9 @@ impl<V: Drop> TxActor<V> {
             self.spares.keep_homes(homes);
             release(&mut self.words, 0);
             self.stage = Stage::Releasing;
-            return Told::Quiet;
+            return ActorNotice::Quiet;
         }
         self.stage = Stage::Homing(homes);
-        Told::Quiet
+        ActorNotice::Quiet
     }
 }

@@ -6,31 +6,31 @@ ghost use Rattle.replay_log.specs.Worlds as worlds;
 ghost use Rattle.replay_log.specs.Worlds.{calls_on, is_known};
 ghost use Rattle.shadow.specs.Memo.{put_of};
 ghost use Rattle.step_core.specs.Shown.{actor_of};
-ghost use Rattle.actor_parts.specs.declared.copies.CopyOf.{CopyOf};
-ghost use Rattle.actor_parts.specs.Copies.{IsAccepted, IsKept, holds_call};
-ghost use Rattle.actor_parts.specs.Keeps.{call_on};
-ghost use Rattle.actor_parts.specs.Kept.{AreKept};
+ghost use Rattle.actor_parts.specs.declared.copies.CopyOfCollection.{CopyOfCollection};
+ghost use Rattle.actor_parts.specs.PrivateCopy.{IsAccepted, IsKept, holds_call};
+ghost use Rattle.actor_parts.specs.CopyInWorld.{call_on};
+ghost use Rattle.actor_parts.specs.CopyList.{AreKept};
 ghost use Rattle.actor_parts.specs.Requests.{HasNoReads};
 ghost use Rattle.tx_actor.specs.Answers.{IsAcceptedAt};
 ghost use Rattle.tx_actor.specs.Calls.{AsksOwn, CanCall};
-ghost use Rattle.tx_actor.specs.Having.{ReadsStill};
-ghost use Rattle.tx_actor.specs.Keeping.{KeepsIn};
+ghost use Rattle.tx_actor.specs.CopiesByStage.{ReadsStill};
+ghost use Rattle.tx_actor.specs.ActorBounds.{KeepsIn};
 ghost use Rattle.tx_actor.specs.Prepares.{IsAlike, IsHeldAt};
 ghost use Rattle.tx_actor.specs.Running.{seat_of};
 ghost use Rattle.tx_actor.specs.Straight.{CanPut, HasRoomToPut, IsPutRead, put_outcome};
 
-use crate::actor::{Told, TxActor};
+use crate::actor::{ActorNotice, TxActor};
 use crate::room::reserve_call;
-use actor_parts::{Blocks, Copied, CopyOf, reserve_words, surely_fits, write_all};
+use actor_parts::{Blocks, CopyOfCollection, PrivateCopy, reserve_words, surely_fits, write_all};
 use seq_model::{Answer, Call, Memory, Op, Reply, Value};
 use step_core::Actor;
 
 /// Of a map's key its location, and the edition with which that was copied, if it was read with this edition too, and the sets surely take
 /// it.
 #[inline(always)]
-fn entry_place<V: Value>(
+fn entry_location<V: Value>(
     words: &Actor,
-    copied: &Copied<V>,
+    copied: &PrivateCopy<V>,
     first: u32,
     key: u64,
 ) -> Option<(u32, u64)>
@@ -53,7 +53,7 @@ fn entry_place<V: Value>(
 #[inline(always)]
 pub(crate) fn put_place<V: Value>(
     words: &Actor,
-    copied: &Copied<V>,
+    copied: &PrivateCopy<V>,
     first: u32,
     op: &Op<V>,
 ) -> Option<(u32, u64)>
@@ -61,7 +61,7 @@ pub(crate) fn put_place<V: Value>(
 {
     match op {
         Op::Put(key, _) => {
-            let at = entry_place(words, copied, first, *key)?;
+            let at = entry_location(words, copied, first, *key)?;
             Some(at)
         }
         _ => None,
@@ -71,7 +71,7 @@ pub(crate) fn put_place<V: Value>(
 /// Puts the value on its key, whose location this is. Answers its reply twice.
 #[inline(always)]
 fn put_on_key<V: Value>(
-    copied: &mut Copied<V>,
+    copied: &mut PrivateCopy<V>,
     op: &Op<V>,
     location: u32,
 ) -> Result<(Reply<V>, Reply<V>), Memory>
@@ -86,19 +86,19 @@ fn put_on_key<V: Value>(
     }
 }
 
-/// The same in the copy at this place.
+/// The same in the copy at this position.
 #[inline(always)]
 fn put_in<V: Value>(
-    copies: &mut Vec<CopyOf<V>>,
+    copies: &mut Vec<CopyOfCollection<V>>,
     place: usize,
     op: &Op<V>,
     location: u32,
 ) -> Result<(Reply<V>, Reply<V>), Memory>
     requires place { place < length copies.old.items }
-    requires can { (c : CopyOf V) → slice_get copies.old.items place ≡ Some c → CanPut c.copied op.now location }
-    ensures accepted { OnOk result ((c : CopyOf V) → slice_get copies.old.items place ≡ Some c →
+    requires can { (c : CopyOfCollection V) → slice_get copies.old.items place ≡ Some c → CanPut c.copied op.now location }
+    ensures accepted { OnOk result ((c : CopyOfCollection V) → slice_get copies.old.items place ≡ Some c →
         IsAcceptedAt place (Some (put_outcome c.copied op.now)) copies.old.items copies.new.items) }
-    ensures replies { IfOk result (λ replies. (c : CopyOf V) → slice_get copies.old.items place ≡ Some c →
+    ensures replies { IfOk result (λ replies. (c : CopyOfCollection V) → slice_get copies.old.items place ≡ Some c →
         let o = put_outcome c.copied op.now in (replies.0 ≡ o.reply) × (replies.1 ≡ o.reply)) }
     ensures err { OnErr result (AreKept copies.old.items copies.new.items) }
 {
@@ -129,14 +129,14 @@ impl<V: Value> TxActor<V> {
         collection: u32,
         op: Op<V>,
         at: (u32, u64),
-    ) -> Result<Told<V>, Memory>
+    ) -> Result<ActorNotice<V>, Memory>
         requires can { CanCall blocks.now self.old }
         requires there { collection < length blocks.now.blocks }
         requires known { is_known (block_of blocks.now.blocks collection) op ≡ true }
         requires may { worlds.may_ask (actor_of self.old.words) op ≡ true }
         requires held { IsHeldAt self.old.copies.items place collection op }
         requires first { first ≡ first_of blocks.now.words blocks.now.blocks collection }
-        requires read { (c : CopyOf V) → slice_get self.old.copies.items place ≡ Some c → IsPutRead self.old.words c.copied first op at }
+        requires read { (c : CopyOfCollection V) → slice_get self.old.copies.items place ≡ Some c → IsPutRead self.old.words c.copied first op at }
         ensures ok { IfOk result (λ told. AsksOwn blocks.now self.old self.new told
             (λ a w. calls_on w a (seat_of self.old) (call_on collection op))) }
         ensures err { OnErr result (IsAlike self.old self.new) }
@@ -152,6 +152,6 @@ impl<V: Value> TxActor<V> {
             op,
         };
         self.calls.push_reserved((made, kept));
-        Ok(Told::Answered(Answer::Replied(told)))
+        Ok(ActorNotice::Answered(Answer::Replied(told)))
     }
 }

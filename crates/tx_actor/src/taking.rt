@@ -15,15 +15,15 @@ ghost use Rattle.step_core.specs.Shown.{actor_of};
 ghost use Rattle.tx_actor.specs.Answers.{CanAccept, MayAnswer};
 ghost use Rattle.tx_actor.specs.Copying.{CanCopy, CanCopyAt, HasTaken, IsUnmoved, StepsOn};
 ghost use Rattle.tx_actor.specs.Dispatch.{Starves};
-ghost use Rattle.tx_actor.specs.Having.{HasGone, KeepsCopies};
-ghost use Rattle.tx_actor.specs.Keeping.{CanGoOn, KeepsIn};
+ghost use Rattle.tx_actor.specs.CopiesByStage.{HasGone, KeepsCopies};
+ghost use Rattle.tx_actor.specs.ActorBounds.{CanGoOn, KeepsIn};
 ghost use Rattle.tx_actor.specs.Running.{Runs, at, notice_of, seat_of, with_outcome};
 ghost use Rattle.tx_actor.specs.Taking.{AreTaken, AreTakenAt, AreTakenBy, AreTakenFor, IsTakenCall, StarvesBehind, WaitsForKey, WasTaken};
-ghost use Rattle.tx_actor.specs.Taking.{key_place_in, told_at, waiting_at};
-ghost use Rattle.tx_actor.specs.declared.actor.Told.TheVariants as told;
+ghost use Rattle.tx_actor.specs.Taking.{key_location_in, told_at, waiting_at};
+ghost use Rattle.tx_actor.specs.declared.actor.ActorNotice.TheVariants as told;
 
-use crate::actor::{Answered, Asked, Stage, Told, TxActor};
-use crate::hand::Asking;
+use crate::actor::{ActorNotice, CallWithOutcome, CollectionCall, Stage, TxActor};
+use crate::hand::CallInHand;
 use crate::loads::first_left;
 use actor_parts::{Blocks, Boxed, fits_base};
 use replay_log::Base;
@@ -35,32 +35,34 @@ use step_core::{Actor, Place};
 
 /// A call whose key was taken, and where the copy of its collection stands.
 #[derive(Drop)]
-pub struct Taken<V> {
-    pub asked: Asking<V>,
+pub struct KeyedCall<V> {
+    pub asked: CallInHand<V>,
     pub place: usize,
 }
 
 /// A call that is ready, and waits for this location, the first of those that are left to be judged. Nothing of the actor says so: the call
 /// is in hand.
 #[derive(Drop)]
-pub struct Waiting<V> {
-    pub call: Boxed<Answered<V>>,
+pub struct WaitingCall<V> {
+    pub call: Boxed<CallWithOutcome<V>>,
     pub left: VecDeque<(u32, u64)>,
     pub location: u32,
 }
 
 /// The location of the key that the call is on, counted from the first of its collection; none for a call on no key.
-fn key_place_in<V: Value>(base: &Base<V>, op: &Op<V>) -> Option<u32>
-    ensures place { result ≡ key_place_in (stripes_of base.now) (kind_of (shown_of base.now)) op.now }
+fn key_location_in<V: Value>(base: &Base<V>, op: &Op<V>) -> Option<u32>
+    ensures place { result ≡ key_location_in (stripes_of base.now) (kind_of (shown_of base.now)) op.now }
     ensures within { (place : ℕ) → result ≡ Some place → place < stripes_of base.now }
 {
     match base {
         Base::Map(map) => match op {
-            Op::Get(key) | Op::Put(key, _) | Op::Remove(key) => Some(map.place(*key)),
+            Op::Get(key) | Op::Put(key, _) | Op::Remove(key) => Some(map.location_of(*key)),
             _ => None,
         },
         Base::Bag(bag) => match op {
-            Op::Count(element) | Op::Add(element) | Op::Take(element) => Some(bag.place(*element)),
+            Op::Count(element) | Op::Add(element) | Op::Take(element) => Some(bag.location_of(
+                *element,
+            )),
             _ => None,
         },
         Base::Pq(_) => None,
@@ -100,12 +102,12 @@ impl<V: Value> TxActor<V> {
         &self,
         blocks: &Blocks,
         base: &Base<V>,
-        asked: &Asked<V>,
+        asked: &CollectionCall<V>,
     ) -> Result<bool, Memory>
         requires { CanCopy blocks.now self.now base.now asked.now }
         ensures { IfOk result (λ waits. waits ≡ true → WaitsForKey blocks.now self.now base.now asked.now) }
     {
-        let Some(offset) = key_place_in(base, &asked.op) else {
+        let Some(offset) = key_location_in(base, &asked.op) else {
             return Ok(false);
         };
         let first = blocks.first_of(asked.collection);
@@ -124,7 +126,7 @@ impl<V: Value> TxActor<V> {
         alloc: Global,
         blocks: &Blocks,
         base: &Base<V>,
-        asked: &Asked<V>,
+        asked: &CollectionCall<V>,
     ) -> Result<usize, Memory>
         requires { CanCopy blocks.now self.old base.now asked.now }
         ensures ok { IfOk result (λ place. AreTakenBy blocks.now self.old self.new base.now asked.now place) }
@@ -149,7 +151,7 @@ impl<V: Value> TxActor<V> {
         alloc: Global,
         blocks: &Blocks,
         base: &Base<V>,
-        asked: &Asked<V>,
+        asked: &CollectionCall<V>,
     ) -> Result<Option<usize>, Memory>
         requires { CanCopy blocks.now self.old base.now asked.now }
         ensures ok { IfOk result (λ taken. AreTaken blocks.now self.old self.new base.now asked.now taken) }
@@ -169,8 +171,8 @@ impl<V: Value> TxActor<V> {
         alloc: Global,
         blocks: &Blocks,
         base: &Base<V>,
-        asked: Asking<V>,
-    ) -> Result<Option<Taken<V>>, Memory>
+        asked: CallInHand<V>,
+    ) -> Result<Option<KeyedCall<V>>, Memory>
         requires { CanCopy blocks.now self.old base.now asked }
         ensures ok { IfOk result (λ taken. AreTakenFor blocks.now self.old self.new base.now asked taken) }
         ensures err { OnErr result (Starves (at self.old (Stage.Copying asked)) self.new told.Quiet) }
@@ -178,7 +180,7 @@ impl<V: Value> TxActor<V> {
         ensures leaves { OnErr result (KeepsCopies (at self.old (Stage.Copying asked)) self.new) }
     {
         match self.takes_key(alloc, blocks, base, asked.get()) {
-            Ok(Some(place)) => Ok(Some(Taken { asked, place })),
+            Ok(Some(place)) => Ok(Some(KeyedCall { asked, place })),
             Ok(None) => {
                 self.stage = Stage::Copying(asked);
                 Ok(None)
@@ -191,16 +193,16 @@ impl<V: Value> TxActor<V> {
     }
 
     /// The gate of its call is held, and this is the base of the call's collection. Where the call is on a key whose location is to be read
-    /// first, what it touches is taken, and the gate may be put back, after which the call continues ([`TxActor::goes_on_taken`]). Any
-    /// other call is left as it is, to be [`TxActor::copied`]. Where an allocation fails the transaction is aborted for `Memory`, and holds
-    /// the gate.
+    /// first, what it touches is taken, and the gate may be put back, after which the call continues ([`TxActor::continue_or_wait`]). Any
+    /// other call is left as it is, to be [`TxActor::copy_at_gate`]. Where an allocation fails the transaction is aborted for `Memory`, and
+    /// holds the gate.
     #[inline(always)]
     pub fn takes(
         &mut self,
         alloc: Global,
         blocks: &Blocks,
         base: &Base<V>,
-    ) -> Result<Option<Taken<V>>, Memory>
+    ) -> Result<Option<KeyedCall<V>>, Memory>
         requires { CanCopyAt blocks.now self.old base.now self.old.stage }
         ensures ok { IfOk result (λ taken. AreTakenAt blocks.now self.old self.new base.now taken self.old.stage) }
         ensures err { OnErr result (Starves self.old self.new told.Quiet) }
@@ -217,15 +219,15 @@ impl<V: Value> TxActor<V> {
         }
     }
 
-    /// A call that is prepared continues, as [`TxActor::goes_on`] says; where its first location is to be read it is handed over, and else
-    /// what it is told is in `said`.
+    /// A call that is prepared continues, as [`TxActor::continue_call`] says; where its first location is to be read it is handed over, and
+    /// else what it is answered is in `said`.
     #[inline(always)]
-    fn goes_to(
+    fn continue_to(
         &mut self,
-        call: Boxed<Answered<V>>,
+        call: Boxed<CallWithOutcome<V>>,
         left: VecDeque<(u32, u64)>,
-        said: &mut Told<V>,
-    ) -> Option<Waiting<V>>
+        said: &mut ActorNotice<V>,
+    ) -> Option<WaitingCall<V>>
         requires prepared { CanAccept self.old call }
         ensures does { (a : ℕ) (w : World V) (x : Option (Outcome V)) → worlds.actor_of w a ≡ actor_of self.old.words →
             MayAnswer w a self.old.words x call left.items →
@@ -238,29 +240,29 @@ impl<V: Value> TxActor<V> {
             (waiting_at result self.new) }
     {
         match first_unread(&self.words, &left) {
-            Some(location) => Some(Waiting {
+            Some(location) => Some(WaitingCall {
                 call,
                 left,
                 location,
             }),
             None => {
-                *said = self.goes_on(call, left);
+                *said = self.continue_call(call, left);
                 None
             }
         }
     }
 
     /// The gate is put back of a call whose key was taken: the call is made ready, and waits for the location. Where it waits for its first
-    /// one it is handed over, and else what it is told is in `said`. Where an allocation fails it is aborted there, as the step of its seat
-    /// and a failed allocation after it make of the seat.
+    /// one it is handed over, and else what it is answered is in `said`. Where an allocation fails it is aborted there, as the step of its
+    /// seat and a failed allocation after it make of the seat.
     #[inline(always)]
-    pub fn goes_on_key(
+    pub fn continue_keyed(
         &mut self,
         alloc: Global,
         blocks: &Blocks,
-        taken: Taken<V>,
-        said: &mut Told<V>,
-    ) -> Result<Option<Waiting<V>>, Memory>
+        taken: KeyedCall<V>,
+        said: &mut ActorNotice<V>,
+    ) -> Result<Option<WaitingCall<V>>, Memory>
         requires { WasTaken blocks.now self.old taken }
         ensures ok { IfOk result (λ waits. (r : TxActor V) (base : Base V) → CanCopy blocks.now r base taken.asked →
             IsTakenCall blocks.now r self.old base taken →
@@ -276,41 +278,41 @@ impl<V: Value> TxActor<V> {
             IsTakenCall blocks.now r self.old base taken → KeepsIn blocks.now (at r (Stage.Copying taken.asked)) self.new) }
         ensures leaves { OnErr result (KeepsCopies (at self.old Stage.Idle) self.new) }
     {
-        let Taken { asked, place } = taken;
+        let KeyedCall { asked, place } = taken;
         let first = blocks.first_of(asked.get().collection);
         let mut call = asked.answering();
         match self.readies(alloc, place, first, call.get_mut()) {
-            Ok(Some(left)) => Ok(self.goes_to(call, left, said)),
+            Ok(Some(left)) => Ok(self.continue_to(call, left, said)),
             _ => {
-                let _ = self.gives_up(Refusal::Memory);
+                let _ = self.abort_for(Refusal::Memory);
                 Err(Memory)
             }
         }
     }
 
     /// The call that was handed over is the actor's again.
-    fn waits(&mut self, waiting: Waiting<V>) -> Told<V>
+    fn waits(&mut self, waiting: WaitingCall<V>) -> ActorNotice<V>
         ensures actor { self.new ≡ waiting_at (Some waiting) self.old }
-        ensures told { result ≡ Told.Quiet }
+        ensures told { result ≡ ActorNotice.Quiet }
     {
-        let Waiting {
+        let WaitingCall {
             call,
             left,
             location,
         } = waiting;
         self.words.place = Place::Look(location);
         self.stage = Stage::Loading(call, left);
-        Told::Quiet
+        ActorNotice::Quiet
     }
 
-    /// Like [`TxActor::goes_on_key`]: a call that waits for its first location is the actor's.
+    /// Like [`TxActor::continue_keyed`]: a call that waits for its first location is the actor's.
     #[inline(always)]
-    pub fn goes_on_taken(
+    pub fn continue_or_wait(
         &mut self,
         alloc: Global,
         blocks: &Blocks,
-        taken: Taken<V>,
-    ) -> Result<Told<V>, Memory>
+        taken: KeyedCall<V>,
+    ) -> Result<ActorNotice<V>, Memory>
         requires { WasTaken blocks.now self.old taken }
         ensures ok { IfOk result (λ told. (r : TxActor V) (base : Base V) → CanCopy blocks.now r base taken.asked →
             IsTakenCall blocks.now r self.old base taken →
@@ -324,8 +326,8 @@ impl<V: Value> TxActor<V> {
             KeepsIn blocks.now (at r (Stage.Copying taken.asked)) self.new }
         ensures leaves { OnErr result (KeepsCopies (at self.old Stage.Idle) self.new) }
     {
-        let mut said = Told::Quiet;
-        match self.goes_on_key(alloc, blocks, taken, &mut said) {
+        let mut said = ActorNotice::Quiet;
+        match self.continue_keyed(alloc, blocks, taken, &mut said) {
             Ok(Some(waiting)) => Ok(self.waits(waiting)),
             Ok(None) => Ok(said),
             Err(_) => Err(Memory),

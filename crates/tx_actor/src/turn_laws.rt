@@ -1,5 +1,5 @@
 //! What is unchanged of an actor from event to event.
-ghost use Rattle.tx_actor.specs.Kept.{AsksKeep, StarvesKeep, StepsKeep};
+ghost use Rattle.tx_actor.specs.CopiesAfterEvent.{AsksKeep, StarvesKeep, StepsKeep};
 
 use crate::laws::copies_by_stage;
 use actor_parts::copies_stay;
@@ -7,7 +7,7 @@ use actor_parts::copy_laws::{begins_with_nothing, calls_as_worlds};
 use seq_model::Value;
 
 /// Wherever events have led, an actor has of collections what its stage asks for, after each request, each failed allocation, and each step
-/// that is on no copy. The two steps on copies are in `loads_stay_own` and `copied_stay_own`.
+/// that is on no copy. The two steps on copies are in `loads_stay_own` and `taken_parts_are_own`.
 pub fn events_keep_copies<V: Value>()
     ensures steps { StepsKeep V }
     ensures starves { StarvesKeep V }

@@ -8,10 +8,10 @@ use Rattle.seq_model.specs.declared.call.Reply.{Reply}
 use Rattle.seq_model.specs.declared.record.Record.{Record}
 use Rattle.seq_model.specs.declared.event.Request.TheVariants as request
 use Rattle.tx_turns.specs.Driven.{is_declared}
-use Rattle.tx_turns.specs.Requested.{requests_of}
+use Rattle.tx_turns.specs.RequestHistory.{requests_of}
 use Rattle.seq_model.specs.declared.refusal.Refusal.{Refusal}
 use Rattle.replay_log.specs.Seats.{World}
-use Rattle.actor_laws.specs.Phases.{Rests}
+use Rattle.actor_laws.specs.KnownStages.{Rests}
 use Rattle.tx_table.specs.declared.seat.Seat.{Seat}
 use Rattle.tx_table.specs.declared.table.TxTable.{TxTable}
 use Rattle.tx_table.specs.Seated.{actor, opening_of, view}
@@ -20,10 +20,10 @@ use Rattle.tx_engine.specs.Ready.{HasBegunSince, HasCalled, IsReady, standing}
 use Rattle.tx_engine.specs.Requests.{IsOpen, KeepsReceipts}
 use Rattle.tx_engine.proofs.RequestLemmas.{keeps_self, then_keeps}
 use Rattle.tx_client.specs.Frames.{AreBy, ComesBack, Frame, GoesOn, HasMadeCalls, IsClient, IsIn, IsOfSeat, IsUnderWay, calls_made, calls_of, transaction_at}
-use Rattle.tx_handles.specs.Made.{TransactionShown, with_call}
-use Rattle.tx_client.specs.Asked.{HasAsked}
+use Rattle.tx_handles.specs.MadeCall.{TransactionShown, with_call}
+use Rattle.tx_client.specs.RequestKinds.{HasAsked}
 use Rattle.tx_client.specs.Clients.{IsAtClient}
-use Rattle.tx_client.proofs.AskedLemmas.{asks_for, asks_none, then_asks}
+use Rattle.tx_client.proofs.RequestKindLemmas.{asks_for, asks_none, then_asks}
 
 ok_is_no_err : {A E : Type 0} (a : A) (e : E) → Ok a ≡ Err e → ⊥
 ok_is_no_err a e h = cc

@@ -1,4 +1,4 @@
-pub mod AskedLemmas
+pub mod RequestKindLemmas
 pub mod FrameLemmas
 pub mod EndLemmas
 pub mod TallyLemmas

@@ -4,17 +4,17 @@ use Rattle.seq_model.specs.declared.call.Call.{Call}
 use Rattle.seq_model.specs.declared.call.Reply.{Reply}
 use Rattle.seq_model.specs.declared.record.Record.{Record}
 use Rattle.replay_log.specs.Seats.{World}
-use Rattle.actor_laws.specs.Phases.{Phase, Rests, Begins, Stands, Calls, Commits, Committed, Ends}
+use Rattle.actor_laws.specs.KnownStages.{KnownStage, Rests, Begins, Stands, Calls, Commits, Committed, Ends}
 use Rattle.tx_table.specs.declared.seat.Seat.{Seat}
 use Rattle.tx_table.specs.declared.table.TxTable.{TxTable}
 use Rattle.tx_table.specs.Seated.{actor, opening_of, view}
 use Rattle.tx_engine.specs.declared.seats.TxSeat.{TxSeat}
 use Rattle.tx_engine.specs.Ready.{HasBegunSince, IsReady, standing}
 use Rattle.tx_turns.specs.Driven.{is_declared}
-use Rattle.tx_turns.specs.Requested.{requests_of}
+use Rattle.tx_turns.specs.RequestHistory.{requests_of}
 use Rattle.tx_engine.specs.Requests.{KeepsReceipts}
-use Rattle.tx_client.specs.Asked.{HasAsked}
-use Rattle.tx_handles.specs.Made.{TransactionShown}
+use Rattle.tx_client.specs.RequestKinds.{HasAsked}
+use Rattle.tx_handles.specs.MadeCall.{TransactionShown}
 
 module _ (V : Type 0) where
   -- a table, and the seat as it was when the transaction, or the client, began
@@ -24,7 +24,7 @@ module _ (V : Type 0) where
 
 module _ {V : Type 0} where
   -- the calls of a transaction that stands so; where there is none, none
-  abbrev pub calls_of : Phase V → List (Call V × Reply V)
+  abbrev pub calls_of : KnownStage V → List (Call V × Reply V)
   calls_of (Stands calls) = calls
   calls_of Rests = []
   calls_of Begins = []

@@ -1,4 +1,4 @@
-pub mod Asked
+pub mod RequestKinds
 pub mod Frames
 pub mod Ends
 pub mod Tallies

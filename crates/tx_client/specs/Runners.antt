@@ -6,7 +6,7 @@ use Rattle.seq_model.specs.declared.record.Record.{Record}
 use Rattle.seq_model.specs.declared.refusal.Refusal.{Refusal}
 use Rattle.seq_model.specs.declared.refusal.Refusal.TheVariants.{Ahead}
 use Rattle.seq_model.specs.declared.failure.Failure.{Failure}
-use Rattle.tx_client.specs.Asked.{HasAsked}
+use Rattle.tx_client.specs.RequestKinds.{HasAsked}
 use Rattle.tx_client.specs.Ends.{ClientShown, IsAbortBy}
 use Rattle.tx_client.specs.Tallies.{AreCounted}
 

@@ -6,11 +6,11 @@
 ghost use Rattle.std.specs.Prelude.{◌≡◌, IfErr, IfOk, Err, Ok, Some, false, true};
 ghost use Rattle.tx_table.specs.Seated.{opening_of};
 ghost use Rattle.tx_turns.specs.Driven.{is_declared};
-ghost use Rattle.tx_turns.specs.Requested.{requests_of};
+ghost use Rattle.tx_turns.specs.RequestHistory.{requests_of};
 ghost use Rattle.tx_engine.specs.Borrowed.{IsAborted};
 ghost use Rattle.tx_engine.specs.Ready.{HasBegunSince, HasFinished, IsReady};
 ghost use Rattle.tx_engine.specs.Requests.{HasAskedToBegin, KeepsReceipts};
-ghost use Rattle.tx_client.specs.Asked.{HasAsked};
+ghost use Rattle.tx_client.specs.RequestKinds.{HasAsked};
 ghost use Rattle.tx_client.specs.Ends.{EndsAs};
 ghost use Rattle.tx_client.specs.Frames.{HasMadeCalls, calls_made};
 ghost use Rattle.tx_client.specs.Tallies.{AreCounted};

@@ -3,7 +3,7 @@ ghost use Rattle.std.specs.Prelude.{◌≡◌, ◌<◌, ◌≤◌, ◌∷◌, �
 ghost use Rattle.seq_model.specs.declared.refusal.Refusal.TheVariants.{Ahead};
 ghost use Rattle.tx_table.specs.Seated.{actor, view};
 ghost use Rattle.tx_engine.specs.Ready.{IsReady};
-ghost use Rattle.tx_client.specs.Asked.{HasAsked};
+ghost use Rattle.tx_client.specs.RequestKinds.{HasAsked};
 ghost use Rattle.tx_client.specs.Ends.{IsAbortBy};
 ghost use Rattle.tx_client.specs.Frames.{AreBy, ComesBack};
 ghost use Rattle.tx_client.specs.Runners.{HasRun};

@@ -1,7 +1,7 @@
 //! A transaction, as a body sees it.
 ghost use Rattle.std.specs.Prelude.{◌≡◌, IfOk};
 ghost use Rattle.tx_engine.specs.Ready.{HasBegunSince, HasCalled, IsReady};
-ghost use Rattle.tx_handles.specs.Made.{HasMade, RefusesForeign, with_call};
+ghost use Rattle.tx_handles.specs.MadeCall.{HasMade, RefusesForeign, with_call};
 
 use crate::scope::Scope;
 use actor_parts::Boxed;
@@ -36,7 +36,7 @@ pub struct Transaction<'t, V, S: Scope<V>> {
 }
 
 impl<'t, V, S: Scope<V>> Model for Transaction<'t, V, S> {
-    ghost use Rattle.tx_handles.specs.Made.{TransactionShown};
+    ghost use Rattle.tx_handles.specs.MadeCall.{TransactionShown};
 
     ghost Value = { TransactionShown V };
 

@@ -16,14 +16,14 @@ use Rattle.replay_log.specs.Seats as worlds
 use Rattle.replay_log.specs.Seats.{Ended, Seat, World}
 use Rattle.replay_log.specs.WorldSerial.{AllSaw, SawAt}
 use Rattle.replay_log.specs.Worlds.{run}
-use Rattle.actor_laws.specs.Phases.{Stands, phase_at}
+use Rattle.actor_laws.specs.KnownStages.{Stands, known_stage_at}
 use Rattle.tx_table.specs.Opening.{Holds}
 use Rattle.tx_table.specs.Seated.{acts, contents_in, kept, list_of, opening_of, view}
 use Rattle.tx_table.specs.Seated as seated
 use Rattle.tx_table.specs.Shown.{Slot, aborted_by}
 use Rattle.tx_table.specs.declared.seat.Seat as table
 use Rattle.tx_table.specs.declared.table.TxTable.{TxTable}
-use Rattle.tx_table.specs.declared.view.View.{View}
+use Rattle.tx_table.specs.declared.view.SeatKnowledge.{SeatKnowledge}
 use Rattle.tx_table.proofs.Turned.{asked_calm}
 use Rattle.tx_turns.specs.Driven.{aborted_for, seat_in, standing}
 use Rattle.tx_engine.specs.Requests.{IsAbortedFor, IsLastAborted}
@@ -65,7 +65,7 @@ module _ {V : Type 0} where
   last_saw c rs (d ∷ old) e saw = last_saw c rs old e saw.1
 
   -- ---- a transaction that was open has its calls
-  stands_as : (cs calls : List (Call V × Reply V)) (st : worlds.Stage V) → phase_at cs st ≡ Stands calls → cs ≡ calls
+  stands_as : (cs calls : List (Call V × Reply V)) (st : worlds.Stage V) → known_stage_at cs st ≡ Stands calls → cs ≡ calls
   stands_as cs calls worlds.Open h = (let e : Stands cs ≡ Stands calls = h in cc)
   stands_as cs calls st h = absurd (let z : ⊥ = cc in z)
 
@@ -94,7 +94,7 @@ module _ {V : Type 0} where
 
   -- what is shown of the seat u, between two steps at which it stands in the table so
   abbrev pub SeatLaw : TxTable V → Type 0
-  SeatLaw t = (x : State (Slot V) (View V)) (rule : Holds t.whole.shared.key x) → ShowsSeats t.whole.shared.key rule.rule.events x
+  SeatLaw t = (x : State (Slot V) (SeatKnowledge V)) (rule : Holds t.whole.shared.key x) → ShowsSeats t.whole.shared.key rule.rule.events x
 
   pub shown_aborted : (t : TxTable V) → SeatLaw t → (s u : table.Seat V) (calls : List (Call V × Reply V)) (cause : Option Refusal)
       → seated.actor u ≡ seated.actor s → standing (opening_of t) s ≡ Stands calls → IsLastAborted (opening_of t) s u cause
@@ -113,7 +113,7 @@ module _ {V : Type 0} where
 
   -- ---- an open transaction
   open_saw : (c : Contents V) (rs : List (ℕ × Record V)) (y : Seat V) (st : worlds.Stage V) (calls : List (Call V × Reply V))
-      → phase_at y.calls st ≡ Stands calls → SawAt c rs y st → IsLegal calls (state_at y.rv rs c)
+      → known_stage_at y.calls st ≡ Stands calls → SawAt c rs y st → IsLegal calls (state_at y.rv rs c)
   open_saw c rs y worlds.Open calls on saw =
       let same : y.calls ≡ calls = cc in
       subst (λ (k : List (Call V × Reply V)). IsLegal k (state_at y.rv rs c)) same saw

@@ -9,9 +9,9 @@ use Rattle.seq_model.specs.declared.refusal.Refusal.{Refusal}
 use Rattle.seq_model.specs.declared.refusal.Refusal.TheVariants.{Memory as OutOfMemory}
 use Rattle.replay_log.specs.Seats.{World}
 use Rattle.tx_table.specs.declared.seat.Seat.{Seat}
-use Rattle.actor_laws.specs.Phases.{Rests}
+use Rattle.actor_laws.specs.KnownStages.{Rests}
 use Rattle.tx_turns.specs.Driven.{standing}
-use Rattle.tx_turns.specs.Requested.{requests_of}
+use Rattle.tx_turns.specs.RequestHistory.{requests_of}
 use Rattle.tx_engine.specs.Requests.{HasAskedFor, HasAskedToBegin, IsOpen, begin_request}
 
 module _ {V : Type 0} where

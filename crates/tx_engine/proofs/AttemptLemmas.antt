@@ -27,10 +27,10 @@ use Rattle.replay_log.specs.Worlds.{happens}
 use Rattle.seq_model.specs.declared.job.Ask.{Ask}
 use Rattle.seq_model.specs.declared.job.Ask.TheVariants as ask
 use Rattle.seq_model.specs.Programs.{replies_of}
-use Rattle.tx_actor.specs.declared.actor.Told.TheVariants as told
+use Rattle.tx_actor.specs.declared.actor.ActorNotice.TheVariants as told
 use Rattle.tx_table.specs.declared.seat.Seat.{Seat}
 use Rattle.tx_table.specs.Seated.{actor, acts, view}
-use Rattle.actor_laws.specs.Phases.{Rests, Stands, phase_at}
+use Rattle.actor_laws.specs.KnownStages.{Rests, Stands, known_stage_at}
 use Rattle.tx_engine.proofs.CallLemmas.{stands_at}
 pub use Rattle.tx_engine.proofs.RequestLemmas.{keeps_self}
 use Rattle.tx_engine.proofs.RequestLemmas.{then_keeps, told_later, told_on}
@@ -63,7 +63,7 @@ module _ {V : Type 0} where
     at_open = stands_at (w.seats a).calls calls (w.seats a).stage stands
 
     calls_are : (w.seats a).calls ≡ calls
-    calls_are = same_calls (w.seats a).calls calls (sym (ap (phase_at (w.seats a).calls) at_open) ∙ stands)
+    calls_are = same_calls (w.seats a).calls calls (sym (ap (known_stage_at (w.seats a).calls) at_open) ∙ stands)
 
     -- what is answered at once past the limit
     refuses : CALL_LIMIT ≤ length (w.seats a).calls → (b : Bool) → is_there w a call.target call.op ≡ b

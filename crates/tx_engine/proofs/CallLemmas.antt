@@ -25,8 +25,8 @@ use Rattle.replay_log.specs.WorldAnswers.{IsAdmitted}
 use Rattle.replay_log.specs.WorldRefusals.{is_ending}
 use Rattle.actor_laws.proofs.OwnEvents.{own_event}
 use Rattle.tx_actor.specs.Running.{notice_of}
-use Rattle.tx_actor.specs.declared.actor.Told.{Told}
-use Rattle.tx_actor.specs.declared.actor.Told.TheVariants as told
+use Rattle.tx_actor.specs.declared.actor.ActorNotice.{ActorNotice}
+use Rattle.tx_actor.specs.declared.actor.ActorNotice.TheVariants as told
 use Rattle.tx_actor.specs.declared.actor.TxActor.{TxActor}
 use Rattle.tx_table.specs.Opening.{blocks_at}
 use Rattle.tx_table.specs.declared.seat.Seat as table
@@ -34,11 +34,11 @@ use Rattle.tx_table.specs.declared.table.TxTable.{TxTable}
 use Rattle.tx_table.specs.Seated.{acts, opening_of, out}
 use Rattle.tx_table.specs.Seated as seated
 use Rattle.actor_laws.proofs.CourseLemmas.{ends_at}
-use Rattle.actor_laws.proofs.PhaseLemmas.{asks_move}
+use Rattle.actor_laws.proofs.KnownStageLemmas.{asks_move}
 use Rattle.actor_laws.specs.Courses.{ComesTo, EndsFrom, IsUnderWay, IsUnderWayFrom}
-use Rattle.actor_laws.specs.Phases.{AskMoves, CallMoves, Phase, Rests, Begins, Stands, Calls, Ends, IsMistaken, phase, phase_at}
+use Rattle.actor_laws.specs.KnownStages.{AskMoves, CallMoves, KnownStage, Rests, Begins, Stands, Calls, Ends, IsMistaken, known_stage, known_stage_at}
 use Rattle.tx_turns.proofs.EndedLemmas.{IsGoing}
-use Rattle.tx_turns.proofs.KeptLemmas.{Keeps, asks_keep}
+use Rattle.tx_turns.proofs.SnapshotLemmas.{Keeps, asks_keep}
 use Rattle.tx_engine.proofs.KindLemmas.{call_given_up, call_mistaken, call_without_memory}
 use Rattle.tx_engine.proofs.RequestLemmas.{asked_aborted, asked_keeps, asked_reader, ended_back, found_told, noted_for, then_keeps}
 use Rattle.tx_engine.proofs.RequestLemmas.{told_back, turns_keep}
@@ -46,25 +46,25 @@ use Rattle.tx_turns.specs.Driven.{Driven, IsCallCause, IsReason, IsTrue, is_decl
 use Rattle.tx_engine.specs.Requests.{CallLeaves, CallsTo, HasAborted, IsCallRefusal, IsCallTold, IsDriven, IsOpen, KeepsReceipts}
 use Rattle.tx_engine.specs.Requests.{IsAbortedFor, IsLastAborted}
 use Rattle.tx_engine.specs.Requests.{told_of}
-use Rattle.tx_turns.proofs.AskedLemmas.{acts_taken}
-use Rattle.tx_turns.specs.Asked.{Answers, HasAsked}
+use Rattle.tx_turns.proofs.LoneRequestLemmas.{acts_taken}
+use Rattle.tx_turns.specs.RequestStep.{Answers, HasAsked}
 use Rattle.tx_turns.specs.Ties.{Ties}
 
 module _ {V : Type 0} where
   -- an open transaction
-  pub stands_at : (cs calls : List (Call V × Reply V)) (st : Stage V) → phase_at cs st ≡ Stands calls → st ≡ worlds.Open
+  pub stands_at : (cs calls : List (Call V × Reply V)) (st : Stage V) → known_stage_at cs st ≡ Stands calls → st ≡ worlds.Open
   stands_at cs calls worlds.Open h = refl
   stands_at cs calls st h = absurd (let z : ⊥ = cc in z)
 
-  stands_going : (cs calls : List (Call V × Reply V)) (st : Stage V) → phase_at cs st ≡ Stands calls → is_ending st ≡ false
+  stands_going : (cs calls : List (Call V × Reply V)) (st : Stage V) → known_stage_at cs st ≡ Stands calls → is_ending st ≡ false
   stands_going cs calls st h = ap is_ending (stands_at cs calls st h)
 
-  stands_busy : (p : Phase V) (calls : List (Call V × Reply V)) → p ≡ Stands calls → p ≡ Rests → ⊥
+  stands_busy : (p : KnownStage V) (calls : List (Call V × Reply V)) → p ≡ Stands calls → p ≡ Rests → ⊥
   stands_busy p calls e h = (let k : Stands calls ≡ Rests = sym e ∙ h in cc)
 
   -- ---- a call that is driven
-  pub under_call : (x : Seat V) (calls : List (Call V × Reply V)) (call : Call V) → phase x ≡ Calls calls call → IsUnderWay x x None
-  under_call x calls call at = subst (λ (p : Phase V). IsUnderWayFrom x p x None) (sym at) (inl at, refl)
+  pub under_call : (x : Seat V) (calls : List (Call V × Reply V)) (call : Call V) → known_stage x ≡ Calls calls call → IsUnderWay x x None
+  under_call x calls call at = subst (λ (p : KnownStage V). IsUnderWayFrom x p x None) (sym at) (inl at, refl)
 
   told_some : (r : Result (Reply V) Refusal) → told_of r ≢ told.Quiet
   told_some (Ok r) e = cc
@@ -75,28 +75,28 @@ module _ {V : Type 0} where
     b = seated.actor m
 
     -- as in the course
-    call_ends : (n : Told V) (d : Option (Record V)) → n ≢ told.Quiet → ComesTo b (seat_in o m) (notice_of b n) (seat_in o u) d
+    call_ends : (n : ActorNotice V) (d : Option (Record V)) → n ≢ told.Quiet → ComesTo b (seat_in o m) (notice_of b n) (seat_in o u) d
         → EndsFrom b (seat_in o m) (Calls calls call) (notice_of b n) (seat_in o u) d
     call_ends told.Quiet d ne h = absurd (ne refl)
-    call_ends (told.Answered p) d ne h = subst (λ (k : Phase V). EndsFrom b (seat_in o m) k (Answered b p) (seat_in o u) d) at h
-    call_ends (told.Refused cause) d ne h = subst (λ (k : Phase V). EndsFrom b (seat_in o m) k (Refused b cause) (seat_in o u) d) at h
+    call_ends (told.Answered p) d ne h = subst (λ (k : KnownStage V). EndsFrom b (seat_in o m) k (Answered b p) (seat_in o u) d) at h
+    call_ends (told.Refused cause) d ne h = subst (λ (k : KnownStage V). EndsFrom b (seat_in o m) k (Refused b cause) (seat_in o u) d) at h
 
-    made_none : (n : Told V) (d : Option (Record V)) → EndsFrom b (seat_in o m) (Calls calls call) (notice_of b n) (seat_in o u) d
+    made_none : (n : ActorNotice V) (d : Option (Record V)) → EndsFrom b (seat_in o m) (Calls calls call) (notice_of b n) (seat_in o u) d
         → (d ≡ None) × IsCallTold n
     made_none told.Quiet d h = absurd h
     made_none (told.Answered (answer.Replied r)) d h = (h.1, tt)
     made_none (told.Answered p) d h = absurd h
     made_none (told.Refused cause) d h = (h.1, tt)
 
-    pub call_said : (n : Told V) (d : Option (Record V)) → n ≢ told.Quiet → Driven o m u n d → IsCallTold n
+    pub call_said : (n : ActorNotice V) (d : Option (Record V)) → n ≢ told.Quiet → Driven o m u n d → IsCallTold n
     call_said n d ne D = (made_none n d (call_ends n d ne D.comes)).1
 
-    call_keeps : (n : Told V) (d : Option (Record V)) → n ≢ told.Quiet → out u ≡ out m → Driven o m u n d → KeepsReceipts m u
+    call_keeps : (n : ActorNotice V) (d : Option (Record V)) → n ≢ told.Quiet → out u ≡ out m → Driven o m u n d → KeepsReceipts m u
     call_keeps n d ne outs D = turns_keep o m u n d (made_none n d (call_ends n d ne D.comes)).0 outs D
 
     call_kinds : (r : Result (Reply V) Refusal) (d : Option (Record V)) → Driven o m u (told_of r) d → IfErr r (IsCallRefusal call.op)
     call_kinds (Ok r) d D = tt
-    call_kinds (Err cause) d D = by_truth (subst (λ (k : Phase V). IsTrue o m u k (told.Refused cause)) at D.is_true)
+    call_kinds (Err cause) d D = by_truth (subst (λ (k : KnownStage V). IsTrue o m u k (told.Refused cause)) at D.is_true)
       where
         by_truth : (IsReason o m u cause × IsCallCause call.op cause) ⊎ ((standing o u ≡ Stands calls) × IsMistaken cause)
             → IsCallRefusal call.op cause
@@ -107,7 +107,7 @@ module _ {V : Type 0} where
     call_left (Ok r) d D = (call_ends (told.Answered (answer.Replied r)) d (told_some (Ok r)) D.comes).0
     call_left (Err cause) d D =
         by_truth (call_ends (told.Refused cause) d (told_some (Err cause)) D.comes).0
-        (subst (λ (k : Phase V). IsTrue o m u k (told.Refused cause)) at D.is_true)
+        (subst (λ (k : KnownStage V). IsTrue o m u k (told.Refused cause)) at D.is_true)
       where
         by_truth : ((standing o u ≡ Stands calls) × IsMistaken cause) ⊎ (standing o u ≡ Rests)
             → (IsReason o m u cause × IsCallCause call.op cause) ⊎ ((standing o u ≡ Stands calls) × IsMistaken cause)
@@ -140,14 +140,14 @@ module _ {V : Type 0} where
     seat_is : seat_in o m ≡ (happens (acts o s) (Ask a q)).0.seats a
     seat_is i = (acts_taken o s m (Ask 0 q) has i).seats (has.0.1 i)
 
-    moves : (calls : List (Call V × Reply V)) → standing o s ≡ Stands calls → (n : Told V) → Answers o s q n
+    moves : (calls : List (Call V × Reply V)) → standing o s ≡ Stands calls → (n : ActorNotice V) → Answers o s q n
         → CallMoves calls call (notice_of a n) (standing o m)
     moves calls on n is =
-        subst (λ (k : Phase V × Notice V × Phase V). AskMoves k.0 q k.1 k.2) (λ i. (on i, sym is i, phase (sym seat_is i)))
+        subst (λ (k : KnownStage V × Notice V × KnownStage V). AskMoves k.0 q k.1 k.2) (λ i. (on i, sym is i, known_stage (sym seat_is i)))
         (asks_move (acts o s) a q)
 
     -- what is answered at once is a reply or a refusal
-    pub call_told : (calls : List (Call V × Reply V)) → standing o s ≡ Stands calls → (n : Told V) → n ≢ told.Quiet → Answers o s q n
+    pub call_told : (calls : List (Call V × Reply V)) → standing o s ≡ Stands calls → (n : ActorNotice V) → n ≢ told.Quiet → Answers o s q n
         → IsCallTold n
     call_told calls on told.Quiet ne is = absurd (ne refl)
     call_told calls on (told.Answered (answer.Replied r)) ne is = tt
@@ -170,7 +170,7 @@ module _ {V : Type 0} where
         kept : Keeps (seat_in o s) ((happens (acts o s) (Ask a q)).0.seats a) → (seat_in o m).rv ≡ (seat_in o s).rv
         kept (inl e) = ap (λ (x : Seat V). x.rv) seat_is ∙ e.0
         kept (inr (inl e)) = ap (λ (x : Seat V). x.rv) seat_is ∙ e.0
-        kept (inr (inr e)) = absurd (busy (ap phase seat_is ∙ e))
+        kept (inr (inr e)) = absurd (busy (ap known_stage seat_is ∙ e))
 
     still_open : (r : Result (Reply V) Refusal) → Answers o s q (told_of r) → standing o m ≡ Rests → ⊥
     still_open (Ok reply) is rests =
@@ -178,7 +178,7 @@ module _ {V : Type 0} where
         (moves opened.0 opened.1 (told.Answered (answer.Replied reply)) is) rests
     still_open (Err cause) is rests = stands_busy (standing o m) opened.0 (moves opened.0 opened.1 (told.Refused cause) is).0 rests
 
-    pub at_once : (n : Told V) (r : Result (Reply V) Refusal) → n ≡ told_of r → Answers o s q n → CallsTo o s call m r
+    pub at_once : (n : ActorNotice V) (r : Result (Reply V) Refusal) → n ≡ told_of r → Answers o s q n → CallsTo o s call m r
     at_once n r e is = record {
       keeps = asked_keeps s m (has.0, has.1);
       leaves = λ calls on. leaves_now calls on r (subst (λ k. Answers o s q k) e is);
@@ -200,8 +200,8 @@ module _ {V : Type 0} where
         (opened_linked (blocks_at key) key.shape.value.clock key.state.value.words key.state.value.held h.stripes) in
         let alike = own_event a w (acts o s) (Ask a q) h.alike refl in
         let going : is_ending (w.seats a).stage ≡ false =
-        stands_going (w.seats a).calls calls (w.seats a).stage (ap phase h.alike.seat ∙ on) in
-        let over = ends_at ((happens w (Ask a q)).0.seats a) (ap phase (alike.0.seat ∙ sym seat_is) ∙ ends) in
+        stands_going (w.seats a).calls calls (w.seats a).stage (ap known_stage h.alike.seat ∙ on) in
+        let over = ends_at ((happens w (Ask a q)).0.seats a) (ap known_stage (alike.0.seat ∙ sym seat_is) ∙ ends) in
         let e : q ≡ request.Abort = only_abort w a q linked going over in
         let z : ⊥ = cc in z
 

@@ -15,7 +15,7 @@ use Rattle.replay_log.specs.Contents.{Block, end_of}
 use Rattle.tx_machine.specs.Cells.{ValueCell}
 use Rattle.tx_table.specs.declared.closed.Closed.{Closed}
 use Rattle.tx_table.specs.Ends.{bases_in, held_in, homes_of, row_of}
-use Rattle.tx_table.specs.declared.view.View.{View}
+use Rattle.tx_table.specs.declared.view.SeatKnowledge.{SeatKnowledge}
 use Rattle.tx_table.specs.Layout.{address, values_in}
 use Rattle.tx_table.specs.Shown.{Closes, Slot}
 use Rattle.tx_table.proofs.Numbers.{map_at}
@@ -45,7 +45,7 @@ module _ {V : Type 0} where
   base_slot (Some b ∷ slots) (suc k) base full at = base_slot slots k base (λ j e. full (suc j) e) at
 
   -- The table that is closed had so many words and these blocks.
-  pub left_by : (n : ℕ) (bs : List Block) (opening : Contents V) (v : View V) (c : Closed V) → c.words ≡ n → c.locations ≡ end_of n bs
+  pub left_by : (n : ℕ) (bs : List Block) (opening : Contents V) (v : SeatKnowledge V) (c : Closed V) → c.words ≡ n → c.locations ≡ end_of n bs
       → length (homes_of c) ≡ length bs → Closes n bs opening v (row_of c) (map some (homes_of c)) → IsLeftBy opening v.receipts c
   left_by n bs opening v c words locations wide closes = record {
     order = closes.order;

@@ -27,8 +27,8 @@ use Rattle.replay_log.specs.Seats as worlds
 use Rattle.replay_log.specs.Seats.{World, Seat, Stage, Closing, Locking, acted, actor_of, asks, at_stage}
 use Rattle.replay_log.specs.Worlds.{ask_at, commits, happens, run}
 use Rattle.tx_actor.specs.Running.{notice_of}
-use Rattle.tx_actor.specs.declared.actor.Told.{Told}
-use Rattle.tx_actor.specs.declared.actor.Told.TheVariants as told
+use Rattle.tx_actor.specs.declared.actor.ActorNotice.{ActorNotice}
+use Rattle.tx_actor.specs.declared.actor.ActorNotice.TheVariants as told
 use Rattle.tx_actor.specs.declared.actor.TxActor.{TxActor}
 use Rattle.tx_table.specs.Opening.{blocks_at}
 use Rattle.tx_table.specs.declared.seat.Seat as table
@@ -36,10 +36,10 @@ use Rattle.tx_table.specs.declared.table.TxTable.{TxTable}
 use Rattle.tx_table.specs.Seated.{acts, opening_of, out, view}
 use Rattle.tx_table.specs.Seated as seated
 use Rattle.actor_laws.specs.Courses.{ComesTo, EndsFrom, IsUnderWay, IsUnderWayFrom}
-use Rattle.actor_laws.specs.Phases.{Phase, Rests, Stands, Commits, phase, phase_at}
+use Rattle.actor_laws.specs.KnownStages.{KnownStage, Rests, Stands, Commits, known_stage, known_stage_at}
 use Rattle.tx_engine.proofs.CallLemmas.{stands_at}
 use Rattle.tx_turns.proofs.EndedLemmas.{IsGoing}
-use Rattle.tx_turns.proofs.KeptLemmas.{Keeps, asks_keep}
+use Rattle.tx_turns.proofs.SnapshotLemmas.{Keeps, asks_keep}
 use Rattle.tx_engine.proofs.KindLemmas.{commit_given_up, commit_without_memory}
 use Rattle.tx_engine.proofs.RequestLemmas.{asked_aborted, asked_keeps, ended_back, found_told, noted_for, then_keeps, told_back}
 use Rattle.tx_engine.proofs.RequestLemmas.{turns_keep}
@@ -48,8 +48,8 @@ use Rattle.tx_turns.specs.Driven.{is_closing, is_declared, seat_in, standing}
 use Rattle.tx_engine.specs.Requests.{CommitsTo, HasAborted, HasCommitted, HasSameAborted, IsCommitRefusal, IsCommitTold, IsEnded}
 use Rattle.tx_engine.specs.Requests.{IsLastAborted, KeepsReceipts, has_some, has_written}
 use Rattle.tx_turns.proofs.OwnLemmas.{own_ok}
-use Rattle.tx_turns.proofs.AskedLemmas.{acts_taken}
-use Rattle.tx_turns.specs.Asked.{HasAsked}
+use Rattle.tx_turns.proofs.LoneRequestLemmas.{acts_taken}
+use Rattle.tx_turns.specs.RequestStep.{HasAsked}
 use Rattle.tx_turns.specs.Ties.{Ties}
 
 -- as it is asked, it has none yet: its word actor is to lock, or to load the clock
@@ -68,15 +68,15 @@ not_twice false = refl
 module _ {V : Type 0} where
   -- ---- the ask
   commits_at : (w : World V) (a : ℕ) (x : Seat V) (es : Entries) → let y = (commits w a x es).0.seats a in
-      (phase y ≡ Commits x.calls) × (is_closing y.stage ≡ not (has_some es))
+      (known_stage y ≡ Commits x.calls) × (is_closing y.stage ≡ not (has_some es))
   commits_at w a x [] =
       let e = put-same (acted w (asks a word.AskClose ∷ [])).seats a (at_stage x Closing) in
-      (ap phase e, ap (λ (y : Seat V). is_closing y.stage) e)
+      (ap known_stage e, ap (λ (y : Seat V). is_closing y.stage) e)
   commits_at w a x (d ∷ es) =
       let e = put-same (acted w (asks a word.AskLock ∷ [])).seats a (at_stage x Locking) in
-      (ap phase e, ap (λ (y : Seat V). is_closing y.stage) e)
+      (ap known_stage e, ap (λ (y : Seat V). is_closing y.stage) e)
 
-  same_calls : (cs calls : List (Call V × Reply V)) (st : Stage V) → phase_at cs st ≡ Stands calls → Commits cs ≡ Commits calls
+  same_calls : (cs calls : List (Call V × Reply V)) (st : Stage V) → known_stage_at cs st ≡ Stands calls → Commits cs ≡ Commits calls
   same_calls cs calls worlds.Open h = (let e : Stands cs ≡ Stands calls = h in cc)
   same_calls cs calls st h = absurd (let z : ⊥ = cc in z)
 
@@ -91,7 +91,7 @@ module _ {V : Type 0} where
       (λ i. (acts_taken o s m (Ask 0 Commit) has i).seats (has.0.1 i))
       ∙ ap (λ (st : Stage V). (ask_at w a x st Commit).0.seats a) (stands_at x.calls calls x.stage on) in
       let h = commits_at w a x (actor_of w a).writes in
-      (ap phase e ∙ (h.0 ∙ same_calls x.calls calls x.stage on), ap (λ (y : Seat V). is_closing y.stage) e ∙ h.1)
+      (ap known_stage e ∙ (h.0 ∙ same_calls x.calls calls x.stage on), ap (λ (y : Seat V). is_closing y.stage) e ∙ h.1)
 
   -- ---- its numbers
   pub commit_began : (o : World V) (s m : table.Seat V) (calls : List (Call V × Reply V)) → standing o s ≡ Stands calls
@@ -108,7 +108,7 @@ module _ {V : Type 0} where
       kept (inl e) = ap (λ (x : Seat V). x.rv) seat_is ∙ e.0
       kept (inr (inl e)) = ap (λ (x : Seat V). x.rv) seat_is ∙ e.0
       kept (inr (inr e)) =
-          absurd (let k = sym (commit_asked o s m calls on has).0 ∙ (ap phase seat_is ∙ e) in let j : Commits calls ≡ Rests = k in cc)
+          absurd (let k = sym (commit_asked o s m calls on has).0 ∙ (ap known_stage seat_is ∙ e) in let j : Commits calls ≡ Rests = k in cc)
 
   -- as it is asked, it has none yet
   unstamped : (w : World V) (a k : ℕ) (x : Seat V) (es : Entries) → (actor_of w a).place ≡ machine.Open
@@ -160,8 +160,8 @@ module _ {V : Type 0} where
       (ap (λ (y : Actor). y.place) is ∙ place_open t s r calls ties on) in
       ap has_some (ap (λ (y : Actor). y.writes) (sym is) ∙ none.1)
 
-  pub under_commits : (x : Seat V) (calls : List (Call V × Reply V)) → phase x ≡ Commits calls → IsUnderWay x x None
-  under_commits x calls on = subst (λ (p : Phase V). IsUnderWayFrom x p x None) (sym on) (inl (inl on, refl))
+  pub under_commits : (x : Seat V) (calls : List (Call V × Reply V)) → known_stage x ≡ Commits calls → IsUnderWay x x None
+  under_commits x calls on = subst (λ (p : KnownStage V). IsUnderWayFrom x p x None) (sym on) (inl (inl on, refl))
 
   -- ---- the turns
   module _ (o : World V) (s u : table.Seat V) (calls : List (Call V × Reply V)) (on : standing o s ≡ Commits calls)
@@ -169,25 +169,25 @@ module _ {V : Type 0} where
     abbrev a : ℕ
     a = seated.actor s
 
-    ends_from : (n : Told V) (d : Option (Record V)) → n ≢ told.Quiet → ComesTo a (seat_in o s) (notice_of a n) (seat_in o u) d
+    ends_from : (n : ActorNotice V) (d : Option (Record V)) → n ≢ told.Quiet → ComesTo a (seat_in o s) (notice_of a n) (seat_in o u) d
         → EndsFrom a (seat_in o s) (Commits calls) (notice_of a n) (seat_in o u) d
     ends_from told.Quiet d ne h = absurd (ne refl)
     ends_from (told.Answered q) d ne h =
-        subst (λ (p : Phase V). EndsFrom a (seat_in o s) p (Answered a q) (seat_in o u) d) on h
+        subst (λ (p : KnownStage V). EndsFrom a (seat_in o s) p (Answered a q) (seat_in o u) d) on h
     ends_from (told.Refused cause) d ne h =
-        subst (λ (p : Phase V). EndsFrom a (seat_in o s) p (Refused a cause) (seat_in o u) d) on h
+        subst (λ (p : KnownStage V). EndsFrom a (seat_in o s) p (Refused a cause) (seat_in o u) d) on h
 
     -- what a commit with this record has answered
-    abbrev IsMade : Told V → Record V → Type 0
+    abbrev IsMade : ActorNotice V → Record V → Type 0
     IsMade n r = (standing o u ≡ Rests) × (r.calls ≡ calls) × (n ≡ told.Answered (answer.Committed r.number))
 
-    made : (n : Told V) (r : Record V) → EndsFrom a (seat_in o s) (Commits calls) (notice_of a n) (seat_in o u) (Some r) → IsMade n r
+    made : (n : ActorNotice V) (r : Record V) → EndsFrom a (seat_in o s) (Commits calls) (notice_of a n) (seat_in o u) (Some r) → IsMade n r
     made told.Quiet r h = absurd h
     made (told.Answered (answer.Committed k)) r h = (h.0, h.1.0, ap (λ (i : ℕ). told.Answered (answer.Committed i)) (sym h.1.1))
     made (told.Answered q) r h = absurd h
     made (told.Refused cause) r h = absurd (let e = h.1 in let z : ⊥ = cc in z)
 
-    pub committed : (n : Told V) (r : Record V) → n ≢ told.Quiet → Driven o s u n (Some r)
+    pub committed : (n : ActorNotice V) (r : Record V) → n ≢ told.Quiet → Driven o s u n (Some r)
         → HasCommitted o s u r × (standing o s ≡ Commits r.calls) × (r.writes ≡ not (is_closing (seat_in o s).stage))
         × (KnowsNumber o s → IsNumberOf (seat_in o s).rv (view u).clock r) × HasSameAborted o s u
     committed n r ne D =
@@ -201,7 +201,7 @@ module _ {V : Type 0} where
             outs = outs;
             rises = D.rises;
             rests = h.0;
-            told = subst (λ (k : Told V). HasTold o s u k) h.2 (D.tells ne);
+            told = subst (λ (k : ActorNotice V). HasTold o s u k) h.2 (D.tells ne);
           },
           on ∙ ap Commits (sym h.1),
           D.written,
@@ -212,25 +212,25 @@ module _ {V : Type 0} where
     pub refused : (cause : Refusal) → Driven o s u (told.Refused cause) None
         → KeepsReceipts s u × IsEnded o s u cause × IsCommitRefusal cause
     refused cause D =
-        let h = subst (λ (p : Phase V). EndsFrom a (seat_in o s) p (Refused a cause) (seat_in o u) None) on D.comes in
-        let truth = subst (λ (p : Phase V). IsTrue o s u p (told.Refused cause)) on D.is_true in
+        let h = subst (λ (p : KnownStage V). EndsFrom a (seat_in o s) p (Refused a cause) (seat_in o u) None) on D.comes in
+        let truth = subst (λ (p : KnownStage V). IsTrue o s u p (told.Refused cause)) on D.is_true in
         let tells = D.tells (λ e. cc) in
         (turns_keep o s u (told.Refused cause) None refl outs D, (h.0, found_told o s u cause truth.0 tells), commit_given_up cause truth.1)
 
     -- without a record it was refused
-    none_told : (n : Told V) → n ≢ told.Quiet → EndsFrom a (seat_in o s) (Commits calls) (notice_of a n) (seat_in o u) None
+    none_told : (n : ActorNotice V) → n ≢ told.Quiet → EndsFrom a (seat_in o s) (Commits calls) (notice_of a n) (seat_in o u) None
         → IsCommitTold n None
     none_told told.Quiet ne h = absurd (ne refl)
     none_told (told.Answered (answer.Committed k)) ne h = absurd h.1
     none_told (told.Answered q) ne h = absurd h
     none_told (told.Refused cause) ne h = tt
 
-    pub commit_told : (n : Told V) (d : Option (Record V)) → n ≢ told.Quiet → Driven o s u n d → IsCommitTold n d
+    pub commit_told : (n : ActorNotice V) (d : Option (Record V)) → n ≢ told.Quiet → Driven o s u n d → IsCommitTold n d
     commit_told n (Some r) ne D = tt
     commit_told n None ne D = none_told n ne (ends_from n None ne D.comes)
 
-  same_stands : (cs calls : List (Call V × Reply V)) → ◌≡◌ {A = Phase V} (Commits cs) (Commits calls)
-      → ◌≡◌ {A = Phase V} (Stands cs) (Stands calls)
+  same_stands : (cs calls : List (Call V × Reply V)) → ◌≡◌ {A = KnownStage V} (Commits cs) (Commits calls)
+      → ◌≡◌ {A = KnownStage V} (Stands cs) (Stands calls)
   same_stands cs calls e = cc
 
   -- the commit that was asked
@@ -248,7 +248,7 @@ module _ {V : Type 0} where
   }
 
   pub commits_to : (t : TxTable V) (s m u : table.Seat V) (q : TxActor V) (calls : List (Call V × Reply V)) → Ties t s q
-      → standing (opening_of t) s ≡ Stands calls → HasAsked s Commit m → out u ≡ out m → (n : Told V) (d : Option (Record V))
+      → standing (opening_of t) s ≡ Stands calls → HasAsked s Commit m → out u ≡ out m → (n : ActorNotice V) (d : Option (Record V))
       (r : Result (Record V) Refusal) → n ≢ told.Quiet → Driven (opening_of t) m u n d
       → MatchResult r (λ q. d ≡ Some q) (λ cause. (d ≡ None) × (n ≡ told.Refused cause)) → CommitsTo (opening_of t) s u r
   commits_to t s m u q calls ties on has outs n d (Ok r) ne D h =
@@ -273,7 +273,7 @@ module _ {V : Type 0} where
       let o = opening_of t in
       let kept = asked_keeps s m (has.0, has.1) in
       let R = refused o m u calls (commit_asked o s m calls on has).0 outs cause
-      (subst (λ (k : Told V × Option (Record V)). Driven o m u k.0 k.1) (λ i. (h.1 i, h.0 i)) D) in
+      (subst (λ (k : ActorNotice V × Option (Record V)). Driven o m u k.0 k.1) (λ i. (h.1 i, h.0 i)) D) in
       record {
         committed = tt;
         calls = tt;

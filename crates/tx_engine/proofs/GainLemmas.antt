@@ -10,7 +10,7 @@ use Rattle.seq_model.specs.declared.refusal.Refusal.{Refusal}
 use Rattle.replay_log.specs.Seats as worlds
 use Rattle.replay_log.specs.Seats.{Ended, World}
 use Rattle.seq_model.specs.declared.job.Ask.{Ask}
-use Rattle.actor_laws.specs.Phases.{IsMistaken, Rests, Stands, phase_at}
+use Rattle.actor_laws.specs.KnownStages.{IsMistaken, Rests, Stands, known_stage_at}
 use Rattle.tx_table.specs.Seated.{actor, acts}
 use Rattle.tx_table.specs.declared.seat.Seat.{Seat}
 use Rattle.tx_turns.specs.Driven.{IsExhausted, aborted_for, seat_in}
@@ -38,7 +38,7 @@ module _ {V : Type 0} (o : World V) where
   aborts_still s m u es h same = (λ opened. same ∙ h.0 opened, λ rests. same ∙ h.1 rests)
 
   -- ---- the last one
-  stands_as : (cs calls : List (Call V × Reply V)) (st : worlds.Stage V) → phase_at cs st ≡ Stands calls → cs ≡ calls
+  stands_as : (cs calls : List (Call V × Reply V)) (st : worlds.Stage V) → known_stage_at cs st ≡ Stands calls → cs ≡ calls
   stands_as cs calls worlds.Open h = (let e : Stands cs ≡ Stands calls = h in cc)
   stands_as cs calls st h = absurd (let z : ⊥ = cc in z)
 

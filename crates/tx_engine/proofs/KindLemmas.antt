@@ -6,7 +6,7 @@ use Rattle.seq_model.specs.declared.call.Op.{Op}
 use Rattle.seq_model.specs.declared.refusal.Refusal.{Refusal}
 use Rattle.seq_model.specs.declared.refusal.Refusal.TheVariants.{Busy, GateBusy, Invalid, Moved, NoSuch, NoTransaction, Memory as OutOfMemory, Stale}
 use Rattle.seq_model.specs.declared.refusal.Refusal.TheVariants.{TooLong}
-use Rattle.actor_laws.specs.Phases.{IsMistaken}
+use Rattle.actor_laws.specs.KnownStages.{IsMistaken}
 use Rattle.tx_turns.specs.Driven.{IsCallCause, IsCommitCause}
 use Rattle.tx_engine.specs.Requests.{IsCallRefusal, IsCommitRefusal}
 

@@ -13,7 +13,7 @@ pub mod GainLemmas
 pub mod AttemptLemmas
 pub mod SeatLemmas
 pub mod TurnLemmas
-pub mod TriedLemmas
+pub mod BusyGateLemmas
 pub mod HeldLemmas
 pub mod RefusedLemmas
 pub mod StepLemmas

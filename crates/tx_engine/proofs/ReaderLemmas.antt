@@ -10,7 +10,8 @@ use Rattle.std.specs.Prelude.{nat_lt, option_map}
 use Rattle.std.specs.List.{list_any}
 use Rattle.std.specs.FinMap.{FinMap}
 use Rattle.std.specs.Ordering.{nat_cmp}
-use Rattle.std.proofs.lemmas.Bool.{cond-true}
+use Rattle.std.proofs.lemmas.Bool.{cond-true, or_parts}
+use Rattle.std.proofs.lemmas.Option.{same_Some, none-some}
 use Rattle.tx_sets.specs.Entries.{Entries, lookup}
 use Rattle.tx_machine.specs.Actor as machine
 use Rattle.tx_machine.proofs.Calls.{touched}
@@ -37,13 +38,13 @@ use Rattle.tx_machine.specs.Serial.{AreLegal}
 use Rattle.tx_machine.proofs.Parts.{Untouched}
 use Rattle.replay_log.specs.Base.{Shown, outcome_of, writes_of}
 use Rattle.replay_log.specs.Parts.{Kind, MapKind, BagKind, PqKind, QueueKind, whole}
-use Rattle.replay_log.specs.Contents.{Block, Answered, answer, content, shifted, writes_in}
+use Rattle.replay_log.specs.Contents.{Block, CallWithOutcome, answer, content, shifted, writes_in}
 use Rattle.replay_log.specs.Seats.{World, Open, actor_of}
 use Rattle.replay_log.specs.Worlds.{run}
 use Rattle.replay_log.proofs.EventLemmas.{opened_linked, run_linked}
 use Rattle.replay_log.proofs.MixedLemmas.{Told, is_on_word, on_held, pair_of, word_calls}
 use Rattle.replay_log.proofs.SeatLemmas.{Linked, StageOk}
-use Rattle.actor_laws.specs.Phases.{Stands, phase_at}
+use Rattle.actor_laws.specs.KnownStages.{Stands, known_stage_at}
 use Rattle.tx_table.specs.declared.seat.Seat.{Seat}
 use Rattle.tx_table.specs.Seated.{actor, acts}
 use Rattle.tx_table.specs.Shown.{IsReached}
@@ -52,16 +53,6 @@ use Rattle.tx_engine.specs.Ready.{standing}
 use Rattle.tx_engine.specs.Requests.{has_written}
 use Rattle.tx_engine.specs.Requests as entries
 use Rattle.tx_engine.proofs.AttemptLemmas.{same_calls}
-
-some_is : {A : Type 0} (a b : A) → Some a ≡ Some b → a ≡ b
-some_is a b e = cc
-
-no_some : {A : Type 0} (a : A) → None ≡ Some a → ⊥
-no_some a e = cc
-
-neither : (a b : Bool) → (a || b) ≡ false → (a ≡ false) × (b ≡ false)
-neither true b e = absurd (true≢false e)
-neither false b e = (refl, e)
 
 -- what holds of none that has a mark, and of none that has not
 none_at_all : {A : Type 0} (p q : A → Bool) (xs : List A) → list_any p (filter q xs) ≡ false
@@ -72,10 +63,10 @@ none_at_all p q (x ∷ xs) h g =
     → list_any p (cond (not b) (x ∷ filter (λ x. not (q x)) xs) (filter (λ x. not (q x)) xs)) ≡ false
     → (p x || list_any p xs) ≡ false) [
       | true ↦ λ h g. (
-          let parts = neither (p x) (list_any p (filter q xs)) h in
+          let parts = or_parts (p x) (list_any p (filter q xs)) h in
           ap (λ b. b || list_any p xs) parts.0 ∙ none_at_all p q xs parts.1 g)
       | false ↦ λ h g. (
-          let parts = neither (p x) (list_any p (filter (λ x. not (q x)) xs)) g in
+          let parts = or_parts (p x) (list_any p (filter (λ x. not (q x)) xs)) g in
           ap (λ b. b || list_any p xs) parts.0 ∙ none_at_all p q xs h parts.1)
     ] h g
 
@@ -104,17 +95,17 @@ words_still V n (machine.Write l v ∷ cs) none =
 module _ {V : Type 0} where
   -- ---- an outcome has the operation of its call
   map_op : (op : Op V) (m : FinMap nat_cmp V) (r : Outcome V) → map_rules.outcome_of op m ≡ Some r → r.op ≡ op
-  map_op (Get k) m r e = ap (λ (o : Outcome V). o.op) (sym (some_is _ r e))
-  map_op (Put k v) m r e = ap (λ (o : Outcome V). o.op) (sym (some_is _ r e))
-  map_op (Remove k) m r e = ap (λ (o : Outcome V). o.op) (sym (some_is _ r e))
-  map_op Len m r e = ap (λ (o : Outcome V). o.op) (sym (some_is _ r e))
-  map_op _ m r e = absurd (no_some r e)
+  map_op (Get k) m r e = ap (λ (o : Outcome V). o.op) (sym (same_Some _ r e))
+  map_op (Put k v) m r e = ap (λ (o : Outcome V). o.op) (sym (same_Some _ r e))
+  map_op (Remove k) m r e = ap (λ (o : Outcome V). o.op) (sym (same_Some _ r e))
+  map_op Len m r e = ap (λ (o : Outcome V). o.op) (sym (same_Some _ r e))
+  map_op _ m r e = absurd (none-some r e)
 
   bag_op : (op : Op V) (m : Multiset) (r : Outcome V) → bag_rules.outcome_of op m ≡ Some r → r.op ≡ op
-  bag_op (Count x) m r e = ap (λ (o : Outcome V). o.op) (sym (some_is _ r e))
-  bag_op (Add x) m r e = ap (λ (o : Outcome V). o.op) (sym (some_is _ r e))
-  bag_op (Take x) m r e = ap (λ (o : Outcome V). o.op) (sym (some_is _ r e))
-  bag_op _ m r e = absurd (no_some r e)
+  bag_op (Count x) m r e = ap (λ (o : Outcome V). o.op) (sym (same_Some _ r e))
+  bag_op (Add x) m r e = ap (λ (o : Outcome V). o.op) (sym (same_Some _ r e))
+  bag_op (Take x) m r e = ap (λ (o : Outcome V). o.op) (sym (same_Some _ r e))
+  bag_op _ m r e = absurd (none-some r e)
 
   either_op : (b : Bool) (o p : Outcome V) (op : Op V) → o.op ≡ op → p.op ≡ op → (cond b o p).op ≡ op
   either_op true o p op h g = h
@@ -125,17 +116,17 @@ module _ {V : Type 0} where
   take_op (Some x) m = refl
 
   pq_op : (op : Op V) (s : pq_rules.Shown) (r : Outcome V) → pq_rules.outcome_of op s ≡ Some r → r.op ≡ op
-  pq_op Least s r e = ap (λ (o : Outcome V). o.op) (sym (some_is _ r e))
-  pq_op (Insert x) s r e = ap (λ (o : Outcome V). o.op) (sym (some_is _ r e)) ∙ either_op _ _ _ (Insert x) refl refl
-  pq_op TakeLeast s r e = ap (λ (o : Outcome V). o.op) (sym (some_is _ r e)) ∙ take_op s.least s.elements
-  pq_op _ s r e = absurd (no_some r e)
+  pq_op Least s r e = ap (λ (o : Outcome V). o.op) (sym (same_Some _ r e))
+  pq_op (Insert x) s r e = ap (λ (o : Outcome V). o.op) (sym (same_Some _ r e)) ∙ either_op _ _ _ (Insert x) refl refl
+  pq_op TakeLeast s r e = ap (λ (o : Outcome V). o.op) (sym (same_Some _ r e)) ∙ take_op s.least s.elements
+  pq_op _ s r e = absurd (none-some r e)
 
   queue_op : (op : Op V) (s : queue_rules.Shown) (r : Outcome V) → queue_rules.outcome_of op s ≡ Some r → r.op ≡ op
-  queue_op (Enqueue x) s r e = ap (λ (o : Outcome V). o.op) (sym (some_is _ r e)) ∙ either_op _ _ _ (Enqueue x) refl refl
-  queue_op Dequeue s r e = ap (λ (o : Outcome V). o.op) (sym (some_is _ r e))
-  queue_op Peek s r e = ap (λ (o : Outcome V). o.op) (sym (some_is _ r e))
-  queue_op Len s r e = ap (λ (o : Outcome V). o.op) (sym (some_is _ r e))
-  queue_op _ s r e = absurd (no_some r e)
+  queue_op (Enqueue x) s r e = ap (λ (o : Outcome V). o.op) (sym (same_Some _ r e)) ∙ either_op _ _ _ (Enqueue x) refl refl
+  queue_op Dequeue s r e = ap (λ (o : Outcome V). o.op) (sym (same_Some _ r e))
+  queue_op Peek s r e = ap (λ (o : Outcome V). o.op) (sym (same_Some _ r e))
+  queue_op Len s r e = ap (λ (o : Outcome V). o.op) (sym (same_Some _ r e))
+  queue_op _ s r e = absurd (none-some r e)
 
   -- ---- and changes nothing where it writes nothing
   still : (op : Op V) (r : Outcome V) (writes : List ℕ) → r.op ≡ op → has_some writes ≡ changes r.op r.reply → writes ≡ []
@@ -152,14 +143,14 @@ module _ {V : Type 0} where
   still_in : (b : Option Block) (f : ℕ) (v : ℕ → Shown V) (op : Op V) (out : Option (Outcome V)) (reply : Reply V)
       → answer b f v op ≡ out → ((l : ℕ) → IsIn l (writes_in b f out) → ⊥) → option_map (λ r. r.reply) out ≡ Some reply
       → changes op reply ≡ false
-  still_in b f v op None reply is none told = absurd (no_some reply told)
-  still_in None f v op (Some r) reply is none told = absurd (no_some r is)
+  still_in b f v op None reply is none told = absurd (none-some reply told)
+  still_in None f v op (Some r) reply is none told = absurd (none-some r is)
   still_in (Some b) f v op (Some r) reply is none told =
-      ap (changes op) (sym (some_is r.reply reply told))
+      ap (changes op) (sym (same_Some r.reply reply told))
       ∙ still_by b.stripes b.kind (λ i. v (f + i)) _ op r is (none_shifted f _ none)
 
   -- ---- the calls of a transaction
-  held_still : (n : ℕ) (bs : List Block) (v : ℕ → Shown V) (done : List (Call V × Reply V)) (os : List (Answered V)) → Told done os
+  held_still : (n : ℕ) (bs : List Block) (v : ℕ → Shown V) (done : List (Call V × Reply V)) (os : List (CallWithOutcome V)) → Told done os
       → AreLegal (content n bs) v os → ((l : ℕ) → Untouched (content n bs) l os) → list_any is_change done ≡ false
   held_still n bs v [] [] told legal none = refl
   held_still n bs v [] (o ∷ os) told legal none = absurd told
@@ -167,7 +158,7 @@ module _ {V : Type 0} where
   held_still n bs v (c ∷ cs) (o ∷ os) told legal none =
       let here : is_change c ≡ false =
       ap (λ (call : Call V). changes call.op c.1) told.0
-      ∙ still_in _ _ v o.asked.op o.outcome c.1 (ap (λ (q : Answered V). q.outcome) legal.0) (λ l. (none l).0) told.1 in
+      ∙ still_in _ _ v o.asked.op o.outcome c.1 (ap (λ (q : CallWithOutcome V). q.outcome) legal.0) (λ l. (none l).0) told.1 in
       ap (λ b. b || list_any is_change cs) here
       ∙ held_still n bs ((content n bs).change o v) cs os told.2 legal.1 (λ l. (none l).1)
 
@@ -199,7 +190,7 @@ module _ {V : Type 0} where
       let linked : Linked w = run_linked h.events o
       (subst (λ (v : World V). Linked v) h.opens.world (opened_linked o.blocks h.opens.clock c.words c.held h.stripes)) in
       let stage : x.stage ≡ Open = stands_at x.calls calls x.stage stands in
-      let made : x.calls ≡ calls = same_calls x.calls calls (sym (ap (phase_at x.calls) stage) ∙ stands) in
+      let made : x.calls ≡ calls = same_calls x.calls calls (sym (ap (known_stage_at x.calls) stage) ∙ stands) in
       subst (λ (cs : List (Call V × Reply V)). is_writer cs ≡ false) (ap (λ y. y.calls) h.alike.seat ∙ made)
       (none_changes w a linked (ap (λ y. y.stage) h.alike.seat ∙ stage)
       (ap (λ y. y.writes) h.alike.boosted.actor ∙ none_written (actor_of (acts o s) a).writes none))

@@ -12,13 +12,13 @@ use Rattle.tx_machine.specs.World.{blank}
 use Rattle.step_core.specs.Blank.{IsBlank}
 use Rattle.replay_log.specs.Seats.{World, Seat, no_one}
 use Rattle.replay_log.specs.Worlds.{written_homes}
-use Rattle.tx_actor.specs.Having.{HasCopies}
-use Rattle.tx_actor.specs.Keeping.{IsRunning}
+use Rattle.tx_actor.specs.CopiesByStage.{HasCopies}
+use Rattle.tx_actor.specs.ActorBounds.{IsRunning}
 use Rattle.tx_actor.specs.Running.{KnowsHomes, Runs, seat_at, seat_of}
 use Rattle.tx_actor.specs.declared.actor.Stage as own
 use Rattle.tx_actor.specs.declared.actor.Stage.TheVariants as stage
-use Rattle.tx_actor.specs.declared.actor.Told.{Told}
-use Rattle.tx_actor.specs.declared.actor.Told.TheVariants as told
+use Rattle.tx_actor.specs.declared.actor.ActorNotice.{ActorNotice}
+use Rattle.tx_actor.specs.declared.actor.ActorNotice.TheVariants as told
 use Rattle.tx_actor.specs.declared.actor.TxActor.{TxActor}
 use Rattle.tx_table.specs.declared.seat.Seat as table
 use Rattle.tx_table.specs.declared.table.TxTable.{TxTable}
@@ -26,14 +26,14 @@ use Rattle.tx_table.specs.Seated.{IsSameSeat, Owns, acts, list_of, opening_of, o
 use Rattle.tx_table.specs.Seated as seated
 use Rattle.tx_table.specs.Shown.{IsReached, looking}
 use Rattle.tx_table.specs.Turns.{asked_all, lone}
-use Rattle.actor_laws.specs.Phases.{Rests, phase}
+use Rattle.actor_laws.specs.KnownStages.{Rests, known_stage}
 use Rattle.tx_engine.proofs.AskLemmas.{asked_still}
 use Rattle.tx_engine.proofs.KindLemmas.{call_without_transaction, commit_without_transaction}
 use Rattle.tx_engine.proofs.RequestLemmas.{is_idle, is_open, keeps_self}
-use Rattle.tx_turns.proofs.RequestedLemmas.{same_begins, same_requests}
+use Rattle.tx_turns.proofs.RequestHistoryLemmas.{same_begins, same_requests}
 use Rattle.tx_turns.specs.Begins.{begins_of}
 use Rattle.tx_turns.specs.Driven.{HasTold, IsNumberOf, seat_in, standing}
-use Rattle.tx_turns.specs.Requested.{requests_of}
+use Rattle.tx_turns.specs.RequestHistory.{requests_of}
 use Rattle.tx_engine.specs.Ready.{CanDrive, HasBegunSince, HasCalled, HasFinished, HasOpened, IsNew, IsReady}
 use Rattle.tx_engine.specs.Requests.{CallLeaves, CallsTo, CommitsTo, HasAskedFor, HasCommitted, IsBegun, IsNotBegun, IsOpen, OnlyKnows}
 use Rattle.tx_engine.specs.declared.seats.TxSeat.{TxSeat}
@@ -76,7 +76,7 @@ module _ {V : Type 0} where
           running = running;
         };
         own = free_own t s.seat s.actor (subst IsFree (sym at) tt) (ap (λ (st : own.Stage V). gates_at st) at) h.outs;
-        between = inl (ap (λ (w : World V). phase (w.seats a)) (sym e));
+        between = inl (ap (λ (w : World V). known_stage (w.seats a)) (sym e));
       }
 
   -- ---- between its requests
@@ -198,9 +198,9 @@ module _ {V : Type 0} where
     noted_acts i = asked_all (place i).id (lone (place i).id o (place i).me.0.turns) (list_of (asked i))
 
     pub noted_stands : standing o u ≡ standing o s
-    noted_stands i = phase ((noted_acts i).seats (place i).id)
+    noted_stands i = known_stage ((noted_acts i).seats (place i).id)
 
-    noted_told : (before : table.Seat V) (n : Told V) → HasTold o before s n → HasTold o before u n
+    noted_told : (before : table.Seat V) (n : ActorNotice V) → HasTold o before s n → HasTold o before u n
     noted_told before n h = (
       h.0,
       record {
@@ -270,7 +270,7 @@ module _ {V : Type 0} where
 
   pub stays_standing : (o : World V) (s u : table.Seat V) → seated.actor u ≡ seated.actor s → acts o u ≡ acts o s
       → standing o u ≡ standing o s
-  stays_standing o s u same own i = phase ((own i).seats (same i))
+  stays_standing o s u same own i = known_stage ((own i).seats (same i))
 
   -- a seat m that has looked at the clock, and u that is m but for its last number, know no more
   pub only_knows : (o : World V) (s m u : table.Seat V) (k : ℕ) → m.place.me ≡ (looking (view s) k, out s) → IsSameSeat s m

@@ -35,18 +35,18 @@ use Rattle.replay_log.proofs.RecordLemmas.{IsCommitting}
 use Rattle.replay_log.proofs.SeatLemmas.{Linked}
 use Rattle.actor_laws.proofs.Alike.{alike_same}
 use Rattle.tx_actor.specs.Running.{notice_of}
-use Rattle.tx_actor.specs.declared.actor.Told.{Told}
-use Rattle.tx_actor.specs.declared.actor.Told.TheVariants as said
+use Rattle.tx_actor.specs.declared.actor.ActorNotice.{ActorNotice}
+use Rattle.tx_actor.specs.declared.actor.ActorNotice.TheVariants as said
 use Rattle.actor_laws.proofs.CourseLemmas.{ends_at}
-use Rattle.actor_laws.proofs.PhaseLemmas.{steps_move}
-use Rattle.actor_laws.specs.Phases.{Ends, Phase, StepMoves, phase}
+use Rattle.actor_laws.proofs.KnownStageLemmas.{steps_move}
+use Rattle.actor_laws.specs.KnownStages.{Ends, KnownStage, StepMoves, known_stage}
 use Rattle.tx_table.specs.Seated as seats
 use Rattle.tx_table.specs.Seated.{view}
 use Rattle.tx_table.specs.Turns.{asked_all, found_at, lone, own, spot, stage_of, took}
 use Rattle.tx_table.specs.declared.view.Turn.{Turn}
 use Rattle.tx_table.specs.declared.seat.Seat as table
 use Rattle.tx_table.proofs.Turned.{found_alike, lone_snoc}
-use Rattle.tx_turns.proofs.RequestedLemmas.{first_begins}
+use Rattle.tx_turns.proofs.RequestHistoryLemmas.{first_begins}
 use Rattle.tx_turns.specs.Begins.{begins_asked, begins_taken}
 use Rattle.tx_turns.specs.Driven.{HasTold}
 use Rattle.tx_engine.proofs.HeldLemmas.{keeps_locks, leaves_bare}
@@ -263,7 +263,7 @@ module _ {V : Type 0} where
   leaving_at v u a (Copying asked) cause up h = absurd (subst IsGivenUpFor h.0 up)
   leaving_at v u a st cause up h = absurd h
 
-  aborted_ends : (p : Phase V) (commits : Bool) (a : ℕ) (later : Phase V) → StepMoves p commits (notice.Answered a answer.Aborted) later
+  aborted_ends : (p : KnownStage V) (commits : Bool) (a : ℕ) (later : KnownStage V) → StepMoves p commits (notice.Answered a answer.Aborted) later
       → p ≡ Ends
   aborted_ends Ends commits a later h = refl
   aborted_ends p true a later h = absurd h
@@ -293,12 +293,12 @@ module _ {V : Type 0} where
   aborted_at : (v : World V) (a : ℕ) → (happens v (Step a)).1 ≡ notice.Answered a answer.Aborted → stage_of v a ≡ Leaving
   aborted_at v a e =
       let x = v.seats a in
-      let later = phase ((happens v (Step a)).0.seats a) in
+      let later = known_stage ((happens v (Step a)).0.seats a) in
       let commits = is_some (committed_by x x.stage) in
-      let moved = subst (λ (n : Notice V). StepMoves (phase x) commits n later) e (steps_move v a) in
-      aborted_leaving v a x x.stage (ends_at x (aborted_ends (phase x) commits a later moved)) e
+      let moved = subst (λ (n : Notice V). StepMoves (known_stage x) commits n later) e (steps_move v a) in
+      aborted_leaving v a x x.stage (ends_at x (aborted_ends (known_stage x) commits a later moved)) e
 
-  told_at : (v : World V) (a : ℕ) (n : Told V) → Linked v → IsEndTold n → (happens v (Step a)).1 ≡ notice_of a n → stage_of v a ≡ Leaving
+  told_at : (v : World V) (a : ℕ) (n : ActorNotice V) → Linked v → IsEndTold n → (happens v (Step a)).1 ≡ notice_of a n → stage_of v a ≡ Leaving
   told_at v a (said.Refused cause) linked up is =
       let u = (happens v (Step a)).0 in
       leaving_at v u a (stage_of v a) cause up
@@ -306,7 +306,7 @@ module _ {V : Type 0} where
   told_at v a (said.Answered answer.Aborted) linked up is = aborted_at v a is
   told_at v a n linked up is = absurd up
 
-  pub gave_up : (o : World V) (s u : table.Seat V) (n : Told V) → Linked o → IsEndTold n → HasTold o s u n → GaveUp o s u n
+  pub gave_up : (o : World V) (s u : table.Seat V) (n : ActorNotice V) → Linked o → IsEndTold n → HasTold o s u n → GaveUp o s u n
   gave_up o s u n linked up (v, turn, told_here) =
       let a = seats.actor s in
       let ts = (view s).turns in

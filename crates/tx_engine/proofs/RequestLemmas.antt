@@ -30,52 +30,52 @@ use Rattle.tx_actor.proofs.SeatLemmas.{loading_as}
 use Rattle.tx_actor.specs.Running.{notice_of, stage_of}
 use Rattle.tx_actor.specs.declared.actor.Stage as own
 use Rattle.tx_actor.specs.declared.actor.Stage.TheVariants as stage
-use Rattle.tx_actor.specs.declared.actor.Told.{Told}
-use Rattle.tx_actor.specs.declared.actor.Told.TheVariants as told
+use Rattle.tx_actor.specs.declared.actor.ActorNotice.{ActorNotice}
+use Rattle.tx_actor.specs.declared.actor.ActorNotice.TheVariants as told
 use Rattle.tx_actor.specs.declared.actor.TxActor.{TxActor}
 use Rattle.tx_table.specs.declared.seat.Seat as table
 use Rattle.tx_table.specs.declared.table.TxTable.{TxTable}
 use Rattle.tx_table.specs.Seated.{acts, opening_of, out, view}
 use Rattle.tx_table.specs.Seated as seated
 use Rattle.tx_table.specs.declared.view.Turn.{Turn}
-use Rattle.actor_laws.proofs.PhaseLemmas.{asks_move}
+use Rattle.actor_laws.proofs.KnownStageLemmas.{asks_move}
 use Rattle.actor_laws.specs.Courses.{EndsFrom, IsUnderWay, IsUnderWayFrom}
-use Rattle.actor_laws.specs.Phases.{AskMoves, Phase, Rests, Begins, Stands, Calls, Ends, phase, phase_at}
+use Rattle.actor_laws.specs.KnownStages.{AskMoves, KnownStage, Rests, Begins, Stands, Calls, Ends, known_stage, known_stage_at}
 use Rattle.tx_turns.specs.Bases.{gates_at}
 use Rattle.tx_turns.specs.Own.{HasOwn}
 use Rattle.tx_turns.proofs.DeclaredLemmas.{reader_asks}
-use Rattle.tx_turns.proofs.RequestedLemmas.{more_begins, taken_requests}
+use Rattle.tx_turns.proofs.RequestHistoryLemmas.{more_begins, taken_requests}
 use Rattle.tx_turns.proofs.EndedLemmas.{IsGoing}
 use Rattle.tx_turns.proofs.GivenUpLemmas.{none_ends}
-use Rattle.tx_turns.proofs.KeptLemmas.{Keeps, Same, asks_keep}
+use Rattle.tx_turns.proofs.SnapshotLemmas.{Keeps, Same, asks_keep}
 use Rattle.tx_turns.proofs.RestLemmas.{IsFree, bare_out, free_own, taken_bare}
 use Rattle.tx_turns.proofs.SinceLemmas as since
 use Rattle.tx_turns.specs.Begins.{begins_in, begins_of}
 use Rattle.tx_turns.specs.Driven.{Driven, HasFound, HasTold, IsReason, IsTrue, as_receipts, is_declared, seat_in, standing}
-use Rattle.tx_turns.specs.Requested.{requests_of}
+use Rattle.tx_turns.specs.RequestHistory.{requests_of}
 use Rattle.tx_engine.specs.Requests.{BeginsTo, HasAborted, IsBeginTold, IsBegun, IsEnded, IsFoundAndTold, IsNotBegun, KeepsReceipts}
 use Rattle.tx_engine.specs.Requests.{IsLastAborted, begin_of}
 use Rattle.tx_turns.proofs.OwnLemmas.{own_ok}
-use Rattle.tx_turns.proofs.AskedLemmas.{acts_taken}
+use Rattle.tx_turns.proofs.LoneRequestLemmas.{acts_taken}
 use Rattle.tx_turns.proofs.TurnLemmas.{own_stage}
-use Rattle.tx_turns.specs.Asked.{HasAsked}
+use Rattle.tx_turns.specs.RequestStep.{HasAsked}
 use Rattle.tx_turns.specs.Ties.{Ties}
 
 module _ {V : Type 0} where
-  stands_open : (calls cs : List (Call V × Reply V)) (t : own.Stage V) → phase_at calls (stage_of t) ≡ Stands cs → t ≡ stage.Open
+  stands_open : (calls cs : List (Call V × Reply V)) (t : own.Stage V) → known_stage_at calls (stage_of t) ≡ Stands cs → t ≡ stage.Open
   stands_open calls cs stage.Open h = refl
   stands_open calls cs t h = absurd (let z : ⊥ = cc in z)
 
-  rests_idle : (calls : List (Call V × Reply V)) (t : own.Stage V) → phase_at calls (stage_of t) ≡ Rests → t ≡ stage.Idle
+  rests_idle : (calls : List (Call V × Reply V)) (t : own.Stage V) → known_stage_at calls (stage_of t) ≡ Rests → t ≡ stage.Idle
   rests_idle calls stage.Idle h = refl
   rests_idle calls t h = absurd (let z : ⊥ = cc in z)
 
   -- no location of a call is read
-  is_call : Phase V → Bool
+  is_call : KnownStage V → Bool
   is_call (Calls calls call) = true
   is_call p = false
 
-  no_load : (calls : List (Call V × Reply V)) (st : Stage V) → is_call (phase_at calls st) ≡ false → is_loading st ≡ false
+  no_load : (calls : List (Call V × Reply V)) (st : Stage V) → is_call (known_stage_at calls st) ≡ false → is_loading st ≡ false
   unfolding is_call
   no_load calls (worlds.Loading o left) h = absurd (true≢false h)
   no_load calls st h = refl
@@ -84,31 +84,31 @@ module _ {V : Type 0} where
     abbrev x : Seat V
     x = seat_in (opening_of t) s
 
-    at : (p : Phase V) → is_call p ≡ false → phase x ≡ p → phase_at x.calls (stage_of r.stage) ≡ p
+    at : (p : KnownStage V) → is_call p ≡ false → known_stage x ≡ p → known_stage_at x.calls (stage_of r.stage) ≡ p
     at p calm on =
         let quiet : is_loading (stage_of r.stage) ≡ false =
         sym (loading_as (acts (opening_of t) s) (seated.actor s) r ties.runs) ∙ no_load x.calls x.stage (ap is_call on ∙ calm) in
-        ap (phase_at x.calls) (sym (own_stage t s r quiet ties)) ∙ on
+        ap (known_stage_at x.calls) (sym (own_stage t s r quiet ties)) ∙ on
 
-    pub is_open : (calls : List (Call V × Reply V)) → phase x ≡ Stands calls → r.stage ≡ stage.Open
+    pub is_open : (calls : List (Call V × Reply V)) → known_stage x ≡ Stands calls → r.stage ≡ stage.Open
     unfolding is_call
     is_open calls on = stands_open x.calls calls r.stage (at (Stands calls) refl on)
 
-    pub is_idle : phase x ≡ Rests → r.stage ≡ stage.Idle
+    pub is_idle : known_stage x ≡ Rests → r.stage ≡ stage.Idle
     unfolding is_call
     is_idle on = rests_idle x.calls r.stage (at Rests refl on)
 
-    pub begins : r.stage ≡ stage.Beginning → phase x ≡ Begins
+    pub begins : r.stage ≡ stage.Beginning → known_stage x ≡ Begins
     begins on =
         let quiet : is_loading (stage_of r.stage) ≡ false = ap (λ (k : own.Stage V). is_loading (stage_of k)) on in
-        ap (phase_at x.calls) (own_stage t s r quiet ties ∙ ap (λ (k : own.Stage V). stage_of k) on)
+        ap (known_stage_at x.calls) (own_stage t s r quiet ties ∙ ap (λ (k : own.Stage V). stage_of k) on)
 
     -- it is being aborted: nothing is asked of what it has of collections
-    pub ends_free : phase x ≡ Ends → IsFree r.stage
+    pub ends_free : known_stage x ≡ Ends → IsFree r.stage
     unfolding is_call
     ends_free on = free_at x.calls r.stage (at Ends refl on)
       where
-        free_at : (calls : List (Call V × Reply V)) (t : own.Stage V) → phase_at calls (stage_of t) ≡ Ends → IsFree t
+        free_at : (calls : List (Call V × Reply V)) (t : own.Stage V) → known_stage_at calls (stage_of t) ≡ Ends → IsFree t
         free_at calls (stage.Returning homes) h = tt
         free_at calls (stage.ReturningOne k) h = tt
         free_at calls stage.Cancelling h = tt
@@ -116,8 +116,8 @@ module _ {V : Type 0} where
         free_at calls t h = absurd (let z : ⊥ = cc in z)
 
   -- the request stands at its beginning
-  pub under_begins : (x : Seat V) → phase x ≡ Begins → IsUnderWay x x None
-  under_begins x on = subst (λ (p : Phase V). IsUnderWayFrom x p x None) (sym on) (on, refl)
+  pub under_begins : (x : Seat V) → known_stage x ≡ Begins → IsUnderWay x x None
+  under_begins x on = subst (λ (p : KnownStage V). IsUnderWayFrom x p x None) (sym on) (on, refl)
 
   -- ---- a begin
   -- it asks whether it is to be a declared reader
@@ -148,7 +148,7 @@ module _ {V : Type 0} where
     at_rest : (w.seats a).stage ≡ worlds.Idle
     at_rest = idle_at (w.seats a).calls (w.seats a).stage rests
       where
-        idle_at : (calls : List (Call V × Reply V)) (st : Stage V) → phase_at calls st ≡ Rests → st ≡ worlds.Idle
+        idle_at : (calls : List (Call V × Reply V)) (st : Stage V) → known_stage_at calls st ≡ Rests → st ≡ worlds.Idle
         idle_at calls worlds.Idle h = refl
         idle_at calls st h = absurd (let z : ⊥ = cc in z)
 
@@ -165,12 +165,12 @@ module _ {V : Type 0} where
     asked_begin_read has =
         (λ i. (actor_of (acts_taken (opening_of t) s m (Ask 0 BeginRead) has i) (has.0.1 i)).declared) ∙ is_one w a at_rest idles
 
-  none_begins : (o : World V) (s u : table.Seat V) (n : Told V) (d : Option (Record V)) → standing o s ≡ Begins → Driven o s u n d
+  none_begins : (o : World V) (s u : table.Seat V) (n : ActorNotice V) (d : Option (Record V)) → standing o s ≡ Begins → Driven o s u n d
       → n ≢ told.Quiet → (d ≡ None) × BeginsTo (is_declared o s) o s u n
   none_begins o s u told.Quiet d on D ne = absurd (ne refl)
   none_begins o s u (told.Answered (answer.Begun rv)) d on D ne =
       let a = seated.actor s in
-      let h = subst (λ (p : Phase V). EndsFrom a (seat_in o s) p (Answered a (answer.Begun rv)) (seat_in o u) d) on D.comes in (
+      let h = subst (λ (p : KnownStage V). EndsFrom a (seat_in o s) p (Answered a (answer.Begun rv)) (seat_in o u) d) on D.comes in (
         h.2,
         record {
           stands = h.0;
@@ -183,14 +183,14 @@ module _ {V : Type 0} where
       )
     where
       clock_told : rv ≡ (view u).clock
-      clock_told = subst (λ (p : Phase V). IsTrue o s u p (told.Answered (answer.Begun rv))) on D.is_true
+      clock_told = subst (λ (p : KnownStage V). IsTrue o s u p (told.Answered (answer.Begun rv))) on D.is_true
   none_begins o s u (told.Answered q) d on D ne =
       let a = seated.actor s in
-      absurd (subst (λ (p : Phase V). EndsFrom a (seat_in o s) p (Answered a q) (seat_in o u) d) on D.comes)
+      absurd (subst (λ (p : KnownStage V). EndsFrom a (seat_in o s) p (Answered a q) (seat_in o u) d) on D.comes)
   none_begins o s u (told.Refused cause) d on D ne =
       let a = seated.actor s in
-      let h = subst (λ (p : Phase V). EndsFrom a (seat_in o s) p (Refused a cause) (seat_in o u) d) on D.comes in
-      (h.1, (h.0, subst (λ (p : Phase V). IsTrue o s u p (told.Refused cause)) on D.is_true))
+      let h = subst (λ (p : KnownStage V). EndsFrom a (seat_in o s) p (Refused a cause) (seat_in o u) d) on D.comes in
+      (h.1, (h.0, subst (λ (p : KnownStage V). IsTrue o s u p (told.Refused cause)) on D.is_true))
 
   -- what was asked then, and how many begins
   pub asks_one : (s m : table.Seat V) (q : Request V) → HasAsked s q m → requests_of m ≡ requests_of s ++ q ∷ []
@@ -234,7 +234,7 @@ module _ {V : Type 0} where
   keeps_self s = asked_keeps s s ((refl, refl, refl), refl)
 
   -- and so do turns without a receipt
-  pub turns_keep : (o : World V) (s u : table.Seat V) (n : Told V) (d : Option (Record V)) → d ≡ None → out u ≡ out s → Driven o s u n d
+  pub turns_keep : (o : World V) (s u : table.Seat V) (n : ActorNotice V) (d : Option (Record V)) → d ≡ None → out u ≡ out s → Driven o s u n d
       → KeepsReceipts s u
   turns_keep o s u n d none outs D = record {
     seat = D.seat;
@@ -252,11 +252,11 @@ module _ {V : Type 0} where
   pub found_back : (o : World V) (s m u : table.Seat V) (cause : Refusal) → KeepsReceipts s m → HasFound o m u cause → HasFound o s u cause
   found_back o s m u cause kept = since.found_back o s m kept.seat.1 kept.more kept.turns u cause
 
-  pub told_back : (o : World V) (s m u : table.Seat V) (n : Told V) → KeepsReceipts s m → HasTold o m u n → HasTold o s u n
+  pub told_back : (o : World V) (s m u : table.Seat V) (n : ActorNotice V) → KeepsReceipts s m → HasTold o m u n → HasTold o s u n
   told_back o s m u n kept = since.told_back o s m kept.seat.1 kept.more kept.turns u n
 
   -- and what was answered by then is answered still, whatever turns come later
-  pub told_later : (o : World V) (s m u : table.Seat V) (n : Told V) (more : List (Turn V)) → (view u).turns ≡ (view m).turns ++ more
+  pub told_later : (o : World V) (s m u : table.Seat V) (n : ActorNotice V) (more : List (Turn V)) → (view u).turns ≡ (view m).turns ++ more
       → HasTold o s m n → HasTold o s u n
   told_later o s m u n more turns h = (
     h.0,
@@ -273,7 +273,7 @@ module _ {V : Type 0} where
     h.2,
   )
 
-  pub told_on : (o : World V) (s m u : table.Seat V) (n : Told V) → KeepsReceipts m u → HasTold o s m n → HasTold o s u n
+  pub told_on : (o : World V) (s m u : table.Seat V) (n : ActorNotice V) → KeepsReceipts m u → HasTold o s m n → HasTold o s u n
   told_on o s m u n kept = told_later o s m u n kept.more kept.turns
 
   pub found_told : (o : World V) (s u : table.Seat V) (cause : Refusal) → IsReason o s u cause → HasTold o s u (told.Refused cause)
@@ -306,13 +306,13 @@ module _ {V : Type 0} where
   }
 
   -- what its turn answers is the one or the other
-  pub begin_told : (declared : Bool) (o : World V) (s u : table.Seat V) (n : Told V) → BeginsTo declared o s u n → IsBeginTold n
+  pub begin_told : (declared : Bool) (o : World V) (s u : table.Seat V) (n : ActorNotice V) → BeginsTo declared o s u n → IsBeginTold n
   begin_told declared o s u told.Quiet h = absurd h
   begin_told declared o s u (told.Answered (answer.Begun rv)) h = tt
   begin_told declared o s u (told.Answered q) h = absurd h
   begin_told declared o s u (told.Refused cause) h = tt
 
-  pub begun_by : (declared : Bool) (o : World V) (s u : table.Seat V) (n : Told V) (r : Result ℕ Refusal) → n ≡ begin_of r
+  pub begun_by : (declared : Bool) (o : World V) (s u : table.Seat V) (n : ActorNotice V) (r : Result ℕ Refusal) → n ≡ begin_of r
       → BeginsTo declared o s u n → IfOk r (IsBegun declared o s u) × IfErr r (IsNotBegun o s u)
   begun_by declared o s u n (Ok rv) e h = (subst (BeginsTo declared o s u) e h, tt)
   begun_by declared o s u n (Err cause) e h = (tt, subst (BeginsTo declared o s u) e h)
@@ -327,19 +327,19 @@ module _ {V : Type 0} where
       → IfOk r (IsBegun asked o s u)
   begun_as asked is o s u r e h = subst (λ (b : Bool). IfOk r (IsBegun b o s u)) e h
 
-  pub begins_to : (o : World V) (s u : table.Seat V) (n : Told V) (d : Option (Record V)) → standing o s ≡ Begins → out u ≡ out s
+  pub begins_to : (o : World V) (s u : table.Seat V) (n : ActorNotice V) (d : Option (Record V)) → standing o s ≡ Begins → out u ≡ out s
       → Driven o s u n d → n ≢ told.Quiet → KeepsReceipts s u × BeginsTo (is_declared o s) o s u n
   begins_to o s u n d on outs D ne =
       let h = none_begins o s u n d on D ne in (turns_keep o s u n d h.0 outs D, h.1)
 
   -- ---- an abort
-  pub ends_to : (o : World V) (s u : table.Seat V) (n : Told V) (d : Option (Record V)) → standing o s ≡ Ends → out u ≡ out s
+  pub ends_to : (o : World V) (s u : table.Seat V) (n : ActorNotice V) (d : Option (Record V)) → standing o s ≡ Ends → out u ≡ out s
       → Driven o s u n d → n ≢ told.Quiet → KeepsReceipts s u × (standing o u ≡ Rests)
   ends_to o s u n d on outs D ne =
       let h = none_ends o s u n d on D ne in (turns_keep o s u n d h.0 outs D, h.1)
 
   -- an open transaction that is to abort is being aborted
-  quiet_abort : (w : World V) (a : ℕ) (x : Seat V) (st : Stage V) (calls : List (Call V × Reply V)) → phase_at x.calls st ≡ Stands calls
+  quiet_abort : (w : World V) (a : ℕ) (x : Seat V) (st : Stage V) (calls : List (Call V × Reply V)) → known_stage_at x.calls st ≡ Stands calls
       → (ask_at w a x st Abort).1 ≡ Quiet
   quiet_abort w a x worlds.Open calls h = refl
   quiet_abort w a x st calls h = absurd (let z : ⊥ = cc in z)
@@ -352,12 +352,12 @@ module _ {V : Type 0} where
       let own_is = acts_taken o s m (Ask 0 Abort) has in
       let after = happens w (Ask a Abort) in
       let said : after.1 ≡ Quiet = quiet_abort w a (w.seats a) (w.seats a).stage calls on in
-      let moved : AskMoves (Stands calls) Abort Quiet (phase (after.0.seats a)) =
-      subst (λ (k : Phase V × Notice V). AskMoves k.0 Abort k.1 (phase (after.0.seats a))) (λ i. (on i, said i)) (asks_move w a Abort) in
-      (λ i. phase ((own_is i).seats (has.0.1 i))) ∙ moved
+      let moved : AskMoves (Stands calls) Abort Quiet (known_stage (after.0.seats a)) =
+      subst (λ (k : KnownStage V × Notice V). AskMoves k.0 Abort k.1 (known_stage (after.0.seats a))) (λ i. (on i, said i)) (asks_move w a Abort) in
+      (λ i. known_stage ((own_is i).seats (has.0.1 i))) ∙ moved
 
   -- of which its actor noted no cause
-  none_noted : (w : World V) (a : ℕ) (x : Seat V) (st : Stage V) (calls : List (Call V × Reply V)) → phase_at x.calls st ≡ Stands calls
+  none_noted : (w : World V) (a : ℕ) (x : Seat V) (st : Stage V) (calls : List (Call V × Reply V)) → known_stage_at x.calls st ≡ Stands calls
       → ((ask_at w a x st Abort).0.seats a).cause ≡ None
   none_noted w a x worlds.Open calls h =
       let t = acted w (asks a word.AskCancel ∷ asks a word.AskAbort ∷ []) in
@@ -365,14 +365,14 @@ module _ {V : Type 0} where
       (put-same t.seats a (at_stage (record x { cause = None }) (cond (is_leaving (actor_of t a).place) Leaving Cancelling)))
   none_noted w a x st calls h = absurd (let z : ⊥ = cc in z)
 
-  is_aborted : (a : ℕ) (n : Told V) → notice_of a n ≡ Answered a answer.Aborted → n ≡ told.Answered answer.Aborted
+  is_aborted : (a : ℕ) (n : ActorNotice V) → notice_of a n ≡ Answered a answer.Aborted → n ≡ told.Answered answer.Aborted
   is_aborted a told.Quiet e = absurd (let z : ⊥ = cc in z)
   is_aborted a (told.Answered q) e = (let f : q ≡ answer.Aborted = cc in ap told.Answered f)
   is_aborted a (told.Refused cause) e = absurd (let z : ⊥ = cc in z)
 
   -- and so it is answered
   pub abort_told : (o : World V) (s m u : table.Seat V) (calls : List (Call V × Reply V)) → standing o s ≡ Stands calls → HasAsked s Abort m
-      → (n : Told V) (d : Option (Record V)) → Driven o m u n d → n ≢ told.Quiet → HasAborted o s u
+      → (n : ActorNotice V) (d : Option (Record V)) → Driven o m u n d → n ≢ told.Quiet → HasAborted o s u
   abort_told o s m u calls on has n d D ne =
       let a = seated.actor s in
       let w = acts o s in
@@ -382,7 +382,7 @@ module _ {V : Type 0} where
       let why_is = (none_ends o m u n d (abort_ends o s m calls on has) D ne).2 in
       let said : n ≡ told.Answered answer.Aborted = is_aborted (seated.actor m) n (why_is ∙ ap (why (seated.actor m)) none) in
       told_back o s m u (told.Answered answer.Aborted) (asked_keeps s m (has.0, has.1))
-      (subst (λ (k : Told V). HasTold o m u k) said (D.tells ne))
+      (subst (λ (k : ActorNotice V). HasTold o m u k) said (D.tells ne))
 
   -- ---- what the world with its actor alone notes of it
   pub asked_aborted : (o : World V) (s m : table.Seat V) (q : Request V) → HasAsked s q m → (acts o m).aborted ≡ (acts o s).aborted
@@ -406,13 +406,13 @@ module _ {V : Type 0} where
 
       kept : Keeps (seat_in o s) after → Same (seat_in o s) (seat_in o m)
       kept (inl e) = (ap (λ (x : Seat V). x.rv) seat_is ∙ e.0, ap (λ (x : Seat V). x.calls) seat_is ∙ e.1)
-      kept (inr (inl e)) = absurd (subst IsGoing (ap phase seat_is ∙ ap (phase_at after.calls) e.1) going)
-      kept (inr (inr e)) = absurd (subst IsGoing (ap phase seat_is ∙ e) going)
+      kept (inr (inl e)) = absurd (subst IsGoing (ap known_stage seat_is ∙ ap (known_stage_at after.calls) e.1) going)
+      kept (inr (inr e)) = absurd (subst IsGoing (ap known_stage seat_is ∙ e) going)
 
   -- a request of an open transaction that is under way, and ends so
   pub noted_for : (o : World V) (s m u : table.Seat V) (q : Request V) → (seat_in o s).stage ≡ worlds.Open → HasAsked s q m
       → IsGoing (standing o m)
-      → (n : Told V) (d : Option (Record V)) (cause : Option Refusal) → Driven o m u n d
+      → (n : ActorNotice V) (d : Option (Record V)) (cause : Option Refusal) → Driven o m u n d
       → notice_of (seated.actor m) n ≡ why (seated.actor m) cause
       → standing o u ≡ Rests → IsLastAborted o s u cause
   noted_for o s m u q at has going n d cause D is rests =
@@ -421,13 +421,13 @@ module _ {V : Type 0} where
       ∙ (λ i. asked_aborted o s m q has i
       ++ record { actor = has.0.1 i; rv = same.0 i; calls = same.1 i; cause = cause } ∷ [])
 
-  is_at_open : (cs calls : List (Call V × Reply V)) (st : Stage V) → phase_at cs st ≡ Stands calls → st ≡ worlds.Open
+  is_at_open : (cs calls : List (Call V × Reply V)) (st : Stage V) → known_stage_at cs st ≡ Stands calls → st ≡ worlds.Open
   is_at_open cs calls worlds.Open h = refl
   is_at_open cs calls st h = absurd (let z : ⊥ = cc in z)
 
   pub abort_noted : (o : World V) (s m u : table.Seat V) (calls : List (Call V × Reply V)) → standing o s ≡ Stands calls
       → HasAsked s Abort m
-      → (n : Told V) (d : Option (Record V)) → Driven o m u n d → n ≢ told.Quiet → IsLastAborted o s u None
+      → (n : ActorNotice V) (d : Option (Record V)) → Driven o m u n d → n ≢ told.Quiet → IsLastAborted o s u None
   abort_noted o s m u calls on has n d D ne =
       let a = seated.actor s in
       let w = acts o s in

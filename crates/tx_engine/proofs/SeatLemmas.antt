@@ -26,7 +26,7 @@ use Rattle.replay_log.specs.Worlds.{Copying, Loading, Gating, Ready, Returning, 
 use Rattle.replay_log.specs.Worlds.{gives_up, happens, is_leaving, run, starve_at}
 use Rattle.replay_log.proofs.EventLemmas.{opened_linked, run_linked}
 use Rattle.replay_log.proofs.SeatLemmas.{Copy, Linked, StageOk, gates_of}
-use Rattle.actor_laws.specs.Phases.{Rests, phase_at}
+use Rattle.actor_laws.specs.KnownStages.{Rests, known_stage_at}
 use Rattle.tx_table.specs.Seated as seated
 use Rattle.tx_table.specs.Seated.{acts, kept, list_of}
 use Rattle.tx_table.specs.Shown.{IsReached, Opens}
@@ -128,7 +128,7 @@ module _ {V : Type 0} where
   is_calm o s (inl rests) = subst IsCalm (sym rests) tt
   is_calm o s (inr stands) = subst IsCalm (sym stands.1) tt
 
-  calm_bare : (calls : List (Call V × Reply V)) (st : Stage V) → IsCalm (phase_at calls st) → IsBare st
+  calm_bare : (calls : List (Call V × Reply V)) (st : Stage V) → IsCalm (known_stage_at calls st) → IsBare st
   calm_bare calls Idle calm = tt
   calm_bare calls Open calm = tt
   calm_bare calls st calm = absurd calm

@@ -21,7 +21,7 @@ use Rattle.tx_table.specs.declared.table.TxTable.{TxTable}
 use Rattle.tx_table.specs.Seated.{Owns, acts, kept, list_of, opening_of, out, view}
 use Rattle.tx_table.specs.Seated as seated
 use Rattle.tx_table.specs.Turns.{asked_all}
-use Rattle.actor_laws.specs.Phases.{Rests, phase_at}
+use Rattle.actor_laws.specs.KnownStages.{Rests, known_stage_at}
 use Rattle.tx_turns.proofs.OwnLemmas.{own_gates}
 use Rattle.tx_turns.specs.Ties.{Ties}
 use Rattle.tx_engine.proofs.CallLemmas.{stands_at}
@@ -81,7 +81,7 @@ module _ {V : Type 0} where
   IsCalm worlds.Open = Unit {0}
   IsCalm st = ⊥
 
-  calm_at : (calls : List (Call V × Reply V)) (st : Stage V) → phase_at calls st ≡ Rests → IsCalm st
+  calm_at : (calls : List (Call V × Reply V)) (st : Stage V) → known_stage_at calls st ≡ Rests → IsCalm st
   calm_at calls worlds.Idle h = tt
   calm_at calls st h = absurd (let z : ⊥ = cc in z)
 

@@ -23,7 +23,7 @@ use Rattle.tx_table.specs.Shown.{IsJoined, IsOwn, Opens, Shows, Slot, aborted_by
 use Rattle.tx_table.specs.Turns.{asked_all, lone, stage_of}
 use Rattle.tx_table.specs.declared.view.Opening.{Opening}
 use Rattle.tx_table.specs.declared.view.Turn.{Turn}
-use Rattle.tx_table.specs.declared.view.View.{View}
+use Rattle.tx_table.specs.declared.view.SeatKnowledge.{SeatKnowledge}
 use Rattle.tx_table.proofs.Keeps.{asked_events, run_append, run_asked}
 use Rattle.tx_table.proofs.Numbers.{inside, total_part}
 use Rattle.tx_table.proofs.Turned.{asked_alike, asked_calm}
@@ -56,11 +56,11 @@ module _ {V : Type 0} where
   abbrev IsOwnOf : World V → World V → ℕ × List (Turn V) → Type 0
   IsOwnOf o w p = IsOwn p.0 w (lone p.0 o p.1)
 
-  joined_own : (o w : World V) (s : State (Slot V) (View V)) → Shows o w s → (p : ℕ × List (Turn V)) → IsJoined s.views p → IsOwnOf o w p
+  joined_own : (o w : World V) (s : State (Slot V) (SeatKnowledge V)) → Shows o w s → (p : ℕ × List (Turn V)) → IsJoined s.views p → IsOwnOf o w p
   joined_own o w s shows p is =
       subst (λ (turns : List (Turn V)). IsOwn p.0 w (lone p.0 o turns)) is.3 (shows.own p.0 is.0 is.1)
 
-  all_own : (o w : World V) (s : State (Slot V) (View V)) → Shows o w s → (j : ℕ) (v : View V) → get_elem? s.views j ≡ some v
+  all_own : (o w : World V) (s : State (Slot V) (SeatKnowledge V)) → Shows o w s → (j : ℕ) (v : SeatKnowledge V) → get_elem? s.views j ≡ some v
       → All (IsOwnOf o w) (stands_for j v)
   all_own o w s shows j v at =
       All-cons (IsOwnOf o w) (j, v.turns) v.joined (shows.own j v at)
@@ -70,7 +70,7 @@ module _ {V : Type 0} where
   abbrev by_actors : World V → List (ℕ × List (Turn V)) → (ℕ × Record V → ℕ) → ℕ
   by_actors w ps h = total (λ p. total (only_by p.0 h) w.records) ps
 
-  earned_by : (o w : World V) (s : State (Slot V) (View V)) → Shows o w s → (j : ℕ) (v : View V) → get_elem? s.views j ≡ some v
+  earned_by : (o w : World V) (s : State (Slot V) (SeatKnowledge V)) → Shows o w s → (j : ℕ) (v : SeatKnowledge V) → get_elem? s.views j ≡ some v
       → 0 < v.shares → (h : ℕ × Record V → ℕ) → total h v.receipts ≡ by_actors w (stands_for j v) h
   earned_by o w s shows j v at live h =
       let own = shows.own j v at in
@@ -87,7 +87,7 @@ module _ {V : Type 0} where
       → by_actors w ps h ≡ total (λ r. total (λ p. where_same (h r) r.0 p.0) ps) w.records
   by_records w ps h = total_swap (λ (p : ℕ × List (Turn V)) (r : ℕ × Record V). only_by p.0 h r) ps w.records
 
-  pub are_receipts : (o w : World V) (s : State (Slot V) (View V)) → Shows o w s → (j : ℕ) (v : View V) → get_elem? s.views j ≡ some v
+  pub are_receipts : (o w : World V) (s : State (Slot V) (SeatKnowledge V)) → Shows o w s → (j : ℕ) (v : SeatKnowledge V) → get_elem? s.views j ≡ some v
       → 0 < v.shares → AreReceipts w (stands_for j v) v.receipts
   are_receipts o w s shows j v at live h =
       earned_by o w s shows j v at live h
@@ -112,7 +112,7 @@ module _ {V : Type 0} where
       few i r there = at_most_once (count r.0) (λ (x : ℕ × Record V). x.0) w.records i r there
           (let h₁ = weigh r.0 in
           let sums = earned_by o w s shows j v at live h₁ ∙ by_records w ps h₁ in
-          let part = total_part (λ (u : View V). total h₁ u.receipts) s.views j v at in
+          let part = total_part (λ (u : SeatKnowledge V). total h₁ u.receipts) s.views j v at in
           let whole = shows.receipts h₁ in
           let each : total (λ x. total (λ p. where_same (h₁ x) x.0 p.0) ps) w.records
           ≡ total (λ x. where_same (count r.0) x.0 r.0) w.records = total_same
@@ -138,7 +138,7 @@ module _ {V : Type 0} where
             SawAt opens.contents rs ((asked_all j w asks).seats j) (stage_of (asked_all j w asks) j)) same (serial.open_saw j));
       }
 
-  pub shows_seats : SerialLaw V → (opening : Opening V) (s : State (Slot V) (View V)) (rule : Holds opening s)
+  pub shows_seats : SerialLaw V → (opening : Opening V) (s : State (Slot V) (SeatKnowledge V)) (rule : Holds opening s)
       → ShowsSeats opening rule.rule.events s
   shows_seats law opening s rule =
       let o = world_at opening in

@@ -25,14 +25,14 @@ use Rattle.tx_table.specs.Opening.{Holds, world_at}
 use Rattle.tx_table.specs.Shown.{HomeOk, IsBaseAt, Opens, Shows, Slot}
 use Rattle.tx_table.specs.Turns.{stage_of}
 use Rattle.tx_table.specs.declared.view.Opening.{Opening}
-use Rattle.tx_table.specs.declared.view.View.{View}
+use Rattle.tx_table.specs.declared.view.SeatKnowledge.{SeatKnowledge}
 use Rattle.tx_table.proofs.Left.{same_home}
 use Rattle.tx_table.proofs.Numbers.{there}
 use Rattle.tx_engine.specs.Steps.{HasContents, IsSerialBetweenSteps, NoneIsHalfDone}
 use Rattle.tx_engine.proofs.SeatLemmas.{SerialLaw}
 
 module _ {V : Type 0} where
-  none_half_done : (o w : World V) (s : State (Slot V) (View V)) → Shows o w s → ((a : ℕ) → is_half_done (stage_of o a) ≡ false)
+  none_half_done : (o w : World V) (s : State (Slot V) (SeatKnowledge V)) → Shows o w s → ((a : ℕ) → is_half_done (stage_of o a) ≡ false)
       → NoneIsHalfDone o s.views → (a : ℕ) → is_half_done (stage_of w a) ≡ false
   none_half_done o w s shows idle done a =
       let half = λ (x : Seat V). is_half_done x.stage in
@@ -49,7 +49,7 @@ module _ {V : Type 0} where
   home_shows n bs w k homes b (Some a) taken ok lies =
       absurd (some-ne-none (Some b) (some-injective (some (Some b)) none (sym lies ∙ ok.1 a taken)))
 
-  has_contents : (o w : World V) (c : Contents V) (s : State (Slot V) (View V)) → Shows o w s → worlds.Holds w c
+  has_contents : (o w : World V) (c : Contents V) (s : State (Slot V) (SeatKnowledge V)) → Shows o w s → worlds.Holds w c
       → HasContents o.words o.blocks c s
   has_contents o w c s shows held =
       let n = o.words in
@@ -67,7 +67,7 @@ module _ {V : Type 0} where
         ));
       }
 
-  pub serial_between : SerialLaw V → (opening : Opening V) (s : State (Slot V) (View V)) (rule : Holds opening s)
+  pub serial_between : SerialLaw V → (opening : Opening V) (s : State (Slot V) (SeatKnowledge V)) (rule : Holds opening s)
       → IsSerialBetweenSteps opening rule.rule.events s
   serial_between law opening s rule =
       let o = world_at opening in

@@ -14,14 +14,14 @@ use Rattle.seq_model.specs.declared.event.Event.{Event}
 use Rattle.seq_model.specs.declared.event.Event.TheVariants.{Ask, Step, Starve}
 use Rattle.tx_machine.specs.Boosted.{Action, TakeGate, is_actor, is_none}
 use Rattle.replay_log.specs.declared.base.Base.{Base}
-use Rattle.replay_log.specs.Contents.{Asked}
+use Rattle.replay_log.specs.Contents.{CollectionCall}
 use Rattle.replay_log.specs.WorldTries.{tried_at}
 use Rattle.replay_log.specs.Worlds.{World, Seat, Stage, Trying, Gating, Storing, Homing, Releasing, happens, is_half_done, more_tries}
 use Rattle.replay_log.specs.Worlds.{step_at}
 use Rattle.replay_log.proofs.RecordLemmas.{IsAhead, IsTriedAgain, Kept, asked_kept, starved_kept, stepped_turns}
 use Rattle.actor_laws.specs.Gates.{Tries}
 use Rattle.actor_laws.specs.Own.{Alike}
-use Rattle.actor_laws.specs.Spots.{Gate, found_gate}
+use Rattle.actor_laws.specs.StepTargets.{Gate, found_gate}
 use Rattle.actor_laws.specs.Steps.{atomic_action}
 use Rattle.actor_laws.proofs.Alike.{alike_same}
 use Rattle.tx_table.specs.Turns.{asked_all, found_at, lone, own, spot, stage_of, took}
@@ -136,7 +136,7 @@ module _ {V : Type 0} where
   was_tried w st y k n h at = absurd h
 
   pub tries_at : (v : World V) (a k n : ℕ) (st : Stage V) → tried_at st ≡ Some (k, n)
-      → ◌≡◌ {A = Option (Action (Asked V))} (atomic_action a v st) (Some (TakeGate a k))
+      → ◌≡◌ {A = Option (Action (CollectionCall V))} (atomic_action a v st) (Some (TakeGate a k))
   tries_at v a k n (Trying asked tries) at = ap (λ (j : ℕ). Some (TakeGate a j)) (some_pair asked.collection tries k n at).0
   tries_at v a k n (Gating got (j ∷ ks) tries) at = ap (λ (i : ℕ). Some (TakeGate a i)) (some_pair j tries k n at).0
   tries_at v a k n st at = absurd (let b : ⊥ = cc in b)

@@ -12,14 +12,14 @@ use Rattle.seq_model.specs.declared.refusal.Refusal.TheVariants.{Memory as OutOf
 use Rattle.replay_log.specs.Seats.{Ended, World}
 use Rattle.replay_log.specs.Worlds.{run}
 use Rattle.actor_laws.specs.Own.{Alike}
-use Rattle.actor_laws.specs.Phases.{Stands}
+use Rattle.actor_laws.specs.KnownStages.{Stands}
 use Rattle.tx_table.specs.Opening.{Holds}
 use Rattle.tx_table.specs.Seated.{actor, acts, list_of, opening_of, view}
 use Rattle.tx_table.specs.Shown.{Slot}
 use Rattle.tx_table.specs.Turns.{asked_all}
 use Rattle.tx_table.specs.declared.seat.Seat.{Seat}
 use Rattle.tx_table.specs.declared.table.TxTable.{TxTable}
-use Rattle.tx_table.specs.declared.view.View.{View}
+use Rattle.tx_table.specs.declared.view.SeatKnowledge.{SeatKnowledge}
 use Rattle.tx_engine.specs.Ready.{standing}
 use Rattle.tx_turns.specs.Driven.{seat_in}
 
@@ -28,7 +28,7 @@ module _ {V : Type 0} where
   -- of which this holds.
   abbrev pub ShownBy : TxTable V → Seat V → (World V → Type 0) → Type 0
   ShownBy t u P =
-      (x : State (Slot V) (View V)) (rule : Holds t.whole.shared.key x) → get_elem? x.views (actor u) ≡ some (view u)
+      (x : State (Slot V) (SeatKnowledge V)) (rule : Holds t.whole.shared.key x) → get_elem? x.views (actor u) ≡ some (view u)
       → P (run (opening_of t) rule.rule.events)
 
   -- The transaction with these calls that was open at s is an aborted one of the world w, for this cause, or with none where its actor

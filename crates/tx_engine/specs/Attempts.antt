@@ -13,7 +13,7 @@ use Rattle.seq_model.specs.declared.job.Ask.TheVariants as ask
 use Rattle.seq_model.specs.Programs.{replies_of}
 use Rattle.tx_table.specs.declared.seat.Seat.{Seat}
 use Rattle.tx_table.specs.Seated.{actor, acts, view}
-use Rattle.actor_laws.specs.Phases.{IsMistaken, Rests, Stands}
+use Rattle.actor_laws.specs.KnownStages.{IsMistaken, Rests, Stands}
 use Rattle.tx_turns.specs.Begins.{begins_of}
 use Rattle.tx_turns.specs.Driven.{aborted_for}
 use Rattle.tx_engine.specs.Ready.{standing}

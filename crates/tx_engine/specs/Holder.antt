@@ -9,7 +9,7 @@ use Rattle.tx_table.specs.declared.table.TxTable.{TxTable}
 use Rattle.tx_table.specs.Ends.{homes_of, row_of}
 use Rattle.tx_table.specs.Seated.{actor, acts, blocks_in, contents_in, locations_in, opening_of, view, words_in}
 use Rattle.tx_table.specs.Shown.{ShowsWorld, both_of, first, left_of, right_of}
-use Rattle.tx_turns.specs.Requested.{requests_of}
+use Rattle.tx_turns.specs.RequestHistory.{requests_of}
 use Rattle.tx_engine.specs.declared.seats.TxSeat.{TxSeat}
 use Rattle.tx_engine.specs.Closing.{IsLeftBy}
 

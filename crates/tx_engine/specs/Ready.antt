@@ -14,7 +14,7 @@ use Rattle.tx_table.specs.Seated.{Owns, blocks_in, list_of, opening_of, out, vie
 use Rattle.tx_table.specs.Shown.{IsReached}
 use Rattle.tx_turns.specs.Ties.{Ties}
 use Rattle.tx_turns.specs.Own.{HasOwn}
-use Rattle.actor_laws.specs.Phases.{Rests}
+use Rattle.actor_laws.specs.KnownStages.{Rests}
 use Rattle.tx_engine.specs.declared.seats.TxSeat.{TxSeat}
 pub use Rattle.tx_turns.specs.Driven.{standing}
 use Rattle.tx_turns.specs.Begins.{begins_of}

@@ -16,12 +16,12 @@ use Rattle.tx_table.specs.Shown.{Slot, aborted_by, total}
 use Rattle.tx_table.specs.Turns.{asked_all, lone, stage_of}
 use Rattle.tx_table.specs.declared.view.Opening.{Opening}
 use Rattle.tx_table.specs.declared.view.Turn.{Turn}
-use Rattle.tx_table.specs.declared.view.View.{View}
+use Rattle.tx_table.specs.declared.view.SeatKnowledge.{SeatKnowledge}
 
 module _ {V : Type 0} where
   -- the actors for which the seat of actor j stands, each with the turns that it has taken: its own, and those whose seats were joined into
   -- it
-  abbrev pub stands_for : ℕ → View V → List (ℕ × List (Turn V))
+  abbrev pub stands_for : ℕ → SeatKnowledge V → List (ℕ × List (Turn V))
   stands_for j v = (j, v.turns) ∷ v.joined
 
   -- The aborted transactions of an actor that has taken these turns are in the world w those of the world with it alone, in their order;
@@ -49,10 +49,10 @@ module _ {V : Type 0} where
 
   -- So it is of each seat of a table with these views, which shows the world that these events reach from its opening. A seat without
   -- shares was joined into another, which has its receipts.
-  pub record ShowsSeats (opening : Opening V) (events : List (Event V)) (s : State (Slot V) (View V)) : Type 0 where
-    pub aborted : (j : ℕ) (v : View V) → get_elem? s.views j ≡ some v → All
+  pub record ShowsSeats (opening : Opening V) (events : List (Event V)) (s : State (Slot V) (SeatKnowledge V)) : Type 0 where
+    pub aborted : (j : ℕ) (v : SeatKnowledge V) → get_elem? s.views j ≡ some v → All
         (HasAborted opening.state.value (world_at opening) (run (world_at opening) events)) (stands_for j v)
-    pub receipts : (j : ℕ) (v : View V) → get_elem? s.views j ≡ some v → 0 < v.shares → AreReceipts (run (world_at opening) events)
+    pub receipts : (j : ℕ) (v : SeatKnowledge V) → get_elem? s.views j ≡ some v → 0 < v.shares → AreReceipts (run (world_at opening) events)
         (stands_for j v) v.receipts
-    pub at_once : (j : ℕ) (v : View V) → get_elem? s.views j ≡ some v → (asks : List (Event V)) → SeesAtOnce opening.state.value
+    pub at_once : (j : ℕ) (v : SeatKnowledge V) → get_elem? s.views j ≡ some v → (asks : List (Event V)) → SeesAtOnce opening.state.value
         (run (world_at opening) events) (lone j (world_at opening) v.turns) j asks

@@ -13,8 +13,8 @@ use Rattle.replay_log.specs.Worlds.{happens, run}
 use Rattle.replay_log.specs.WorldAnswers.{Untouched}
 use Rattle.actor_laws.specs.Own.{Alike}
 use Rattle.tx_actor.specs.Running.{notice_of}
-use Rattle.tx_actor.specs.declared.actor.Told.{Told}
-use Rattle.tx_actor.specs.declared.actor.Told.TheVariants.{Answered, Refused}
+use Rattle.tx_actor.specs.declared.actor.ActorNotice.{ActorNotice}
+use Rattle.tx_actor.specs.declared.actor.ActorNotice.TheVariants.{Answered, Refused}
 use Rattle.tx_table.specs.declared.seat.Seat.{Seat}
 use Rattle.tx_table.specs.Seated.{actor, view}
 use Rattle.tx_table.specs.Turns.{asked_all, lone, stage_of, took}
@@ -34,7 +34,7 @@ IsGivenUpFor cause = ⊥
 
 module _ {V : Type 0} where
   -- such a cause was answered, or that the transaction was aborted
-  abbrev pub IsEndTold : Told V → Type 0
+  abbrev pub IsEndTold : ActorNotice V → Type 0
   IsEndTold (Refused cause) = IsGivenUpFor cause
   IsEndTold (Answered Aborted) = Unit {0}
   IsEndTold n = ⊥
@@ -59,7 +59,7 @@ module _ {V : Type 0} where
 
   -- One of the turns between the seats s and u answered this, and its actor held no lock any more. It and the turns before it, from s on,
   -- or since the actor was idle and asked to begin, change no value and no base, and give each lock back as it was.
-  pub record GaveUp (o : World V) (s u : Seat V) (n : Told V) : Type 0 where
+  pub record GaveUp (o : World V) (s u : Seat V) (n : ActorNotice V) : Type 0 where
     pub world : World V
     pub last : IsTurnFrom o s u world
     pub told : (happens world (Step (actor s))).1 ≡ notice_of (actor s) n

@@ -14,16 +14,16 @@ use Rattle.seq_model.specs.declared.refusal.Refusal.TheVariants.{Moved, Busy, St
 use Rattle.seq_model.specs.declared.refusal.Refusal.TheVariants.{NoTransaction}
 use Rattle.replay_log.specs.Seats.{World, actor_of}
 use Rattle.replay_log.specs.WorldAnswers.{IsAdmitted}
-use Rattle.tx_actor.specs.declared.actor.Told.{Told}
-use Rattle.tx_actor.specs.declared.actor.Told.TheVariants as told
+use Rattle.tx_actor.specs.declared.actor.ActorNotice.{ActorNotice}
+use Rattle.tx_actor.specs.declared.actor.ActorNotice.TheVariants as told
 use Rattle.tx_table.specs.declared.seat.Seat.{Seat}
 use Rattle.tx_table.specs.Seated.{IsSameSeat, actor, acts, out, view}
 use Rattle.tx_table.specs.declared.view.Turn.{Turn}
-use Rattle.tx_turns.specs.Asked.{Answers}
-use Rattle.actor_laws.specs.Phases.{Rests, Stands, Calls, IsMistaken}
+use Rattle.tx_turns.specs.RequestStep.{Answers}
+use Rattle.actor_laws.specs.KnownStages.{Rests, Stands, Calls, IsMistaken}
 use Rattle.tx_turns.specs.Driven.{Driven, HasFound, HasTold, IsExhausted, IsLoading, IsNumberOf, IsOnCollection, is_declared, seat_in}
 use Rattle.tx_turns.specs.Driven.{aborted_for, standing}
-use Rattle.tx_turns.specs.Requested.{requests_of}
+use Rattle.tx_turns.specs.RequestHistory.{requests_of}
 
 -- there is some entry
 abbrev pub has_some : Entries → Bool
@@ -116,16 +116,16 @@ module _ {V : Type 0} where
   IsNotBegun o s u cause = (standing o u ≡ Rests) × IsExhausted o s u cause
 
   -- the answer of one with this result
-  abbrev pub begin_of : Result ℕ Refusal → Told V
+  abbrev pub begin_of : Result ℕ Refusal → ActorNotice V
   begin_of (Ok rv) = told.Answered (answer.Begun rv)
   begin_of (Err cause) = told.Refused cause
 
-  abbrev pub IsBeginTold : Told V → Type 0
+  abbrev pub IsBeginTold : ActorNotice V → Type 0
   IsBeginTold (told.Answered (answer.Begun rv)) = Unit {0}
   IsBeginTold (told.Refused cause) = Unit {0}
   IsBeginTold n = ⊥
 
-  abbrev pub BeginsTo : Bool → World V → Seat V → Seat V → Told V → Type 0
+  abbrev pub BeginsTo : Bool → World V → Seat V → Seat V → ActorNotice V → Type 0
   BeginsTo declared o s u (told.Answered (answer.Begun rv)) = IsBegun declared o s u rv
   BeginsTo declared o s u (told.Refused cause) = IsNotBegun o s u cause
   BeginsTo declared o s u n = ⊥
@@ -162,11 +162,11 @@ module _ {V : Type 0} where
 
   -- ---- a call
   -- the answer of one with this result
-  abbrev pub told_of : Result (Reply V) Refusal → Told V
+  abbrev pub told_of : Result (Reply V) Refusal → ActorNotice V
   told_of (Ok reply) = told.Answered (answer.Replied reply)
   told_of (Err cause) = told.Refused cause
 
-  abbrev pub IsCallTold : Told V → Type 0
+  abbrev pub IsCallTold : ActorNotice V → Type 0
   IsCallTold (told.Answered (answer.Replied reply)) = Unit {0}
   IsCallTold (told.Refused cause) = Unit {0}
   IsCallTold n = ⊥
@@ -177,11 +177,11 @@ module _ {V : Type 0} where
   CallLeaves o s calls call u (Err cause) = ((standing o u ≡ Stands calls) × IsMistaken cause) ⊎ IsEnded o s u cause
 
   -- an allocation fails, and the request is admitted there, in the world with the seat's actor alone
-  abbrev pub IsUnserved : World V → Seat V → Request V → Told V → Type 0
+  abbrev pub IsUnserved : World V → Seat V → Request V → ActorNotice V → Type 0
   IsUnserved o s q n = (n ≡ told.Refused OutOfMemory) × IsAdmitted (acts o s) (actor s) q
 
   -- the definitions answer it so at once, in the world with the seat's actor alone, or one of its turns does; or an allocation fails
-  abbrev pub IsAnswered : World V → Seat V → Request V → Seat V → Told V → Type 0
+  abbrev pub IsAnswered : World V → Seat V → Request V → Seat V → ActorNotice V → Type 0
   IsAnswered o s q u n = Answers o s q n ⊎ ((Answers o s q told.Quiet × HasTold o s u n) ⊎ IsUnserved o s q n)
 
   -- a call is under way
@@ -189,7 +189,7 @@ module _ {V : Type 0} where
   IsCalling o s = (calls : List (Call V × Reply V)) × ((call : Call V) × (standing o s ≡ Calls calls call))
 
   -- its turns end with this
-  abbrev pub IsDriven : World V → Seat V → Seat V → Told V → Type 0
+  abbrev pub IsDriven : World V → Seat V → Seat V → ActorNotice V → Type 0
   IsDriven o s u n = (d : Option (Record V)) × Driven o s u n d
 
   -- The result of a call, whatever was called before. Where a transaction is open after it, it has begun at the same number, and none was
@@ -210,7 +210,7 @@ module _ {V : Type 0} where
   has_written o s = has_some (actor_of (acts o s) (actor s)).writes
 
   -- a commit without a receipt is refused
-  abbrev pub IsCommitTold : Told V → Option (Record V) → Type 0
+  abbrev pub IsCommitTold : ActorNotice V → Option (Record V) → Type 0
   IsCommitTold n (Some r) = Unit {0}
   IsCommitTold (told.Refused cause) None = Unit {0}
   IsCommitTold n None = ⊥

@@ -21,17 +21,17 @@ use Rattle.tx_table.specs.Opening.{blocks_at, words_at, world_at}
 use Rattle.tx_table.specs.Shown.{IsBaseAt, Shows, Slot}
 use Rattle.tx_table.specs.Turns.{lone, stage_of}
 use Rattle.tx_table.specs.declared.view.Opening.{Opening}
-use Rattle.tx_table.specs.declared.view.View.{View}
+use Rattle.tx_table.specs.declared.view.SeatKnowledge.{SeatKnowledge}
 
 module _ {V : Type 0} where
   -- no commit of a seat is half done, in the world with its actor alone
-  abbrev pub NoneIsHalfDone : World V → List (View V) → Type 0
+  abbrev pub NoneIsHalfDone : World V → List (SeatKnowledge V) → Type 0
   NoneIsHalfDone o views =
-      (a : ℕ) (v : View V) → get_elem? views a ≡ some v → is_half_done (stage_of (lone a o v.turns) a) ≡ false
+      (a : ℕ) (v : SeatKnowledge V) → get_elem? views a ≡ some v → is_half_done (stage_of (lone a o v.turns) a) ≡ false
 
   -- With n words and these blocks, the words of a table are those of c, and each base that is in its slot is of its collection's kind and
   -- shape, and shows on each of its locations what the collection of c shows there.
-  pub record HasContents (n : ℕ) (bs : List Block) (c : Contents V) (s : State (Slot V) (View V)) : Type 0 where
+  pub record HasContents (n : ℕ) (bs : List Block) (c : Contents V) (s : State (Slot V) (SeatKnowledge V)) : Type 0 where
     pub values : (l : ℕ) → l < n → get_or s.words (address (end_of n bs) (ValueCell l)) 0 ≡ get_or c.words l 0
     pub bases :
         (k : ℕ) (b : Base V) → k < length bs → get_elem? s.homes k ≡ some (some (Some b))
@@ -41,7 +41,7 @@ module _ {V : Type 0} where
 
   -- A table with these words, slots and views shows the world that these events reach from its opening. This world is in serial order; so
   -- the receipts of the seats are its records, a run from the opening, and where no commit is half done the table has what they leave.
-  pub record IsSerialBetweenSteps (opening : Opening V) (events : List (Event V)) (s : State (Slot V) (View V)) : Type 0 where
+  pub record IsSerialBetweenSteps (opening : Opening V) (events : List (Event V)) (s : State (Slot V) (SeatKnowledge V)) : Type 0 where
     pub shows : Shows (world_at opening) (run (world_at opening) events) s
     pub serial : IsSerial opening.state.value (run (world_at opening) events)
     pub left : NoneIsHalfDone (world_at opening) s.views

@@ -8,7 +8,7 @@ use Rattle.tx_table.specs.declared.table.TxTable.{TxTable}
 use Rattle.tx_table.specs.Seated.{actor, opening_of, view}
 use Rattle.tx_table.specs.declared.view.Turn.{Turn}
 use Rattle.tx_engine.specs.declared.seats.TxSeat.{TxSeat}
-use Rattle.actor_laws.specs.Phases.{Rests}
+use Rattle.actor_laws.specs.KnownStages.{Rests}
 use Rattle.tx_engine.specs.Ready.{IsReady, standing}
 use Rattle.seq_model.specs.declared.causes.LastAbort.{LastAbort}
 use Rattle.seq_model.specs.declared.causes.LastAbort.TheVariants.{NotStarted}

@@ -3,7 +3,7 @@ ghost use Rattle.std.specs.Prelude.{◌≡◌, ◌+◌, ◌<◌, IfErr, IfNone, 
 ghost use Rattle.seq_model.specs.declared.limits.TheConstants.{CALL_LIMIT as AsCallLimit};
 ghost use Rattle.seq_model.specs.Places.{IsPlaceIn};
 ghost use Rattle.tx_table.specs.Seated.{acts, opening_of};
-ghost use Rattle.actor_laws.specs.Phases.{Rests, Stands};
+ghost use Rattle.actor_laws.specs.KnownStages.{Rests, Stands};
 ghost use Rattle.tx_turns.specs.Begins.{begins_of};
 ghost use Rattle.tx_engine.specs.Ready.{HasBegunSince, IsReady, standing};
 ghost use Rattle.tx_engine.specs.Requests.{HasAborted, HasSameAborted, IsBegun, IsNotBegun, IsOpen, KeepsReceipts};

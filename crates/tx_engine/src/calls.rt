@@ -2,11 +2,11 @@
 ghost use Rattle.std.specs.Prelude.{◌≡◌, [], ◌∷◌, ◌++◌, IfErr, IfOk, None, OnErr, OnOk, true};
 ghost use Rattle.replay_log.specs.WorldAnswers.{IsAdmitted};
 ghost use Rattle.tx_table.specs.Seated.{actor as actor_of, acts, opening_of};
-ghost use Rattle.actor_laws.specs.Phases.{Rests};
-ghost use Rattle.tx_turns.specs.Asked.{Answers, HasAsked};
+ghost use Rattle.actor_laws.specs.KnownStages.{Rests};
+ghost use Rattle.tx_turns.specs.RequestStep.{Answers, HasAsked};
 ghost use Rattle.tx_turns.specs.Begins.{begins_of};
 ghost use Rattle.tx_turns.specs.Driven.{is_declared, standing};
-ghost use Rattle.tx_turns.specs.Requested.{requests_of};
+ghost use Rattle.tx_turns.specs.RequestHistory.{requests_of};
 ghost use Rattle.tx_engine.specs.Ready.{CanDrive, HasBegunSince, HasCalled, IsReady};
 ghost use Rattle.tx_engine.specs.Requests.{CallsTo, HasAborted, HasAskedFor, IsCallTold, IsCalling, IsDriven, IsOpen, KeepsReceipts};
 ghost use Rattle.tx_engine.specs.Requests.{IsLastAborted, told_of};
@@ -17,18 +17,18 @@ use actor_parts::Boxed;
 use replay_log::Base;
 use seq_model::{Answer, Call, Refusal, Reply, Request, Value};
 use std::alloc::Global;
-use tx_actor::{Told, TxActor};
+use tx_actor::{ActorNotice, TxActor};
 use tx_table::{Seat, TxTable};
 use tx_turns::{ask, drive_call};
 
 /// The result of a call that is answered so.
-fn reply_told<V: Value>(told: Told<V>) -> Result<Reply<V>, Refusal>
+fn reply_told<V: Value>(told: ActorNotice<V>) -> Result<Reply<V>, Refusal>
     requires { IsCallTold told }
     ensures { told ≡ told_of result }
 {
     match told {
-        Told::Answered(Answer::Replied(reply)) => Ok(reply),
-        Told::Refused(cause) => Err(cause),
+        ActorNotice::Answered(Answer::Replied(reply)) => Ok(reply),
+        ActorNotice::Refused(cause) => Err(cause),
         _ => unreachable!(),
     }
 }
@@ -59,7 +59,7 @@ pub(crate) fn ask_open<V: Value>(
     actor: &mut TxActor<V>,
     bases: &mut Vec<Boxed<Base<V>>>,
     request: Request<V>,
-) -> Result<Told<V>, Refusal>
+) -> Result<ActorNotice<V>, Refusal>
     requires drives { CanDrive table.now seat.old actor.old }
     requires open { IsOpen (opening_of table.now) seat.old }
     ensures drives { CanDrive table.now seat.new actor.new }
@@ -102,7 +102,7 @@ pub(crate) fn call<V: Value>(
     ensures asks { HasAskedFor seat.old (Request.Call call) result seat.new }
 {
     match ask_open(alloc, table, seat, actor, bases, Request::Call(call)) {
-        Ok(Told::Quiet) => driven_call(alloc, table, seat, actor, bases),
+        Ok(ActorNotice::Quiet) => driven_call(alloc, table, seat, actor, bases),
         Ok(told) => reply_told(told),
         Err(cause) => Err(cause),
     }

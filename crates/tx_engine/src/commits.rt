@@ -10,19 +10,22 @@ use actor_parts::Boxed;
 use replay_log::Base;
 use seq_model::{Record, Refusal, Request, Value};
 use std::alloc::Global;
-use tx_actor::{Told, TxActor};
+use tx_actor::{ActorNotice, TxActor};
 use tx_table::{Seat, TxTable};
 use tx_turns::drive_commit;
 
 /// The result of a commit that is answered so, with this receipt.
-fn commit_told<V: Value>(told: Told<V>, receipt: Option<Record<V>>) -> Result<Record<V>, Refusal>
+fn commit_told<V: Value>(
+    told: ActorNotice<V>,
+    receipt: Option<Record<V>>,
+) -> Result<Record<V>, Refusal>
     requires { IsCommitTold told receipt }
-    ensures { MatchResult result (λ made. receipt ≡ Some made) (λ cause. (receipt ≡ None) × (told ≡ Told.Refused cause)) }
+    ensures { MatchResult result (λ made. receipt ≡ Some made) (λ cause. (receipt ≡ None) × (told ≡ ActorNotice.Refused cause)) }
 {
     match receipt {
         Some(receipt) => Ok(receipt),
         None => match told {
-            Told::Refused(cause) => Err(cause),
+            ActorNotice::Refused(cause) => Err(cause),
             _ => unreachable!(),
         },
     }

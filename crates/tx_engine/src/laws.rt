@@ -10,14 +10,14 @@ ghost use Rattle.replay_log.specs.Contents.{HaveStripes};
 ghost use Rattle.replay_log.specs.Seats.{World};
 ghost use Rattle.replay_log.specs.WorldSerial.{IsSerial};
 ghost use Rattle.replay_log.specs.Worlds.{run};
-ghost use Rattle.tx_actor.specs.declared.actor.Told.{Told};
+ghost use Rattle.tx_actor.specs.declared.actor.ActorNotice.{ActorNotice};
 ghost use Rattle.tx_table.specs.Opening.{Holds};
-ghost use Rattle.actor_laws.specs.Phases.{Rests, Stands};
+ghost use Rattle.actor_laws.specs.KnownStages.{Rests, Stands};
 ghost use Rattle.tx_table.specs.Seated.{actor, contents_in, opening_of};
 ghost use Rattle.tx_table.specs.Shown.{Opens, Slot};
 ghost use Rattle.tx_table.specs.declared.table.TxTable.{TxTable};
 ghost use Rattle.tx_table.specs.declared.view.Opening.{Opening};
-ghost use Rattle.tx_table.specs.declared.view.View.{View};
+ghost use Rattle.tx_table.specs.declared.view.SeatKnowledge.{SeatKnowledge};
 ghost use Rattle.tx_turns.specs.Driven.{HasTold};
 ghost use Rattle.tx_engine.specs.Ready.{HasCalled, HasFinished, IsReady, standing};
 ghost use Rattle.tx_engine.specs.Requests.{IsFoundAndTold, IsLastAborted};
@@ -46,7 +46,7 @@ pub fn worlds_are_serial<V: Value>()
 /// order, a run of the sequential model; and where no seat has a commit half done, the words of the table, and the bases in its slots,
 /// are what the run leaves.
 pub fn tables_are_serial<V: Value>()
-    ensures { (opening : Opening V) (s : State (Slot V) (View V)) (rule : Holds opening s) →
+    ensures { (opening : Opening V) (s : State (Slot V) (SeatKnowledge V)) (rule : Holds opening s) →
         IsSerialBetweenSteps opening rule.rule.events s }
 {
     worlds_are_serial::<V>();
@@ -57,7 +57,7 @@ pub fn tables_are_serial<V: Value>()
 /// seat are what these actors have committed there, each once; and what its actor has asked since its last step is answered there at
 /// once, by the state at the number of its transaction.
 pub fn tables_show_their_seats<V: Value>()
-    ensures { (opening : Opening V) (s : State (Slot V) (View V)) (rule : Holds opening s) → ShowsSeats opening rule.rule.events s }
+    ensures { (opening : Opening V) (s : State (Slot V) (SeatKnowledge V)) (rule : Holds opening s) → ShowsSeats opening rule.rule.events s }
 {
     worlds_are_serial::<V>();
 }
@@ -81,7 +81,7 @@ pub fn busy_gates_were_tried_64_times<V: Value>()
 /// that is refused for such a cause: no turn of that transaction stores a value, or puts a base back with its changes, and each lock that
 /// it took is put back with its old version.
 pub fn given_up_seats_change_nothing<V: Value>()
-    ensures told { (t : TxTable V) (s u : TxSeat V) (n : Told V) → IsReady t s → IsEndTold n → HasTold (opening_of t) s.seat u.seat n →
+    ensures told { (t : TxTable V) (s u : TxSeat V) (n : ActorNotice V) → IsReady t s → IsEndTold n → HasTold (opening_of t) s.seat u.seat n →
         GaveUp (opening_of t) s.seat u.seat n }
     ensures refused { (t : TxTable V) (s u : TxSeat V) (cause : Refusal) → IsReady t s → IsGivenUpFor cause →
         IsFoundAndTold (opening_of t) s.seat u.seat cause → GaveUpFor (opening_of t) s.seat u.seat cause }

@@ -1,10 +1,10 @@
 //! Requests of a transaction: one that begins, and one that ends without a commit.
 ghost use Rattle.std.specs.Prelude.{◌≡◌, ◌+◌, [], ◌∷◌, ◌++◌, IfErr, IfOk, None, false, true};
 ghost use Rattle.tx_table.specs.Seated.{opening_of};
-ghost use Rattle.actor_laws.specs.Phases.{Rests};
+ghost use Rattle.actor_laws.specs.KnownStages.{Rests};
 ghost use Rattle.tx_turns.specs.Begins.{begins_of};
 ghost use Rattle.tx_turns.specs.Driven.{is_declared, standing};
-ghost use Rattle.tx_turns.specs.Requested.{requests_of};
+ghost use Rattle.tx_turns.specs.RequestHistory.{requests_of};
 ghost use Rattle.tx_engine.specs.Ready.{CanDrive};
 ghost use Rattle.tx_engine.specs.Requests.{HasAborted, IsBeginTold, IsBegun, IsLastAborted, IsNotBegun, IsOpen, KeepsReceipts};
 ghost use Rattle.tx_engine.specs.Requests.{HasSameAborted, begin_of};
@@ -13,18 +13,18 @@ use actor_parts::Boxed;
 use replay_log::Base;
 use seq_model::{Answer, Refusal, Request, Value};
 use std::alloc::Global;
-use tx_actor::{Stage, Told, TxActor};
+use tx_actor::{ActorNotice, Stage, TxActor};
 use tx_table::{Seat, TxTable};
 use tx_turns::{ask_abort, ask_begin, ask_begin_read, drive, drive_begin};
 
 /// The result of a begin that is answered so.
-fn begin_told<V: Value>(told: Told<V>) -> Result<u64, Refusal>
+fn begin_told<V: Value>(told: ActorNotice<V>) -> Result<u64, Refusal>
     requires { IsBeginTold told }
     ensures { told ≡ begin_of result }
 {
     match told {
-        Told::Answered(Answer::Begun(rv)) => Ok(rv),
-        Told::Refused(cause) => Err(cause),
+        ActorNotice::Answered(Answer::Begun(rv)) => Ok(rv),
+        ActorNotice::Refused(cause) => Err(cause),
         _ => unreachable!(),
     }
 }

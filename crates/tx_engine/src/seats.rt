@@ -3,10 +3,10 @@ ghost use Rattle.std.specs.Prelude.{◌≡◌, ◌≢◌, ◌+◌, ◌<◌, ◌�
 ghost use Rattle.seq_model.specs.declared.call.Op.TheVariants as op;
 ghost use Rattle.seq_model.specs.declared.refusal.Refusal.TheVariants.{Ahead};
 ghost use Rattle.tx_table.specs.Seated.{opening_of, view};
-ghost use Rattle.actor_laws.specs.Phases.{Rests};
+ghost use Rattle.actor_laws.specs.KnownStages.{Rests};
 ghost use Rattle.tx_turns.specs.Begins.{begins_of};
 ghost use Rattle.tx_turns.specs.Driven.{is_declared, standing};
-ghost use Rattle.tx_turns.specs.Requested.{requests_of};
+ghost use Rattle.tx_turns.specs.RequestHistory.{requests_of};
 ghost use Rattle.tx_engine.specs.Ready.{HasBegunSince, HasCalled, HasFinished, HasOpened, IsNew, IsReady};
 ghost use Rattle.tx_engine.specs.Requests.{HasAborted, HasAskedToBegin, HasSameAborted, IsBegun, IsLastAborted, IsNotBegun, IsOpen};
 ghost use Rattle.tx_engine.specs.Requests.{KeepsReceipts, OnlyKnows};

@@ -6,7 +6,7 @@ ghost use Rattle.actor_parts.specs.Openings.{IsWithin, blocks_of, world_of};
 ghost use Rattle.tx_table.specs.Ends.{homes_of, row_of};
 ghost use Rattle.tx_table.specs.Seated.{actor, acts, blocks_in, contents_in, locations_in, opening_of, view, words_in};
 ghost use Rattle.tx_table.specs.Shown.{ShowsWorld, both_of, first as first_view, left_of, right_of};
-ghost use Rattle.tx_turns.specs.Requested.{requests_of};
+ghost use Rattle.tx_turns.specs.RequestHistory.{requests_of};
 ghost use Rattle.tx_engine.specs.Closing.{IsLeftBy};
 ghost use Rattle.tx_engine.specs.Ready.{IsReady};
 

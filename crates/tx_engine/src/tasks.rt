@@ -18,7 +18,7 @@ pub struct Task<V, J> {
     pub worker: u64,
     pub jobs: Vec<J>,
     pub receipts: Vec<Record<V>>,
-    /// The worker, the job's place in its list, and why it has no receipt.
+    /// The worker, the job's position in its list, and why it has no receipt.
     pub missed: Vec<(u64, u64, LastAbort)>,
 }
 
@@ -40,7 +40,7 @@ impl<V: Value, J: Job<V> + Drop> Task<V, J> {
 }
 
 impl<V: Value, J: Job<V>> Task<V, J> {
-    /// What has come of the job at this place, which is the next one.
+    /// What has come of the job at this position, which is the next one.
     fn note(&mut self, place: usize, outcome: Result<Record<V>, LastAbort>)
         requires next { place < length self.old.jobs.items }
         requires room { HasRoom place self.old }

@@ -1,7 +1,7 @@
 //! Attempts of a job, up to a receipt.
 ghost use Rattle.std.specs.Prelude.{◌≡◌, ◌≤◌, ◌↔◌, IfErr, IfOk, IsTrue};
 ghost use Rattle.tx_table.specs.Seated.{opening_of};
-ghost use Rattle.actor_laws.specs.Phases.{Rests};
+ghost use Rattle.actor_laws.specs.KnownStages.{Rests};
 ghost use Rattle.tx_engine.specs.Ready.{IsReady, standing};
 ghost use Rattle.tx_engine.specs.Retries.{HasReceipt, HasNoReceipt, IsTransient};
 

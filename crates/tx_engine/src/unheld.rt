@@ -1,7 +1,7 @@
 //! Attempts without a pause.
 ghost use Rattle.std.specs.Prelude.{◌≡◌};
 ghost use Rattle.tx_table.specs.Seated.{opening_of};
-ghost use Rattle.actor_laws.specs.Phases.{Rests};
+ghost use Rattle.actor_laws.specs.KnownStages.{Rests};
 ghost use Rattle.tx_engine.specs.Ready.{IsReady, standing};
 ghost use Rattle.tx_engine.specs.Attempts.{AttemptsTo};
 

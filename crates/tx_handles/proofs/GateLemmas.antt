@@ -23,10 +23,10 @@ use Rattle.seq_model.proofs.RunLemmas.{answered}
 use Rattle.tx_handles.specs.declared.bags.Bag.{Bag}
 use Rattle.tx_handles.specs.declared.gates.Gates.{Gates}
 use Rattle.tx_handles.specs.declared.maps.Map.{Map}
-use Rattle.tx_handles.specs.Answered.{AreOneCall, BagAnswers, HasMadeAt, IsCallOn, MapAnswers}
+use Rattle.tx_handles.specs.HandleCalls.{AreOneCall, BagAnswers, HasMadeAt, IsCallOn, MapAnswers}
 use Rattle.conflict.specs.Places.{mod_below}
 use Rattle.tx_handles.specs.Gates.{AreSameBeside, LieOver, hash_of, place_of}
-use Rattle.tx_handles.specs.Made.{HasMade, TransactionShown}
+use Rattle.tx_handles.specs.MadeCall.{HasMade, TransactionShown}
 
 -- ---- places
 mod_within : (x n : ℕ) → x % (n + 1) ≤ n

@@ -16,11 +16,11 @@ use Rattle.seq_model.specs.Runs.{IsLegal, after_call, after_calls, reply_of}
 use Rattle.seq_model.proofs.RunLemmas.{after_calls-append, answered}
 use Rattle.tx_handles.specs.declared.gates.Gates.{Gates}
 use Rattle.tx_handles.specs.declared.lanes.Lanes.{Lanes}
-use Rattle.tx_handles.specs.Answered.{AreSummed, HasSummed, len_calls}
+use Rattle.tx_handles.specs.HandleCalls.{AreSummed, HasSummed, len_calls}
 use Rattle.tx_handles.specs.Gates.{AreSameBeside}
 use Rattle.tx_handles.specs.Lanes.{AreLanes, DoWithLanes, HasDoneWithLanes, HasTakenFrom, IsAdded, IsCounted, IsTaken}
 use Rattle.tx_handles.specs.Lanes.{IsTakenFrom, total_of, with_lane}
-use Rattle.tx_handles.specs.Made.{HasMade, TransactionShown, room_reply}
+use Rattle.tx_handles.specs.MadeCall.{HasMade, TransactionShown, room_reply}
 use Rattle.tx_handles.proofs.GateLemmas.{set_here, set_there, unequal}
 use Rattle.tx_handles.proofs.SumLemmas.{HasLen, below, counts_sum, lens_leave}
 

@@ -24,9 +24,9 @@ use Rattle.seq_model.proofs.ChangeLemmas.{unchanged}
 use Rattle.seq_model.proofs.RunLemmas.{after_reads}
 use Rattle.tx_handles.specs.declared.gates.Gates.{Gates}
 use Rattle.tx_handles.specs.declared.maps.Map.{Map}
-use Rattle.tx_handles.specs.Answered.{AreOneCall, AreSummed, HasSummed, IsCallOn, MapCounts, len_calls}
+use Rattle.tx_handles.specs.HandleCalls.{AreOneCall, AreSummed, HasSummed, IsCallOn, MapCounts, len_calls}
 use Rattle.tx_handles.specs.Gates.{LieOver, place_of}
-use Rattle.tx_handles.specs.Made.{HasMade, TransactionShown}
+use Rattle.tx_handles.specs.MadeCall.{HasMade, TransactionShown}
 use Rattle.tx_handles.proofs.GateLemmas.{place_within}
 
 -- ---- sums below a number

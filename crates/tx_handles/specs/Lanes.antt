@@ -8,9 +8,9 @@ use Rattle.seq_model.specs.Contents.{Contents}
 use Rattle.seq_model.specs.Runs.{IsLegal, after_calls}
 use Rattle.tx_handles.specs.declared.gates.Gates.{Gates}
 use Rattle.tx_handles.specs.declared.lanes.Lanes.{Lanes}
-use Rattle.tx_handles.specs.Answered.{HasMadeMore}
+use Rattle.tx_handles.specs.HandleCalls.{HasMadeMore}
 use Rattle.tx_handles.specs.Gates.{AreSameBeside}
-use Rattle.tx_handles.specs.Made.{TransactionShown}
+use Rattle.tx_handles.specs.MadeCall.{TransactionShown}
 
 -- the lanes with one of them changed
 abbrev pub with_lane : (ℕ → List ℕ) → ℕ → List ℕ → ℕ → List ℕ

@@ -1,5 +1,5 @@
 pub mod Gates
-pub mod Made
-pub mod Answered
+pub mod MadeCall
+pub mod HandleCalls
 pub mod Lanes
 pub mod Read

@@ -2,8 +2,8 @@
 ghost use Rattle.std.specs.Prelude.{◌≡◌, IfOk};
 ghost use Rattle.seq_model.specs.declared.call.Op.TheVariants as op;
 ghost use Rattle.seq_model.specs.declared.call.Reply.TheVariants as replies;
-ghost use Rattle.tx_handles.specs.Answered.{BagAnswers};
-ghost use Rattle.tx_handles.specs.Made.{room_reply, yes_reply};
+ghost use Rattle.tx_handles.specs.HandleCalls.{BagAnswers};
+ghost use Rattle.tx_handles.specs.MadeCall.{room_reply, yes_reply};
 
 use crate::calls::{MakesCalls, call_at};
 use crate::gates::Gates;

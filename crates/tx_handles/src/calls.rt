@@ -1,8 +1,8 @@
 //! What handles call.
 ghost use Rattle.std.specs.Prelude.{◌≡◌, ◌+◌, IfOk};
-ghost use Rattle.tx_handles.specs.Answered.{HasSummed};
+ghost use Rattle.tx_handles.specs.HandleCalls.{HasSummed};
 ghost use Rattle.tx_handles.specs.Gates.{place_of};
-ghost use Rattle.tx_handles.specs.Made.{HasMade};
+ghost use Rattle.tx_handles.specs.MadeCall.{HasMade};
 
 use crate::gates::Gates;
 use crate::replies::number_in;
@@ -13,7 +13,7 @@ use seq_model::{Op, Refusal, Reply, Value};
 /// Contracts see the number of its store, and the calls that it has made, each with its reply (`shown`).
 pub trait MakesCalls<V> {
     ghost use Rattle.std.specs.Prelude.{IfOk};
-    ghost use Rattle.tx_handles.specs.Made.{HasMade, RefusesForeign, TransactionShown};
+    ghost use Rattle.tx_handles.specs.MadeCall.{HasMade, RefusesForeign, TransactionShown};
 
     ghost shown: { Self → TransactionShown V };
 

@@ -85,7 +85,7 @@ fn next_in<'a, X>(part: &mut Option<Iter<'a, u64, X>>) -> Option<(&'a u64, &'a X
     }
 }
 
-/// The entries of the map at a place.
+/// The entries of the map at a position.
 fn map_at<'a, V>(held: &'a [Held<V>], gates: Gates, place: u64) -> Option<Iter<'a, u64, V>>
     requires { place ≤ gates.others }
     ensures { left_in result ≡ map_entries (slice_get held.now (gates.first + place)) }
@@ -101,7 +101,7 @@ pub struct MapIter<'a, V> {
     part: Option<Iter<'a, u64, V>>,
     held: &'a [Held<V>],
     gates: Gates,
-    /// The first place that wasn't begun yet.
+    /// The first position that wasn't begun yet.
     place: u64,
 }
 
@@ -188,7 +188,7 @@ impl<'a, V: Value> BagCounts<'a, V> {
     }
 }
 
-/// The elements of the multiset at a place, with the numbers of their copies.
+/// The elements of the multiset at a position, with the numbers of their copies.
 fn bag_at<'a, V>(held: &'a [Held<V>], gates: Gates, place: u64) -> Option<Iter<'a, u64, u64>>
     requires { place ≤ gates.others }
     ensures { left_in result ≡ bag_entries (slice_get held.now (gates.first + place)) }
@@ -204,7 +204,7 @@ pub struct BagIter<'a, V> {
     part: Option<Iter<'a, u64, u64>>,
     held: &'a [Held<V>],
     gates: Gates,
-    /// The first place that wasn't begun yet.
+    /// The first position that wasn't begun yet.
     place: u64,
 }
 

@@ -2,7 +2,7 @@
 ghost use Rattle.std.specs.Prelude.{◌≡◌, IfOk};
 ghost use Rattle.seq_model.specs.Calls.{value_reply};
 ghost use Rattle.seq_model.specs.declared.call.Op.TheVariants as op;
-ghost use Rattle.tx_handles.specs.Answered.{MapAnswers, MapCounts};
+ghost use Rattle.tx_handles.specs.HandleCalls.{MapAnswers, MapCounts};
 
 use crate::calls::{MakesCalls, call_at, total_len};
 use crate::gates::Gates;

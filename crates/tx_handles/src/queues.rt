@@ -3,7 +3,7 @@ ghost use Rattle.std.specs.Prelude.{◌≡◌, IfOk};
 ghost use Rattle.seq_model.specs.Calls.{found_reply};
 ghost use Rattle.seq_model.specs.declared.call.Op.TheVariants as op;
 ghost use Rattle.seq_model.specs.declared.call.Reply.TheVariants as replies;
-ghost use Rattle.tx_handles.specs.Made.{HasMade, room_reply};
+ghost use Rattle.tx_handles.specs.MadeCall.{HasMade, room_reply};
 
 use crate::calls::MakesCalls;
 use crate::replies::{found_in, number_in, room_in};

@@ -2,7 +2,7 @@
 ghost use Rattle.std.specs.Prelude.{◌≡◌, IfOk};
 ghost use Rattle.seq_model.specs.Calls.{found_reply, value_reply};
 ghost use Rattle.seq_model.specs.declared.call.Reply.TheVariants as replies;
-ghost use Rattle.tx_handles.specs.Made.{room_reply, yes_reply};
+ghost use Rattle.tx_handles.specs.MadeCall.{room_reply, yes_reply};
 
 use seq_model::{Full, Refusal, Reply};
 

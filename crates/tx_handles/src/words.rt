@@ -2,7 +2,7 @@
 ghost use Rattle.std.specs.Prelude.{◌≡◌, IfOk};
 ghost use Rattle.seq_model.specs.declared.call.Op.TheVariants as op;
 ghost use Rattle.seq_model.specs.declared.call.Reply.TheVariants as replies;
-ghost use Rattle.tx_handles.specs.Made.{HasMade};
+ghost use Rattle.tx_handles.specs.MadeCall.{HasMade};
 
 use crate::calls::MakesCalls;
 use crate::replies::{done_in, number_in};

@@ -3,7 +3,7 @@
 -- at `rv`; by the frame laws the outcome is legal wherever the parts that it reads are these.
 use Rattle.std.proofs.Common.{◌≡◌, ℕ, ◌+◌, Bool, true, false, Some, None, List, [], ◌∷◌, ◌++◌, ◌⊎◌, inl, inr, refl, sym, ap, ◌∙◌, subst}
 use Rattle.std.specs.Prelude.{◌&&◌}
-use Rattle.std.proofs.lemmas.Bool.{cond_both}
+use Rattle.std.proofs.lemmas.Bool.{cond_both, and_parts}
 use Rattle.tx_sets.specs.Entries.{lookup, with_entry}
 use Rattle.tx_machine.specs.Actor.{Write, Place, Open, Actor}
 use Rattle.tx_machine.specs.Requests.{wrote, write, AskWrite, ask}
@@ -24,7 +24,7 @@ use Rattle.tx_machine.specs.Serial.{IsRead}
 use Rattle.tx_machine.proofs.Parts.{AllOut_map, changes_agree, AreLegal-add, IsRead-add, IsRead-old, IsRead-new, IsWritten-old}
 use Rattle.tx_machine.proofs.Parts.{IsWritten-new, Untouched-add, all_read}
 use Rattle.tx_machine.proofs.BoostedInvariant.{IsFirst, IsRelease, Inv}
-use Rattle.tx_machine.proofs.BoostedQuiet.{led_none, both, every_in, edition_is, open_is}
+use Rattle.tx_machine.proofs.BoostedQuiet.{led_none, every_in, edition_is, open_is}
 
 -- What the writes of a call leave.
 pub record Asked (s : World) (a : ℕ) (editions : ℕ → ℕ) (ls : List ℕ) (t : World) : Type 0 where
@@ -113,7 +113,7 @@ module _ {X Op Out : Type 0} (c : Content X Op Out) (f : Frame c) where
       let w2 : Shadow X Out = longer w o in
       let t : World = run (writes_asked a w.editions (c.writes o)) s.words in
       let sound : (l : ℕ) → IsIn l (c.reads o) → (w.copied l ≡ true) × (first_read x.calls l ≡ Some (w.editions l)) = λ l m. (
-      let b = both (w.copied l) (is_edition (w.editions l) (first_read x.calls l)) (every_in (is_sound c s a) (c.reads o) l all m) in
+      let b = and_parts (w.copied l) (is_edition (w.editions l) (first_read x.calls l)) (every_in (is_sound c s a) (c.reads o) l all m) in
       (b.0, edition_is (w.editions l) (first_read x.calls l) b.1)) in
       let q : Asked s.words a w.editions (c.writes o) t = asked s.words a w.editions (c.writes o) v.machine e
       (λ l m. may x.declared (c.writes o) l may_all m) in
@@ -162,7 +162,7 @@ module _ {X Op Out : Type 0} (c : Content X Op Out) (f : Frame c) where
       cond_both (is_open x.place && (may_write x.declared (c.writes o) && every (is_sound c s a) (c.reads o)))
       (worded s (run (writes_asked a (s.shadows a).editions (c.writes o)) s.words)
       (put s.shadows a (longer (s.shadows a) o)) s.history s.aborted) s (Led c s)
-      (λ t. let b = both (is_open x.place) (may_write x.declared (c.writes o) && every (is_sound c s a) (c.reads o)) t in
-      let d = both (may_write x.declared (c.writes o)) (every (is_sound c s a) (c.reads o)) b.1 in
+      (λ t. let b = and_parts (is_open x.place) (may_write x.declared (c.writes o) && every (is_sound c s a) (c.reads o)) t in
+      let d = and_parts (may_write x.declared (c.writes o)) (every (is_sound c s a) (c.reads o)) b.1 in
       accept_open s a op v (open_is x.place b.0) d.0 d.1)
       (λ _. led_none c s v)

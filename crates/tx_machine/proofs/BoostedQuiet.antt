@@ -3,7 +3,7 @@
 use Rattle.std.proofs.Common.{◌≡◌, ℕ, ◌+◌, ltb, Bool, true, false, Option, Some, None, List, [], ◌∷◌, ◌++◌, ◌⊎◌, inl, inr, refl, sym, ap}
 use Rattle.std.proofs.Common.{◌∙◌, subst, true≢false, eqb-true, eq-eqb}
 use Rattle.std.specs.Prelude.{◌&&◌, ◌||◌, not, ◌==◌, nat_lt, if◌then◌else◌}
-use Rattle.std.proofs.lemmas.Bool.{cases_eq, cases_Bool, cond_both, cond-true, cond-false}
+use Rattle.std.proofs.lemmas.Bool.{cases_eq, cases_Bool, cond_both, cond-true, cond-false, and_parts, not-true}
 use Rattle.tx_sets.specs.Entries.{Entries, lookup, with_entry, locations}
 use Rattle.tx_machine.specs.Actor.{Call, Write, Place, Idle, Begin, Open, Check, First, Store, Release, Leave, Actor, goes, opened}
 use Rattle.tx_machine.specs.Actor.{clock_limit}
@@ -28,24 +28,16 @@ use Rattle.tx_machine.specs.Serial.{IsRead, ended, AllAborted}
 use Rattle.tx_machine.proofs.BoostedInvariant.{Known, SawParts, ShadowOk, GatesOk, Inv}
 use Rattle.tx_machine.proofs.Steady.{Steady, steady, same_to, IsFreeAsk, ask_to, step_steady}
 
-pub both : (a b : Bool) → (a && b) ≡ true → (a ≡ true) × (b ≡ true)
-both true b h = (refl, h)
-both false b h = absurd (true≢false (sym h))
-
-pub not_true : (a : Bool) → not a ≡ true → a ≡ false
-not_true true h = absurd (true≢false (sym h))
-not_true false h = refl
-
 pub every_at : (test : ℕ → Bool) (ls : List ℕ) (l : ℕ) → every test ls ≡ true → Member l ls → test l ≡ true
 every_at test [] l h m = absurd m
 every_at test (k ∷ ks) l h m =
-    let b = both (test k) (every test ks) h in
+    let b = and_parts (test k) (every test ks) h in
     elim m [ inl e ↦ ap test e ∙ b.0 | inr r ↦ every_at test ks l b.1 r ]
 
 pub every_in : (test : ℕ → Bool) (ls : List ℕ) (l : ℕ) → every test ls ≡ true → IsIn l ls → test l ≡ true
 every_in test [] l h m = absurd m
 every_in test (k ∷ ks) l h m =
-    let b = both (test k) (every test ks) h in
+    let b = and_parts (test k) (every test ks) h in
     elim m [ inl e ↦ ap test e ∙ b.0 | inr r ↦ every_in test ks l b.1 r ]
 
 pub actor_is : (a : ℕ) (o : Option ℕ) → is_actor a o ≡ true → o ≡ Some a
@@ -61,7 +53,7 @@ held_gate false a o h f = actor_is a o h
 
 given_gate : (p : Bool) (a : ℕ) (o : Option ℕ) → (p || not (is_actor a o)) ≡ true → p ≡ false → o ≡ Some a → ⊥
 given_gate true a o h f g = true≢false f
-given_gate false a o h f g = true≢false (sym (is_actor_of a o g) ∙ not_true (is_actor a o) h)
+given_gate false a o h f g = true≢false (sym (is_actor_of a o g) ∙ not-true (is_actor a o) h)
 
 pub edition_is : (e : ℕ) (o : Option ℕ) → is_edition e o ≡ true → o ≡ Some e
 edition_is e (Some v) h = ap Some (sym (eqb-true e v h))
@@ -329,9 +321,9 @@ module _ {X Op Out : Type 0} (c : Content X Op Out) where
       cond_both (is_none (s.gates k) && not (is_committing (s.words.actors a).place)) (gated s (put s.gates k (Some a)) s.shadows) s
       (Led c s)
       (λ t.
-      let g = both (is_none (s.gates k)) (not (is_committing (s.words.actors a).place)) t in
+      let g = and_parts (is_none (s.gates k)) (not (is_committing (s.words.actors a).place)) t in
       let free : s.gates k ≡ None = none_is (s.gates k) g.0 in
-      let rests : is_committing (s.words.actors a).place ≡ false = not_true (is_committing (s.words.actors a).place) g.1 in
+      let rests : is_committing (s.words.actors a).place ≡ false = not-true (is_committing (s.words.actors a).place) g.1 in
       gated_ok c s (put s.gates k (Some a)) s.shadows v
       (λ j b m. put_both (λ (z : Option ℕ). z ≡ Some b → s.gates j ≡ Some b) s.gates k (Some a) j
       (λ _ h. absurd (let q : a ≡ b = cc in true≢false (sym m ∙ ap (λ (i : ℕ). is_committing (s.words.actors i).place) (sym q) ∙ rests)))
@@ -350,9 +342,9 @@ module _ {X Op Out : Type 0} (c : Content X Op Out) where
       (cases_Bool (is_copied c calls k which l)) [
         | inr n ↦ n
         | inl t ↦
-            (let b1 = both (which l) (not (c.plain l) && (c.home l == k && is_none (first_read calls l))) t in
-            let b2 = both (not (c.plain l)) (c.home l == k && is_none (first_read calls l)) b1.1 in
-            let b3 = both (c.home l == k) (is_none (first_read calls l)) b2.1 in
+            (let b1 = and_parts (which l) (not (c.plain l) && (c.home l == k && is_none (first_read calls l))) t in
+            let b2 = and_parts (not (c.plain l)) (c.home l == k && is_none (first_read calls l)) b1.1 in
+            let b3 = and_parts (c.home l == k) (is_none (first_read calls l)) b2.1 in
             (let d : Some (w.editions l) ≡ None = sym (g.sets l h).1 ∙ none_is (first_read calls l) b3.1 in cc))
       ] in
       let edition : (l : ℕ) → IsRead c l w.outcomes → (copied c s calls w k which).editions l ≡ w.editions l = λ l h. cond-false
@@ -360,12 +352,12 @@ module _ {X Op Out : Type 0} (c : Content X Op Out) where
       record {
         known = λ l h. elim (cases_Bool (is_copied c calls k which l)) [
           | inl t ↦
-              (let b1 = both (which l) (not (c.plain l) && (c.home l == k && is_none (first_read calls l))) t in
-              let b2 = both (not (c.plain l)) (c.home l == k && is_none (first_read calls l)) b1.1 in
+              (let b1 = and_parts (which l) (not (c.plain l) && (c.home l == k && is_none (first_read calls l))) t in
+              let b2 = and_parts (not (c.plain l)) (c.home l == k && is_none (first_read calls l)) b1.1 in
               subst (λ (e : ℕ). Known c s l e ((copied c s calls w k which).parts l))
               (sym (cond-true (is_copied c calls k which l) (s.editions l) (w.editions l) t))
               (subst (Known c s l (s.editions l)) (sym (cond-true (is_copied c calls k which l) (s.parts l) (w.parts l) t))
-              (v.known l (not_true (c.plain l) b2.0))))
+              (v.known l (not-true (c.plain l) b2.0))))
           | inr n ↦
               (let is : w.copied l ≡ true = sym (cond-false (is_copied c calls k which l) true (w.copied l) n) ∙ h in
               subst (λ (e : ℕ). Known c s l e ((copied c s calls w k which).parts l))
@@ -390,9 +382,9 @@ module _ {X Op Out : Type 0} (c : Content X Op Out) where
       cond_both (is_actor a (s.gates k) && not (is_committing x.place))
       (gated s (put s.gates k None) (if is_open x.place then put s.shadows a w2 else s.shadows)) s (Led c s)
       (λ t.
-      let g = both (is_actor a (s.gates k)) (not (is_committing x.place)) t in
+      let g = and_parts (is_actor a (s.gates k)) (not (is_committing x.place)) t in
       let mine : s.gates k ≡ Some a = actor_is a (s.gates k) g.0 in
-      let rests : is_committing x.place ≡ false = not_true (is_committing x.place) g.1 in
+      let rests : is_committing x.place ≡ false = not-true (is_committing x.place) g.1 in
       gated_ok c s (put s.gates k None) (if is_open x.place then put s.shadows a w2 else s.shadows) v
       (λ j b m. put_both (λ (z : Option ℕ). z ≡ Some b → s.gates j ≡ Some b) s.gates k None j (λ _ h. cc) (λ _ h. h))
       (λ j b m h. put_both (λ (z : Option ℕ). z ≡ Some b) s.gates k None j

@@ -4,6 +4,7 @@ use Rattle.std.specs.Prelude.{◌==◌, if◌then◌else◌}
 use Rattle.std.proofs.lemmas.Bool.{cond-true, cond-false, cases_eq}
 use Rattle.std.proofs.Common.{◌≡◌, ℕ, Some, refl, sym, ap, ◌∙◌, eqb}
 use Rattle.std.proofs.lemmas.Bool.{cond_both}
+use Rattle.std.proofs.lemmas.Option.{same_Some}
 use Rattle.vlock_word.specs.declared.lock_word.LockWord.{LockWord}
 use Rattle.vlock_word.specs.declared.lock_word.LockWord.TheVariants.{Free, Locked}
 use Rattle.vlock_word.specs.LockWord.{bits, unbits}
@@ -11,7 +12,7 @@ use Rattle.vlock_word.proofs.LockWordLemmas.{unbits_bits}
 use Rattle.tx_machine.specs.Actor.{Place, Actor}
 use Rattle.tx_machine.specs.Requests.{Request, ask}
 use Rattle.tx_machine.specs.World.{World, now, exchanged, Deed, Rests, LoadClock, AddToClock, LoadLock, LoadValue, ExchangeLock}
-use Rattle.tx_machine.specs.World.{StoreValue, StoreLock, does, Outcome, GoesOn, Commits, Aborts, noted, plan, step, outcome, happens}
+use Rattle.tx_machine.specs.World.{StoreValue, StoreLock, does, StepEnd, GoesOn, Commits, Aborts, noted, plan, step, step_end, happens}
 use Rattle.tx_machine.specs.World.{Ask}
 use Rattle.tx_machine.specs.Cells.{Cell, ClockCell, LockCell, ValueCell, cell, word_of, becomes, learns}
 use Rattle.tx_machine.proofs.Sets.{put-same, put-other}
@@ -53,7 +54,7 @@ does_cell s a (ExchangeLock l k x y) d ne = exchanged_cell s a l k x y (s.locks 
 does_cell s a (StoreValue l v x) d ne = value_kept s a l v x d ne
 does_cell s a (StoreLock l w x) d ne = lock_kept s a l w x d ne
 
-noted_cell : (s : World) (o : Outcome) (d : Cell) → cell (noted s o) d ≡ cell s d
+noted_cell : (s : World) (o : StepEnd) (d : Cell) → cell (noted s o) d ≡ cell s d
 noted_cell s GoesOn d = refl
 noted_cell s (Commits r) ClockCell = refl
 noted_cell s (Commits r) (LockCell i) = refl
@@ -64,14 +65,10 @@ noted_cell s (Aborts e) (ValueCell i) = refl
 
 pub step_cell : (s : World) (a : ℕ) (x : Actor) (p : Place) (d : Cell) → (word_of (plan x p) ≡ Some d → ⊥) → cell (step s a x p) d
     ≡ cell s d
-step_cell s a x p d ne = noted_cell (does s a (plan x p)) (outcome a x p) d ∙ does_cell s a (plan x p) d ne
+step_cell s a x p d ne = noted_cell (does s a (plan x p)) (step_end a x p) d ∙ does_cell s a (plan x p) d ne
 
 pub ask_cell : (s : World) (a : ℕ) (request : Request) (d : Cell) → cell (happens s (Ask a request)) d ≡ cell s d
 ask_cell s a request d = now_cell s a (ask (s.actors a) (s.actors a).place request) d
-
--- the word that a step touches is determined
-the_cell : (c d : Cell) → Some c ≡ Some d → c ≡ d
-the_cell c d h = cc
 
 none_cell : {A : Type 0} → (d : Cell) → None ≡ Some d → A
 none_cell d h = absurd (let b : ⊥ = cc in b)
@@ -116,41 +113,41 @@ exchanged_learns s a l k x y (Locked j) = put-same s.actors a y
 
 does_becomes : (s : World) (a : ℕ) (deed : Deed) (d : Cell) → word_of deed ≡ Some d → cell (does s a deed) d ≡ becomes deed (cell s d)
 does_becomes s a Rests d h = none_cell d h
-does_becomes s a (LoadClock f) d h = subst (λ (z : Cell). cell (does s a (LoadClock f)) z ≡ cell s z) (the_cell ClockCell d h) refl
-does_becomes s a (AddToClock f) d h = subst (λ (z : Cell). cell (does s a (AddToClock f)) z ≡ cell s z + 1) (the_cell ClockCell d h) refl
-does_becomes s a (LoadLock l f) d h = subst (λ (z : Cell). cell (does s a (LoadLock l f)) z ≡ cell s z) (the_cell (LockCell l) d h) refl
-does_becomes s a (LoadValue l f) d h = subst (λ (z : Cell). cell (does s a (LoadValue l f)) z ≡ cell s z) (the_cell (ValueCell l) d h) refl
+does_becomes s a (LoadClock f) d h = subst (λ (z : Cell). cell (does s a (LoadClock f)) z ≡ cell s z) (same_Some ClockCell d h) refl
+does_becomes s a (AddToClock f) d h = subst (λ (z : Cell). cell (does s a (AddToClock f)) z ≡ cell s z + 1) (same_Some ClockCell d h) refl
+does_becomes s a (LoadLock l f) d h = subst (λ (z : Cell). cell (does s a (LoadLock l f)) z ≡ cell s z) (same_Some (LockCell l) d h) refl
+does_becomes s a (LoadValue l f) d h = subst (λ (z : Cell). cell (does s a (LoadValue l f)) z ≡ cell s z) (same_Some (ValueCell l) d h) refl
 does_becomes s a (ExchangeLock l k x y) d h =
     subst (λ (z : Cell). cell (does s a (ExchangeLock l k x y)) z ≡ (if cell s z == bits (Free k) then bits (Locked k) else cell s z))
-    (the_cell (LockCell l) d h)
+    (same_Some (LockCell l) d h)
     (exchanged_becomes s a l k x y (s.locks l) refl)
-does_becomes s a (StoreValue l v x) d h = subst (λ (z : Cell). cell (does s a (StoreValue l v x)) z ≡ v) (the_cell (ValueCell l) d h)
+does_becomes s a (StoreValue l v x) d h = subst (λ (z : Cell). cell (does s a (StoreValue l v x)) z ≡ v) (same_Some (ValueCell l) d h)
     (put-same s.values l v)
-does_becomes s a (StoreLock l w x) d h = subst (λ (z : Cell). cell (does s a (StoreLock l w x)) z ≡ bits w) (the_cell (LockCell l) d h)
+does_becomes s a (StoreLock l w x) d h = subst (λ (z : Cell). cell (does s a (StoreLock l w x)) z ≡ bits w) (same_Some (LockCell l) d h)
     (ap bits (put-same s.locks l w))
 
 does_learns : (s : World) (a : ℕ) (deed : Deed) (d : Cell) → word_of deed ≡ Some d → (does s a deed).actors a
     ≡ learns deed (s.actors a) (cell s d)
 does_learns s a Rests d h = none_cell d h
-does_learns s a (LoadClock f) d h = put-same s.actors a (f s.clock) ∙ ap (λ (z : Cell). f (cell s z)) (the_cell ClockCell d h)
-does_learns s a (AddToClock f) d h = put-same s.actors a (f s.clock) ∙ ap (λ (z : Cell). f (cell s z)) (the_cell ClockCell d h)
+does_learns s a (LoadClock f) d h = put-same s.actors a (f s.clock) ∙ ap (λ (z : Cell). f (cell s z)) (same_Some ClockCell d h)
+does_learns s a (AddToClock f) d h = put-same s.actors a (f s.clock) ∙ ap (λ (z : Cell). f (cell s z)) (same_Some ClockCell d h)
 does_learns s a (LoadLock l f) d h = put-same s.actors a (f (s.locks l)) ∙ ap f (sym (unbits_bits (s.locks l)))
-    ∙ ap (λ (z : Cell). f (unbits (cell s z))) (the_cell (LockCell l) d h)
-does_learns s a (LoadValue l f) d h = put-same s.actors a (f (s.values l)) ∙ ap (λ (z : Cell). f (cell s z)) (the_cell (ValueCell l) d h)
+    ∙ ap (λ (z : Cell). f (unbits (cell s z))) (same_Some (LockCell l) d h)
+does_learns s a (LoadValue l f) d h = put-same s.actors a (f (s.values l)) ∙ ap (λ (z : Cell). f (cell s z)) (same_Some (ValueCell l) d h)
 does_learns s a (ExchangeLock l k x y) d h = exchanged_learns s a l k x y (s.locks l)
-    ∙ ap (λ (z : Cell). if cell s z == bits (Free k) then x else y) (the_cell (LockCell l) d h)
+    ∙ ap (λ (z : Cell). if cell s z == bits (Free k) then x else y) (same_Some (LockCell l) d h)
 does_learns s a (StoreValue l v x) d h = put-same s.actors a x
 does_learns s a (StoreLock l w x) d h = put-same s.actors a x
 
-noted_actors : (s : World) (o : Outcome) (a : ℕ) → (noted s o).actors a ≡ s.actors a
+noted_actors : (s : World) (o : StepEnd) (a : ℕ) → (noted s o).actors a ≡ s.actors a
 noted_actors s GoesOn a = refl
 noted_actors s (Commits r) a = refl
 noted_actors s (Aborts e) a = refl
 
 pub step_becomes : (s : World) (a : ℕ) (x : Actor) (p : Place) (d : Cell) → word_of (plan x p) ≡ Some d → cell (step s a x p) d
     ≡ becomes (plan x p) (cell s d)
-step_becomes s a x p d h = noted_cell (does s a (plan x p)) (outcome a x p) d ∙ does_becomes s a (plan x p) d h
+step_becomes s a x p d h = noted_cell (does s a (plan x p)) (step_end a x p) d ∙ does_becomes s a (plan x p) d h
 
 pub step_learns : (s : World) (a : ℕ) (x : Actor) (p : Place) (d : Cell) → word_of (plan x p) ≡ Some d → (step s a x p).actors a
     ≡ learns (plan x p) (s.actors a) (cell s d)
-step_learns s a x p d h = noted_actors (does s a (plan x p)) (outcome a x p) a ∙ does_learns s a (plan x p) d h
+step_learns s a x p d h = noted_actors (does s a (plan x p)) (step_end a x p) a ∙ does_learns s a (plan x p) d h

@@ -7,7 +7,7 @@ use Rattle.std.proofs.lemmas.Bool.{cases_Bool, cond_both}
 use Rattle.vlock_word.specs.LockWord.{version_of}
 use Rattle.tx_sets.specs.Entries.{Entries, lookup, locations}
 use Rattle.tx_machine.specs.Actor.{Call, Idle, First, Store, Close, Actor, goes}
-use Rattle.tx_machine.specs.World.{put, Record, World, insert, comes_before, first_outcome, step}
+use Rattle.tx_machine.specs.World.{put, Record, World, insert, comes_before, first_step_end, step}
 use Rattle.tx_machine.proofs.Worlds.{first}
 use Rattle.tx_machine.specs.Opacity.{IsHalfDone, IsInOrder, first_read}
 use Rattle.tx_machine.proofs.Saw.{first_read_seen, first_read_good}
@@ -220,7 +220,7 @@ module _ {X Op Out : Type 0} (c : Content X Op Out) (f : Frame c) where
   first_is s a x (e ∷ es) some = (refl, (locations es, refl), refl, refl)
 
   first_recorded : (s : Boosted X Out) (os : List Out) (a : ℕ) (x : Actor) (ws : Entries) → IsSomeEntry ws
-      → recorded s os (first_outcome a x ws)
+      → recorded s os (first_step_end a x ws)
       ≡ record s {
         history = insert_commit
             (record { word = record { actor = a; number = x.wv; writer = true; calls = x.calls }; outcomes = os }) s.history;

@@ -13,7 +13,7 @@ use Rattle.tx_machine.specs.World.{World, Event, Ask, Step, now, put, step, happ
 use Rattle.tx_machine.proofs.Worlds.{looked, looked_again, to_lock, locked, tried, checked, first, released, undone}
 use Rattle.tx_machine.proofs.Sets.{put-same, put_both}
 use Rattle.tx_machine.proofs.Invariant.{HasBegun, IsKept, Inv}
-use Rattle.tx_machine.proofs.Answered.{step_other}
+use Rattle.tx_machine.proofs.AnswerBound.{step_other}
 
 -- a commit whose clock has moved checks its read set
 pub made : (s : World) (a : ℕ) → (s.actors a).place ≡ Lock [] → (s.actors a).rv ≢ s.clock → ((happens s (Step a)).actors a).place

@@ -4,7 +4,7 @@
 use Rattle.std.proofs.Common.{◌≡◌, ℕ, ◌+◌, ◌≤◌, eqb, leb, true, false, Option, Some, None, List, [], ◌∷◌, ◌⊎◌, inl, inr, refl, sym, ap, ◌∙◌}
 use Rattle.std.proofs.Common.{subst, true≢false, eq-eqb, ne_eqb, le-leb, arith}
 use Rattle.std.specs.Prelude.{◌&&◌, nat_le, if◌then◌else◌}
-use Rattle.std.proofs.lemmas.Bool.{cases_eq, cond_both, cond-true, cond-false}
+use Rattle.std.proofs.lemmas.Bool.{cases_eq, cond_both, cond-true, cond-false, and_parts}
 use Rattle.tx_sets.specs.Entries.{lookup}
 use Rattle.tx_machine.specs.Actor.{Place, Store}
 use Rattle.tx_machine.specs.World.{put, Record}
@@ -20,7 +20,7 @@ use Rattle.tx_machine.proofs.Parts.{changes_only, changes_home}
 use Rattle.tx_machine.proofs.Views.{Knows, Knows-now}
 use Rattle.tx_machine.proofs.BoostedInvariant.{Known, IsFirst, Inv}
 use Rattle.tx_machine.proofs.BoostedFrame.{Keeps, Led, ShadowOk-kept, records_kept, aborted_kept}
-use Rattle.tx_machine.proofs.BoostedQuiet.{led_none, both, actor_is}
+use Rattle.tx_machine.proofs.BoostedQuiet.{led_none, actor_is}
 
 stored_is : (p : Place) → is_stored p ≡ true → p ≡ Store []
 stored_is (Store []) h = refl
@@ -149,6 +149,6 @@ module _ {X Op Out : Type 0} (c : Content X Op Out) (f : Frame c) where
   pub home_led : (s : Boosted X Out) (a k : ℕ) → Inv c s → Led c s (go_home c s a k)
   home_led s a k v =
       cond_both (is_actor a (s.gates k) && is_stored (s.words.actors a).place) (homed c s a k) s (Led c s)
-      (λ t. let b = both (is_actor a (s.gates k)) (is_stored (s.words.actors a).place) t in
+      (λ t. let b = and_parts (is_actor a (s.gates k)) (is_stored (s.words.actors a).place) t in
       homed_led s a k v (actor_is a (s.gates k) b.0) (stored_is (s.words.actors a).place b.1))
       (λ _. led_none c s v)

@@ -11,7 +11,7 @@ pub mod Schedules
 pub mod Cells
 pub mod Alone
 pub mod Progress
-pub mod Answered
+pub mod AnswerBound
 pub mod Short
 pub mod Order
 pub mod Refusals
@@ -32,4 +32,4 @@ pub mod BoostedSchedules
 pub mod Runs
 pub mod States
 pub mod Models
-pub mod Stated
+pub mod SequentialRuns

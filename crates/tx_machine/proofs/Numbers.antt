@@ -14,7 +14,7 @@ use Rattle.tx_machine.specs.Requests.{Request, AskBegin, AskBeginRead, AskLock, 
 use Rattle.tx_machine.specs.Requests.{AskRead, AskWrite, read, write, lock, close, abort, ask}
 use Rattle.tx_machine.specs.World.{Memory, Record, World, Event, Ask, Step, Deed, Rests, LoadClock, AddToClock, LoadLock, LoadValue}
 use Rattle.tx_machine.specs.World.{ExchangeLock, StoreValue, StoreLock, insert, comes_before, now, put, does, exchanged, noted, plan}
-use Rattle.tx_machine.specs.World.{outcome, first_outcome, step, happens, run, start}
+use Rattle.tx_machine.specs.World.{step_end, first_step_end, step, happens, run, start}
 use Rattle.tx_machine.specs.Opacity.{NoWriterHas, whose}
 use Rattle.tx_machine.specs.Refusals.{IsEnding}
 use Rattle.tx_machine.proofs.Worlds.{looked, looked_again, to_lock, locked, tried, checked, first, released, undone}
@@ -23,7 +23,7 @@ use Rattle.tx_machine.proofs.Records.{AllRecords}
 use Rattle.tx_machine.proofs.Invariant.{IsPending, RecordOk, Inv}
 use Rattle.tx_machine.proofs.Frame.{stamp_of}
 use Rattle.tx_machine.proofs.Schedules.{happens_ok, start_ok, reached}
-use Rattle.tx_machine.proofs.Answered.{step_other}
+use Rattle.tx_machine.proofs.AnswerBound.{step_other}
 
 -- within a transaction, and without a number yet
 abbrev pub IsUnnumbered : Place → Type 0
@@ -268,13 +268,13 @@ does_history s a (StoreValue l v y) = refl
 does_history s a (StoreLock l w y) = refl
 
 first_listed : (n a : ℕ) (t : World) (x : Actor) (w : Entries) → (x.wv ≡ n → ⊥) → NoWriterHas n t.history
-    → NoWriterHas n (noted t (first_outcome a x w)).history
+    → NoWriterHas n (noted t (first_step_end a x w)).history
 first_listed n a t x [] f g = g
 first_listed n a t x (e ∷ es) f g = no_writer_insert n (record { actor = a; number = x.wv; writer = true; calls = x.calls }) t.history
     (λ _. f) g
 
 noted_listed : (n a : ℕ) (t : World) (x : Actor) (p : Place) → (p ≡ First → x.wv ≡ n → ⊥) → NoWriterHas n t.history
-    → NoWriterHas n (noted t (outcome a x p)).history
+    → NoWriterHas n (noted t (step_end a x p)).history
 noted_listed n a t x First f g = first_listed n a t x x.writes (f refl) g
 noted_listed n a t x Close f g =
     no_writer_insert n (record { actor = a; number = x.rv; writer = false; calls = x.calls }) t.history

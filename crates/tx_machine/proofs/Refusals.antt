@@ -20,7 +20,7 @@ use Rattle.tx_machine.proofs.Worlds.{looked, looked_again, to_lock, tried, locke
 use Rattle.tx_machine.proofs.Sets.{put-same, put_both}
 use Rattle.tx_machine.proofs.Invariant.{IsSomeEntry, PlaceOk}
 use Rattle.tx_machine.proofs.Quiet.{none_if}
-use Rattle.tx_machine.proofs.Answered.{step_other}
+use Rattle.tx_machine.proofs.AnswerBound.{step_other}
 
 -- each refusal is true
 begin_true : (s : World) (x : Actor) → IsTrue s x Begin (if ltb s.clock clock_limit then Begun s.clock else Exhausted s.clock)

@@ -7,7 +7,7 @@ use Rattle.tx_sets.specs.Entries.{locations}
 use Rattle.tx_machine.specs.Actor.{Place}
 use Rattle.tx_machine.specs.Requests.{Request, AskBegin, AskBeginRead, AskRead, AskWrite, AskLock, AskStore, AskRelease, AskCancel}
 use Rattle.tx_machine.specs.Requests.{AskAbort, AskClose}
-use Rattle.tx_machine.specs.World.{Memory, Outcome, GoesOn, Commits, Aborts, outcome, put, World, step, Event, Ask, Step, happens, run}
+use Rattle.tx_machine.specs.World.{Memory, StepEnd, GoesOn, Commits, Aborts, step_end, put, World, step, Event, Ask, Step, happens, run}
 use Rattle.tx_machine.specs.Opacity.{NoWriterHas}
 use Rattle.tx_machine.specs.Refusals.{IsEnding}
 use Rattle.tx_machine.proofs.Numbers as machine
@@ -25,7 +25,7 @@ run-append : (es fs : List Event) (s : World) → run (es ++ fs) s ≡ run fs (r
 run-append [] fs s = refl
 run-append (e ∷ es) fs s = run-append es fs (happens s e)
 
-pub recorded_words : {X Out : Type 0} → (s : Boosted X Out) (os : List Out) (o : Outcome) → (recorded s os o).words ≡ s.words
+pub recorded_words : {X Out : Type 0} → (s : Boosted X Out) (os : List Out) (o : StepEnd) → (recorded s os o).words ≡ s.words
 recorded_words s os GoesOn = refl
 recorded_words s os (Commits r) = refl
 recorded_words s os (Aborts e) = refl
@@ -52,7 +52,7 @@ module _ {X Op Out : Type 0} (c : Content X Op Out) where
 
   step_is : (s : Boosted X Out) (a : ℕ) (p : Place) → (word_step s a (s.words.actors a) p).words ≡ step s.words a (s.words.actors a) p
   step_is s a p = recorded_words (record s { words = step s.words a (s.words.actors a) p; shadows = shadows_after s a p })
-      (s.shadows a).outcomes (outcome a (s.words.actors a) p)
+      (s.shadows a).outcomes (step_end a (s.words.actors a) p)
 
   act_runs : (s : Boosted X Out) (e : Action Op) → Runs s.words (acts c s e)
   act_runs s (OnWords (Ask a r)) = ask_runs s a r

@@ -17,7 +17,7 @@ use Rattle.tx_machine.proofs.Sets.{put-same, put_both}
 use Rattle.tx_machine.proofs.Invariant.{PlaceOk, Inv}
 use Rattle.tx_machine.proofs.Schedules.{happens_ok, start_ok}
 use Rattle.tx_machine.proofs.Progress.{length-locations, few_to_check}
-use Rattle.tx_machine.proofs.Answered.{step_other}
+use Rattle.tx_machine.proofs.AnswerBound.{step_other}
 
 -- the locks held, and those still to come
 abbrev Short : Actor → Place → Type 0

@@ -7,7 +7,7 @@ use Rattle.tx_sets.specs.Entries.{Entries, lookup}
 use Rattle.tx_machine.specs.Actor.{Place, Idle, Broken, Store, Actor, goes, seen, seen_again, seen_to_lock, taken, stamped_at}
 use Rattle.tx_machine.specs.Actor.{seen_in_check, freed}
 use Rattle.tx_machine.specs.World.{Memory, put, World, insert, now, does, noted, exchanged, first_store, release, undo, StoreValue}
-use Rattle.tx_machine.specs.World.{StoreLock, first_outcome}
+use Rattle.tx_machine.specs.World.{StoreLock, first_step_end}
 
 abbrev pub looked : World → ℕ → Actor → ℕ → LockWord → World
 looked s a x l w = now s a (seen x l w)
@@ -38,7 +38,7 @@ commits s a x values ls =
     }
 
 abbrev pub first : World → ℕ → Actor → Entries → World
-first s a x w = noted (does s a (first_store x w)) (first_outcome a x w)
+first s a x w = noted (does s a (first_store x w)) (first_step_end a x w)
 
 abbrev pub stored : World → ℕ → Actor → ℕ → List ℕ → World
 stored s a x l ls = does s a (StoreValue l (unwrap_or (lookup x.writes l) 0) (goes x (Store ls)))

@@ -4,8 +4,8 @@ use Rattle.std.specs.Prelude.{if◌then◌else◌}
 use Rattle.tx_sets.specs.Entries.{lookup, locations}
 use Rattle.tx_machine.specs.Actor.{Call, Place, Begin, Open, First, Store, Release, Actor, clock_limit}
 use Rattle.tx_machine.specs.Requests.{Request, AskStore, AskRelease, AskWrite, ask}
-use Rattle.tx_machine.specs.World.{Memory, Record, Ended, World, Event, Ask, Step, Outcome, GoesOn, Commits, Aborts, put, comes_before}
-use Rattle.tx_machine.specs.World.{now, outcome, step, run, start}
+use Rattle.tx_machine.specs.World.{Memory, Record, Ended, World, Event, Ask, Step, StepEnd, GoesOn, Commits, Aborts, put, comes_before}
+use Rattle.tx_machine.specs.World.{now, step_end, step, run, start}
 use Rattle.tx_machine.specs.Opacity.{first_read}
 use Rattle.tx_machine.specs.Content.{Content}
 
@@ -103,14 +103,14 @@ shadows_after s a Begin = if nat_lt s.words.clock clock_limit then put s.shadows
 shadows_after s a p = s.shadows
 
 -- the transaction that a step of the words ends, with its outcomes
-abbrev pub recorded : {X Out : Type 0} → Boosted X Out → List Out → Outcome → Boosted X Out
+abbrev pub recorded : {X Out : Type 0} → Boosted X Out → List Out → StepEnd → Boosted X Out
 recorded s os GoesOn = s
 recorded s os (Commits r) = record s { history = insert_commit (record { word = r; outcomes = os }) s.history }
 recorded s os (Aborts e) = record s { aborted = s.aborted ++ record { word = e; outcomes = os } ∷ [] }
 
 -- the next atomic step of the words
 abbrev pub word_step : {X Out : Type 0} → Boosted X Out → ℕ → Actor → Place → Boosted X Out
-word_step s a x p = recorded (record s { words = step s.words a x p; shadows = shadows_after s a p }) (s.shadows a).outcomes (outcome a x p)
+word_step s a x p = recorded (record s { words = step s.words a x p; shadows = shadows_after s a p }) (s.shadows a).outcomes (step_end a x p)
 
 -- other gates and shadows
 abbrev pub gated : {X Out : Type 0} → Boosted X Out → (ℕ → Option ℕ) → (ℕ → Shadow X Out) → Boosted X Out

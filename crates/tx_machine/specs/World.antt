@@ -127,32 +127,32 @@ does s a (StoreValue l v after) = record (now s a after) { values = put s.values
 does s a (StoreLock l w after) = record (now s a after) { locks = put s.locks l w }
 
 -- Whether a step ends its transaction.
-pub data Outcome : Type 0 where
-  GoesOn : Outcome
-  Commits : (r : Record) → Outcome
-  Aborts : (e : Ended) → Outcome
+pub data StepEnd : Type 0 where
+  GoesOn : StepEnd
+  Commits : (r : Record) → StepEnd
+  Aborts : (e : Ended) → StepEnd
 
 -- a writer commits by its first value store
-abbrev pub first_outcome : ℕ → Actor → Entries → Outcome
-first_outcome a x [] = GoesOn
-first_outcome a x (e ∷ es) = Commits (record { actor = a; number = x.wv; writer = true; calls = x.calls })
+abbrev pub first_step_end : ℕ → Actor → Entries → StepEnd
+first_step_end a x [] = GoesOn
+first_step_end a x (e ∷ es) = Commits (record { actor = a; number = x.wv; writer = true; calls = x.calls })
 
 -- a reader commits by the load of the clock that ends it
-abbrev pub outcome : ℕ → Actor → Place → Outcome
-outcome a x First = first_outcome a x x.writes
-outcome a x Close = Commits (record { actor = a; number = x.rv; writer = false; calls = x.calls })
-outcome a x Leave = Aborts (record { actor = a; rv = x.rv; calls = x.calls })
-outcome a x p = GoesOn
+abbrev pub step_end : ℕ → Actor → Place → StepEnd
+step_end a x First = first_step_end a x x.writes
+step_end a x Close = Commits (record { actor = a; number = x.rv; writer = false; calls = x.calls })
+step_end a x Leave = Aborts (record { actor = a; rv = x.rv; calls = x.calls })
+step_end a x p = GoesOn
 
 -- the world that has taken note of it
-abbrev pub noted : World → Outcome → World
+abbrev pub noted : World → StepEnd → World
 noted s GoesOn = s
 noted s (Commits r) = record s { history = insert r s.history }
 noted s (Aborts e) = record s { aborted = s.aborted ++ e ∷ [] }
 
 -- the next atomic step of actor a, which is x and stands at this place
 abbrev pub step : World → ℕ → Actor → Place → World
-step s a x p = noted (does s a (plan x p)) (outcome a x p)
+step s a x p = noted (does s a (plan x p)) (step_end a x p)
 
 -- A request of an actor, or its next atomic step.
 pub data Event : Type 0 where

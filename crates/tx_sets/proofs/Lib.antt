@@ -1,3 +1,3 @@
 pub mod EntryLemmas
 mod LinkLemmas
-pub mod PlaceLemmas
+pub mod PositionLemmas

@@ -5,10 +5,10 @@ use Rattle.std.proofs.Common.{arith, inl, inr, Ok, Err}
 use Rattle.std.specs.List.{insert}
 use Rattle.std.proofs.lemmas.Bool.{cases_eq}
 use Rattle.std.proofs.lemmas.List.{get_or-set_same, get_or-set_other, get_or_append_left, get_or_at, length-append}
-use Rattle.tx_sets.specs.AccessSet.{AreLinked, HasLinks, HaveSameLocations, IsHead, IsLast, IsPlaceOf, chain_of}
+use Rattle.tx_sets.specs.AccessSet.{AreLinked, HasLinks, HaveSameLocations, IsHead, IsLast, IsPositionOf, chain_of}
 use Rattle.tx_sets.specs.declared.access_set.TheConstants.{LOCATION_LIMIT, CHAINS}
 use Rattle.tx_sets.specs.Entries.{Entries, lookup, with_entry, IsRising}
-use Rattle.tx_sets.proofs.PlaceLemmas.{lookup_there, orderly_there, orderly_new, put_new, write_there}
+use Rattle.tx_sets.proofs.PositionLemmas.{lookup_there, orderly_there, orderly_new, put_new, write_there}
 use Rattle.tx_sets.proofs.EntryLemmas.{lookup-nil, lookup-with_entry_same, lookup-with_entry_other}
 
 -- a set without entries
@@ -130,7 +130,7 @@ newly_same es links l v b same k =
 
 -- an entry whose location is linked
 pub links_there : (es : Entries) (heads : List ℕ) (links : Entries) (l v i : ℕ) (d : ℕ × ℕ) → HasLinks heads links es
-    → IsPlaceOf l es (Ok i) → d ≡ get_or es i d → HasLinks heads links (set es i (d.0, v))
+    → IsPositionOf l es (Ok i) → d ≡ get_or es i d → HasLinks heads links (set es i (d.0, v))
 links_there es heads links l v i d are place is =
     let found = lookup_there es l i d are.orderly.rising place.0 place.1 in
     record {
@@ -144,7 +144,7 @@ links_there es heads links l v i d are place is =
 
 -- a new entry, whose location is then linked
 pub links_new : (es fs gs : Entries) (heads : List ℕ) (links more : Entries) (l v i q b m : ℕ) → HasLinks heads links es
-    → q ≡ chain_of l → q < length heads → IsPlaceOf l es (Err i) → fs ≡ es → gs ≡ insert fs i (l, v) → length es < LOCATION_LIMIT
+    → q ≡ chain_of l → q < length heads → IsPositionOf l es (Err i) → fs ≡ es → gs ≡ insert fs i (l, v) → length es < LOCATION_LIMIT
     → IsLast links q (length links) b → m ≡ length links + 1 → more ≡ links ++ (l, b) ∷ [] → HasLinks (set heads q m) more gs
 links_new es fs gs heads links more l v i q b m are at inside place same is fewer last end put =
     let within : chain_of l < length heads = omega (arith, inside, at) in

@@ -57,7 +57,7 @@ abbrev pub LacksRoom : SetView → ℕ → Type 0
 LacksRoom set location = (lookup set.entries location ≡ None) × (set.room ≡ 0)
 
 -- what a search for a location answers: where its entry is, or where it would go
-abbrev pub IsPlaceOf : ℕ → Entries → Result ℕ ℕ → Type 0
-IsPlaceOf location es place =
+abbrev pub IsPositionOf : ℕ → Entries → Result ℕ ℕ → Type 0
+IsPositionOf location es place =
     MatchResult place (λ i. (i < length es) × HoldsAt (λ e. e.0 ≡ location) es i)
     (λ i. (i ≤ length es) × IsPartitionPoint (λ e. e.0 < location) (λ e. location < e.0) es i)

@@ -3,7 +3,7 @@ ghost use Rattle.std.specs.Prelude.{◌≡◌, ◌↔◌, ◌+◌, ◌<◌, ◌�
 ghost use Rattle.std.specs.Prelude.{Err, IfErr, IsOk, IsSome, None, Ok, OnErr, OnOk};
 ghost use Rattle.std.specs.Vec.{vec_capacity, vec_len};
 ghost use Rattle.tx_sets.specs.Entries.{IsRising, lookup, with_entry};
-ghost use Rattle.tx_sets.specs.AccessSet.{AreLinked, AreOrderly, IsBeyondLimit, IsHead, IsLast, IsPlaceOf, LacksLink, LacksRoom};
+ghost use Rattle.tx_sets.specs.AccessSet.{AreLinked, AreOrderly, IsBeyondLimit, IsHead, IsLast, IsPositionOf, LacksLink, LacksRoom};
 ghost use Rattle.tx_sets.specs.AccessSet.{chain_of};
 ghost use Rattle.tx_sets.specs.declared.set_refusal.SetRefusal.TheVariants.{Memory as OutOfMemory, TooLong};
 
@@ -43,10 +43,10 @@ pub type WriteSet = AccessSet<Writes>;
 /// A finite map from locations to values, of at most `LOCATION_LIMIT` entries.
 pub struct AccessSet<Role> {
     entries: Vec<(u32, u64)>,
-    // The locations as they were put, each with one more than the place of the one before it in its
+    // The locations as they were put, each with one more than the position of the one before it in its
     // chain, or 0. `find` searches the entries for these alone.
     links: Vec<(u32, u16)>,
-    // Of each chain that has a location, one more than the place of its last one. What stands for
+    // Of each chain that has a location, one more than the position of its last one. What stands for
     // the other chains says nothing, so `clear` leaves it.
     heads: [u16; CHAINS],
     // Where the location is that was sought last, or where it would go.
@@ -127,7 +127,7 @@ impl<Role> AccessSet<Role> {
         if !self.contains(location) {
             return None;
         }
-        value_in(&self.entries, location, self.place_of(location))
+        value_in(&self.entries, location, self.position_of(location))
     }
 
     /// The value of a location, like `find`. A `put` of it that comes next searches no more.
@@ -135,7 +135,7 @@ impl<Role> AccessSet<Role> {
         ensures found { result ≡ lookup self.old.entries location }
         ensures same { self.new ≡ self.old }
     {
-        let place = self.place_of(location);
+        let place = self.position_of(location);
         self.sought = match place {
             Ok(at) => at,
             Err(at) => at,
@@ -158,7 +158,7 @@ impl<Role> AccessSet<Role> {
         ensures room { self.old.room ≤ self.new.room + 1 }
         ensures room_there { IsSome (lookup self.old.entries location) → self.new.room ≡ self.old.room }
     {
-        match self.place_to_put(location) {
+        match self.position_to_put(location) {
             Ok(at) => self.entries[at].1 = value,
             Err(at) => {
                 if self.entries.len() >= LOCATION_LIMIT {
@@ -200,23 +200,23 @@ impl<Role> AccessSet<Role> {
 
     // Where the location is, or where it would go. Locations often come in rising order, so the
     // end is tried first.
-    fn place_of(&self, location: u32) -> Result<usize, usize>
-        ensures { IsPlaceOf location self.now.entries result }
+    fn position_of(&self, location: u32) -> Result<usize, usize>
+        ensures { IsPositionOf location self.now.entries result }
     {
         let count = self.entries.len();
         if count == 0 || self.entries[count - 1].0 < location {
             return Err(count);
         }
         if count <= FEW {
-            return place_among_few(&self.entries, location);
+            return position_among_few(&self.entries, location);
         }
         self.entries
             .binary_search_by_key(&location, |entry| entry.0)
     }
 
     // The same, without a search where the location was sought just before.
-    fn place_to_put(&self, location: u32) -> Result<usize, usize>
-        ensures { IsPlaceOf location self.now.entries result }
+    fn position_to_put(&self, location: u32) -> Result<usize, usize>
+        ensures { IsPositionOf location self.now.entries result }
     {
         if is_at(&self.entries, location, self.sought) {
             return Ok(self.sought);
@@ -224,14 +224,14 @@ impl<Role> AccessSet<Role> {
         if goes_to(&self.entries, location, self.sought) {
             return Err(self.sought);
         }
-        self.place_of(location)
+        self.position_of(location)
     }
 }
 
 // The value of a location that was sought.
 fn value_in(entries: &[(u32, u64)], location: u32, place: Result<usize, usize>) -> Option<u64>
     requires rising { IsRising entries.now }
-    requires place { IsPlaceOf location entries.now place }
+    requires place { IsPositionOf location entries.now place }
     ensures { result ≡ lookup entries.now location }
 {
     match place {
@@ -242,15 +242,15 @@ fn value_in(entries: &[(u32, u64)], location: u32, place: Result<usize, usize>) 
 
 // Whether a location is there.
 fn is_at(entries: &[(u32, u64)], location: u32, at: usize) -> bool
-    ensures { result ≡ true → IsPlaceOf location entries.now (Ok at) }
+    ensures { result ≡ true → IsPositionOf location entries.now (Ok at) }
 {
     at < entries.len() && entries[at].0 == location
 }
 
-// Whether a location goes there: it is above the entry before that place, and below the one after it.
+// Whether a location goes there: it is above the entry before that position, and below the one after it.
 fn goes_to(entries: &[(u32, u64)], location: u32, at: usize) -> bool
     requires { IsRising entries.now }
-    ensures { result ≡ true → IsPlaceOf location entries.now (Err at) }
+    ensures { result ≡ true → IsPositionOf location entries.now (Err at) }
 {
     if at > entries.len() {
         return false;
@@ -264,11 +264,11 @@ fn goes_to(entries: &[(u32, u64)], location: u32, at: usize) -> bool
     true
 }
 
-// The place of a location by the number of entries below it. All entries are compared, but no
+// The position of a location by the number of entries below it. All entries are compared, but no
 // comparison decides which is next, as in a search by halves, where the processor guesses wrongly.
-fn place_among_few(entries: &[(u32, u64)], location: u32) -> Result<usize, usize>
+fn position_among_few(entries: &[(u32, u64)], location: u32) -> Result<usize, usize>
     requires { IsRising entries.now }
-    ensures { IsPlaceOf location entries.now result }
+    ensures { IsPositionOf location entries.now result }
 {
     let at = count_below(entries, location);
     if at < entries.len() && entries[at].0 == location {
@@ -312,7 +312,7 @@ fn chain_of(location: u32) -> usize
     (location.wrapping_mul(SPREAD) / 0x100_0000) as usize
 }
 
-// One more than the place of the last location of this chain, or 0. The head of the chain may be
+// One more than the position of the last location of this chain, or 0. The head of the chain may be
 // that of an earlier transaction.
 #[inline(always)]
 fn last_of(links: &[(u32, u16)], chain: usize, head: u16) -> u16

@@ -7,9 +7,9 @@
 //!
 //! Both sets are finite maps from locations to values, kept as one list of entries in the order of
 //! the locations. Locations often come in rising order: a new one then goes to the end of the list,
-//! and no search is made. Else, among a few entries, as most transactions have, the place of a
+//! and no search is made. Else, among a few entries, as most transactions have, the position of a
 //! location is the number of entries below it, counted without a branch; among more it is found by
-//! halves. A set keeps the place that was sought last, so a location that is put right after it was
+//! halves. A set keeps the position that was sought last, so a location that is put right after it was
 //! sought is not searched again. And it keeps its locations once more, as they were put, in 256 chains of
 //! links: `contains` walks along one, and `find` searches the entries for a location that is there
 //! and for no other. TL2 has a filter there, which takes some locations for others. A set that is

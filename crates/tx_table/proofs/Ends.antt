@@ -32,7 +32,7 @@ use Rattle.replay_log.specs.WorldTraces.{is_half_done}
 use Rattle.actor_laws.specs.Own.{Alike}
 use Rattle.actor_laws.proofs.Alike.{alike_same}
 use Rattle.tx_table.specs.Turns.{Turn, stage_of, lone}
-use Rattle.tx_table.specs.Shown.{View, Slot, total, owed, Table, IsJoined, IsOwn, IsSpent, Rule, Shows, left_of, right_of}
+use Rattle.tx_table.specs.Shown.{SeatKnowledge, Slot, total, owed, Table, IsJoined, IsOwn, IsSpent, Rule, Shows, left_of, right_of}
 use Rattle.tx_table.specs.Shown.{HasReceipts, aborted_by, both_of, only_by, spent_of}
 use Rattle.seq_model.specs.declared.record.Record.{Record}
 use Rattle.tx_table.specs.Shown.{Closes, IsOpening, ShowsWorld, first}
@@ -43,26 +43,26 @@ use Rattle.tx_table.proofs.Left.{shows_left, suit_within}
 use Rattle.tx_machine.specs.Actor.{clock_limit}
 
 module _ {V : Type 0} where
-  pub splits : (o w : World V) (id k : ℕ) (v : View V) → IsOpening o → 0 < k → k < v.shares → Splits (Shows o w) id v (left_of k v)
+  pub splits : (o w : World V) (id k : ℕ) (v : SeatKnowledge V) → IsOpening o → 0 < k → k < v.shares → Splits (Shows o w) id v (left_of k v)
       (right_of k v)
   splits o w id k v opening some_shares fewer s S here =
-      let vs : List (View V) = s.views in
-      let x : View V = left_of k v in
-      let y : View V = right_of k v in
-      let new : List (View V) = set vs id x ++ y ∷ [] in
+      let vs : List (SeatKnowledge V) = s.views in
+      let x : SeatKnowledge V = left_of k v in
+      let y : SeatKnowledge V = right_of k v in
+      let new : List (SeatKnowledge V) = set vs id x ++ y ∷ [] in
       let len : length (set vs id x) ≡ length vs = length-set vs id x in
       let fresh_there : IsOwn (length vs) w o = S.fresh (length vs) (omega arith) in
-      let same : (f : View V → ℕ) → f x + f y ≡ f v → total f new ≡ total f vs =
+      let same : (f : SeatKnowledge V → ℕ) → f x + f y ≡ f v → total f new ≡ total f vs =
       λ f e. (let p = total_set f vs id v x here in let q = total_snoc f (set vs id x) y in omega arith) in
-      let cases : (P : ℕ → View V → Type 0) → P id x → P (length vs) y → ((j : ℕ) (u : View V) → get_elem? vs j ≡ some u → P j u)
-      → (j : ℕ) (u : View V) → get_elem? new j ≡ some u → P j u =
+      let cases : (P : ℕ → SeatKnowledge V → Type 0) → P id x → P (length vs) y → ((j : ℕ) (u : SeatKnowledge V) → get_elem? vs j ≡ some u → P j u)
+      → (j : ℕ) (u : SeatKnowledge V) → get_elem? new j ≡ some u → P j u =
       λ P px py old j u e. ⊎_elim
       (λ (t : get_elem? (set vs id x) j ≡ some u). ⊎_elim
-      (λ (q : (j ≡ id) × (x ≡ u)). subst (λ (z : ℕ × View V). P z.0 z.1) (λ i. (sym q.0 i, q.1 i)) px)
+      (λ (q : (j ≡ id) × (x ≡ u)). subst (λ (z : ℕ × SeatKnowledge V). P z.0 z.1) (λ i. (sym q.0 i, q.1 i)) px)
       (λ (q : (j ≢ id) × (get_elem? vs j ≡ some u)). old j u q.1) (at_set vs id j x u t))
-      (λ (t : (j ≡ length (set vs id x)) × (y ≡ u)). subst (λ (z : ℕ × View V). P z.0 z.1) (λ i. (sym (t.0 ∙ len) i, t.1 i)) py)
+      (λ (t : (j ≡ length (set vs id x)) × (y ≡ u)). subst (λ (z : ℕ × SeatKnowledge V). P z.0 z.1) (λ i. (sym (t.0 ∙ len) i, t.1 i)) py)
       (at_end (set vs id x) y u j e) in
-      let kept : (j : ℕ) (u : View V) → get_elem? vs j ≡ some u → All (IsJoined new) u.joined =
+      let kept : (j : ℕ) (u : SeatKnowledge V) → get_elem? vs j ≡ some u → All (IsJoined new) u.joined =
       λ j u e i d lt. (let q = still_joined vs id v x (get_or u.joined i d) here (λ none. absurd (omega arith)) (S.joined j u e i d lt) in
       (q.0, in_front (set vs id x) (y ∷ []) (get_or u.joined i d).0 q.0 q.1, q.2, q.3)) in
       record {
@@ -92,30 +92,30 @@ module _ {V : Type 0} where
             (λ _ h. (let none : total h o.records ≡ 0 = ap (total h) opening.records in omega arith)) S.earned;
       }
 
-  pub joins : (o w : World V) (id other : ℕ) (v u : View V) → 0 < v.shares → 0 < u.shares
+  pub joins : (o w : World V) (id other : ℕ) (v u : SeatKnowledge V) → 0 < v.shares → 0 < u.shares
       → is_half_done (stage_of (lone other o u.turns) other) ≡ false
       → ((k : ℕ) → is_actor other ((lone other o u.turns).boosted.gates k) ≡ false)
       → Joins (Shows o w) id v other u (both_of v other u) (spent_of u)
   joins o w id other v u some_shares more done bare s S here apart there₁ =
-      let vs : List (View V) = s.views in
-      let x : View V = both_of v other u in
-      let y : View V = spent_of u in
-      let mid : List (View V) = set vs id x in
-      let new : List (View V) = set mid other y in
+      let vs : List (SeatKnowledge V) = s.views in
+      let x : SeatKnowledge V = both_of v other u in
+      let y : SeatKnowledge V = spent_of u in
+      let mid : List (SeatKnowledge V) = set vs id x in
+      let new : List (SeatKnowledge V) = set mid other y in
       let there₂ : get_elem? vs other ≡ some u = ⊎_elim (λ (t : (other ≡ id) × (x ≡ u)). absurd (apart t.0))
       (λ (t : (other ≢ id) × (get_elem? vs other ≡ some u)). t.1) (at_set vs id other x u there₁) in
       let len : length new ≡ length vs = length-set mid other y ∙ length-set vs id x in
-      let same : (f : View V → ℕ) → f x + f y ≡ f v + f u → total f new ≡ total f vs =
+      let same : (f : SeatKnowledge V → ℕ) → f x + f y ≡ f v + f u → total f new ≡ total f vs =
       λ f e. (let p = total_set f vs id v x here in let q = total_set f mid other u y there₁ in omega arith) in
-      let cases : (P : ℕ → View V → Type 0) → P id x → P other y → ((j : ℕ) (q : View V) → get_elem? vs j ≡ some q → P j q)
-      → (j : ℕ) (q : View V) → get_elem? new j ≡ some q → P j q =
+      let cases : (P : ℕ → SeatKnowledge V → Type 0) → P id x → P other y → ((j : ℕ) (q : SeatKnowledge V) → get_elem? vs j ≡ some q → P j q)
+      → (j : ℕ) (q : SeatKnowledge V) → get_elem? new j ≡ some q → P j q =
       λ P px pn old j q e. ⊎_elim
-      (λ (t : (j ≡ other) × (y ≡ q)). subst (λ (z : ℕ × View V). P z.0 z.1) (λ i. (sym t.0 i, t.1 i)) pn)
+      (λ (t : (j ≡ other) × (y ≡ q)). subst (λ (z : ℕ × SeatKnowledge V). P z.0 z.1) (λ i. (sym t.0 i, t.1 i)) pn)
       (λ (t : (j ≢ other) × (get_elem? mid j ≡ some q)). ⊎_elim
-      (λ (k : (j ≡ id) × (x ≡ q)). subst (λ (z : ℕ × View V). P z.0 z.1) (λ i. (sym k.0 i, k.1 i)) px)
+      (λ (k : (j ≡ id) × (x ≡ q)). subst (λ (z : ℕ × SeatKnowledge V). P z.0 z.1) (λ i. (sym k.0 i, k.1 i)) px)
       (λ (k : (j ≢ id) × (get_elem? vs j ≡ some q)). old j q k.1) (at_set vs id j x q t.1))
       (at_set mid other j y q e) in
-      let kept : (j : ℕ) (q : View V) → get_elem? vs j ≡ some q → All (IsJoined new) q.joined =
+      let kept : (j : ℕ) (q : SeatKnowledge V) → get_elem? vs j ≡ some q → All (IsJoined new) q.joined =
       λ j q e i d lt.
       still_joined mid other u y (get_or q.joined i d) there₁ (λ none. absurd (omega arith))
       (still_joined vs id v x (get_or q.joined i d) here (λ none. absurd (omega arith)) (S.joined j q e i d lt)) in
@@ -152,15 +152,15 @@ module _ {V : Type 0} where
       }
 
   -- a seat with all shares leaves none to the others
-  spent_at : (o : World V) (id : ℕ) (v : View V) (s : State (Slot V) (View V)) → Rule o s
-      → get_elem? s.views id ≡ some v → v.shares ≡ SHARES → (j : ℕ) (u : View V) → j ≢ id → get_elem? s.views j ≡ some u → u.shares ≡ 0
+  spent_at : (o : World V) (id : ℕ) (v : SeatKnowledge V) (s : State (Slot V) (SeatKnowledge V)) → Rule o s
+      → get_elem? s.views id ≡ some v → v.shares ≡ SHARES → (j : ℕ) (u : SeatKnowledge V) → j ≢ id → get_elem? s.views j ≡ some u → u.shares ≡ 0
   spent_at o id v s rule here all j u ne e =
-      let p = total_two (λ (z : View V). z.shares) s.views id j v u here e ne in let q = rule.shows.shares in omega (arith, p, q, all)
+      let p = total_two (λ (z : SeatKnowledge V). z.shares) s.views id j v u here e ne in let q = rule.shows.shares in omega (arith, p, q, all)
 
   -- what holds then of the lone world of its actor, of those of seats that were joined, and of the opening, holds of every actor
-  every : (o : World V) (id : ℕ) (v : View V) (s : State (Slot V) (View V)) (rule : Rule o s) → get_elem? s.views id ≡ some v
+  every : (o : World V) (id : ℕ) (v : SeatKnowledge V) (s : State (Slot V) (SeatKnowledge V)) (rule : Rule o s) → get_elem? s.views id ≡ some v
       → v.shares ≡ SHARES → (P : World V → ℕ → Type 0) → ((a : ℕ) (x y : World V) → Alike a x y → P y a → P x a)
-      → P (lone id o v.turns) id → ((j : ℕ) (u : View V) → IsSpent o j u → P (lone j o u.turns) j) → ((a : ℕ) → P o a) → (a : ℕ)
+      → P (lone id o v.turns) id → ((j : ℕ) (u : SeatKnowledge V) → IsSpent o j u → P (lone j o u.turns) j) → ((a : ℕ) → P o a) → (a : ℕ)
       → P (run o rule.events) a
   every o id v s rule here all P by mine other new a = dite (ℕ_discrete a id)
       (λ e. subst (P (run o rule.events)) (sym e) (by id (run o rule.events) (lone id o v.turns) (rule.shows.own id v here).alike mine))
@@ -170,7 +170,7 @@ module _ {V : Type 0} where
       (λ no. by a (run o rule.events) o (rule.shows.fresh a (omega (arith, no))).alike (new a)))
 
   -- and where it holds no gate, none is held
-  all_free : (o : World V) (id : ℕ) (v : View V) (s : State (Slot V) (View V)) (rule : Rule o s) → IsOpening o
+  all_free : (o : World V) (id : ℕ) (v : SeatKnowledge V) (s : State (Slot V) (SeatKnowledge V)) (rule : Rule o s) → IsOpening o
       → get_elem? s.views id ≡ some v → v.shares ≡ SHARES → ((k : ℕ) → is_actor id ((lone id o v.turns).boosted.gates k) ≡ false)
       → (k : ℕ) → (run o rule.events).boosted.gates k ≡ None
   all_free o id v s rule start here all bare k = by_gate ((run o rule.events).boosted.gates k) refl
@@ -184,12 +184,12 @@ module _ {V : Type 0} where
       by_gate (Some j) e = absurd (true≢false (sym (eq-eqb j j refl) ∙ (sym (ap (is_actor j) e) ∙ none_has j)))
 
   -- the receipts of a seat that has all shares are all records
-  all_records : (o : World V) (id : ℕ) (v : View V) (s : State (Slot V) (View V)) (rule : Rule o s) → get_elem? s.views id ≡ some v
+  all_records : (o : World V) (id : ℕ) (v : SeatKnowledge V) (s : State (Slot V) (SeatKnowledge V)) (rule : Rule o s) → get_elem? s.views id ≡ some v
       → v.shares ≡ SHARES → (h : ℕ × Record V → ℕ) → total h v.receipts ≡ total h (run o rule.events).records
-  all_records o id v s rule here all h = sym (total_alone (λ (z : View V). total h z.receipts) s.views id v here
+  all_records o id v s rule here all h = sym (total_alone (λ (z : SeatKnowledge V). total h z.receipts) s.views id v here
       (λ j u ne e. ap (total h) (rule.shows.spent j u e (spent_at o id v s rule here all j u ne e)).receipts)) ∙ rule.shows.receipts h
 
-  pub shows_world : (o : World V) (id : ℕ) (v : View V) (s : State (Slot V) (View V)) → Rule o s → IsOpening o
+  pub shows_world : (o : World V) (id : ℕ) (v : SeatKnowledge V) (s : State (Slot V) (SeatKnowledge V)) → Rule o s → IsOpening o
       → get_elem? s.views id ≡ some v → v.shares ≡ SHARES → ((k : ℕ) → is_actor id ((lone id o v.turns).boosted.gates k) ≡ false)
       → ShowsWorld o id v s.words s.homes
   shows_world o id v s rule start here all bare = record {
@@ -203,7 +203,7 @@ module _ {V : Type 0} where
     bases = λ k low. (rule.shows.table.slots k low).0 (all_free o id v s rule start here all bare k);
   }
 
-  pub closes : (o : World V) (opening : Contents V) (id : ℕ) (v : View V) (s : State (Slot V) (View V)) (rule : Rule o s)
+  pub closes : (o : World V) (opening : Contents V) (id : ℕ) (v : SeatKnowledge V) (s : State (Slot V) (SeatKnowledge V)) (rule : Rule o s)
       → HaveStripes o.blocks → IsOpening o
       → IsSerial opening (run o rule.events)
       → AreUpTo (run o rule.events).boosted.words.clock (run o rule.events).records → get_elem? s.views id ≡ some v → v.shares ≡ SHARES
@@ -254,7 +254,7 @@ abbrev pub ClosingLaw : Type 0 → Type 0
 ClosingLaw V =
     (blocks : List Block) (clock : ℕ) (values : List ℕ) (held : List (Held V)) → HaveStripes blocks → Suit blocks held
     → let o = opened blocks clock values held in
-    (id : ℕ) (v : View V) (s : State (Slot V) (View V)) → Rule o s → get_elem? s.views id ≡ some v → v.shares ≡ SHARES
+    (id : ℕ) (v : SeatKnowledge V) (s : State (Slot V) (SeatKnowledge V)) → Rule o s → get_elem? s.views id ≡ some v → v.shares ≡ SHARES
     → is_half_done (stage_of (lone id o v.turns) id) ≡ false → ((k : ℕ) → is_actor id ((lone id o v.turns).boosted.gates k) ≡ false)
     → Closes (length values) blocks (record { words = values; held = held }) v s.words s.homes
 
@@ -298,14 +298,14 @@ module _ {V : Type 0} where
       clocks = λ j v e. elim j as
           (λ k. get_elem? (first ∷ []) k ≡ some v → v.clock ≤ o.boosted.words.clock) [
             | zero ↦
-                (λ q. let c : 0 ≡ v.clock = ap (λ (k : View V). k.clock) (some-injective first v q) in omega arith)
+                (λ q. let c : 0 ≡ v.clock = ap (λ (k : SeatKnowledge V). k.clock) (some-injective first v q) in omega arith)
             | suc i ↦
                 (λ q. absurd (some-ne-none v (sym q)))
           ] e;
       room = (let z = start.rests 0 in omega arith);
       shares = refl;
       own = λ j v e. elim j as (λ k. get_elem? (first ∷ []) k ≡ some v → IsOwn k o (lone k o v.turns)) [
-        | zero ↦ (λ q. subst (λ (z : View V). IsOwn 0 o (lone 0 o z.turns)) (some-injective first v q)
+        | zero ↦ (λ q. subst (λ (z : SeatKnowledge V). IsOwn 0 o (lone 0 o z.turns)) (some-injective first v q)
             (opening_own o 0 start))
         | suc i ↦ (λ q. absurd (some-ne-none v (sym q)))
       ] e;
@@ -313,18 +313,18 @@ module _ {V : Type 0} where
       spent = λ j v e z. elim j as
           (λ k. get_elem? (first ∷ []) k ≡ some v → IsSpent o k v) [
             | zero ↦
-                (λ q. absurd (let c : SHARES ≡ v.shares = ap (λ (k : View V). k.shares) (some-injective first v q) in omega arith))
+                (λ q. absurd (let c : SHARES ≡ v.shares = ap (λ (k : SeatKnowledge V). k.shares) (some-injective first v q) in omega arith))
             | suc i ↦
                 (λ q. absurd (some-ne-none v (sym q)))
           ] e;
       joined = λ j v e. elim j as (λ k. get_elem? (first ∷ []) k ≡ some v → All (IsJoined (first ∷ [])) v.joined) [
-        | zero ↦ (λ q. subst (λ (z : View V). All (IsJoined (first ∷ [])) z.joined) (some-injective first v q)
+        | zero ↦ (λ q. subst (λ (z : SeatKnowledge V). All (IsJoined (first ∷ [])) z.joined) (some-injective first v q)
             (All-nil (IsJoined (first ∷ []))))
         | suc i ↦ (λ q. absurd (some-ne-none v (sym q)))
       ] e;
       receipts = λ h. ap (total h) (sym no_records);
       earned = λ j v e. elim j as (λ k. get_elem? (first ∷ []) k ≡ some v → 0 < v.shares → HasReceipts o k v) [
-        | zero ↦ (λ q. subst (λ (z : View V). 0 < z.shares → HasReceipts o 0 z) (some-injective first v q)
+        | zero ↦ (λ q. subst (λ (z : SeatKnowledge V). 0 < z.shares → HasReceipts o 0 z) (some-injective first v q)
             (λ _ h. (let none : total h o.records ≡ 0 = ap (total h) no_records in omega arith)))
         | suc i ↦ (λ q. absurd (some-ne-none v (sym q)))
       ] e;

@@ -22,7 +22,7 @@ use Rattle.seq_model.specs.declared.record.Record.{Record}
 use Rattle.replay_log.specs.declared.base.Base.{Base}
 use Rattle.replay_log.specs.Base.{Shown, editions_of, shown_of, stripes_of}
 use Rattle.replay_log.specs.Parts.{part}
-use Rattle.replay_log.specs.Contents.{Block, Asked, HaveStripes, content, first_of, end_of, home_of, is_plain}
+use Rattle.replay_log.specs.Contents.{Block, CollectionCall, HaveStripes, content, first_of, end_of, home_of, is_plain}
 use Rattle.replay_log.proofs.ContentLemmas.{content_frame}
 use Rattle.replay_log.specs.Seats.{World, Stage, Copying, Ready, actor_of, moves}
 use Rattle.replay_log.specs.Worlds.{happens, run}
@@ -31,18 +31,18 @@ use Rattle.actor_laws.specs.Clock.{stamps_left, Grows}
 use Rattle.actor_laws.specs.Gates.{Tries, Puts, GoesHome, Gated}
 use Rattle.actor_laws.specs.Machine.{FindsBelow}
 use Rattle.actor_laws.specs.Own.{Alike, FindsBy, FindsAt, SameAfter, SameCopy}
-use Rattle.actor_laws.specs.Spots.{Spot, Gate, spot_by, gate_word, found_gate, number_at}
+use Rattle.actor_laws.specs.StepTargets.{Spot, Gate, spot_by, gate_word, found_gate, number_at}
 use Rattle.actor_laws.specs.Steps.{atomic_action, ready_at}
 use Rattle.actor_laws.proofs.Alike.{alike_trans, action_same, spot_same}
 use Rattle.actor_laws.proofs.Alone.{found_free, read_editions, read_home}
 use Rattle.actor_laws.proofs.Others.{others, calm_alike}
 use Rattle.actor_laws.proofs.OwnEvents.{own_event}
-use Rattle.actor_laws.proofs.Spots.{Keeps, one_spot, after_calm}
-use Rattle.actor_laws.proofs.Turned.{try_turned, put_turned, home_turned, home_same}
+use Rattle.actor_laws.proofs.StepTargets.{Keeps, one_spot, after_calm}
+use Rattle.actor_laws.proofs.StepResult.{try_turned, put_turned, home_turned, home_same}
 use Rattle.tx_table.specs.Layout.{address, gate_address}
 use Rattle.tx_table.specs.Turns.{Turn, asked_all, stage_of, spot, parts_found, editions_found, found_at, moved, ends, took, lone}
 use Rattle.tx_table.specs.Turns.{turn_events}
-use Rattle.tx_table.specs.Shown.{View, Slot, total, acting, HasHappened, IsBaseAt, OneBase, SameBases, HomeOk, Table, Shows, Rule, Told}
+use Rattle.tx_table.specs.Shown.{SeatKnowledge, Slot, total, acting, HasHappened, IsBaseAt, OneBase, SameBases, HomeOk, Table, Shows, Rule, Told}
 use Rattle.tx_table.specs.Shown.{Steps, Took, aborted_by, only_by}
 use Rattle.tx_table.proofs.Numbers.{at_set_same, at_set_other}
 use Rattle.tx_table.proofs.Turned.{asked_alike, asked_calm, ends_theirs, found_alike, others_notes, records_grow, turn_notes}
@@ -76,8 +76,8 @@ module _ {V : Type 0} where
   home_spot a v k e = ap (spot_by a (ready_at a v (stage_of v a))) e
 
   -- what an action on a gate finds
-  finds_gate : (a : ℕ) (v t : World V) (p : Stage V) (d : Action (Asked V)) → (Some (moves a) ≡ Some d → ⊥) → atomic_action a v p ≡ Some d
-      → FindsBelow (content v.words v.blocks) a v.boosted t.boosted d → ((q : Asked V) → p ≡ Copying q → SameCopy v t q)
+  finds_gate : (a : ℕ) (v t : World V) (p : Stage V) (d : Action (CollectionCall V)) → (Some (moves a) ≡ Some d → ⊥) → atomic_action a v p ≡ Some d
+      → FindsBelow (content v.words v.blocks) a v.boosted t.boosted d → ((q : CollectionCall V) → p ≡ Copying q → SameCopy v t q)
       → FindsAt a v t p
   finds_gate a v t (Ready ks) d out e f g = absurd (out e)
   finds_gate a v t (Copying q) d out e f g = (subst (FindsBy a v t) (sym e) f, g q refl)
@@ -92,13 +92,13 @@ module _ {V : Type 0} where
   finds_home a v t k e = finds_gate a v t (stage_of v a) (GoHome a k) (λ z. cc) e refl (λ q at.
       let z : Some (GoHome a k) ≡ atomic_action a v (Copying q) = sym e ∙ ap (atomic_action a v) at in absurd (let n : ⊥ = cc in n))
 
-  base_copy : (k : ℕ) (v t : World V) (q : Asked V) → HaveStripes v.blocks → OneBase k v t → q.collection ≡ k → SameCopy v t q
+  base_copy : (k : ℕ) (v t : World V) (q : CollectionCall V) → HaveStripes v.blocks → OneBase k v t → q.collection ≡ k → SameCopy v t q
   base_copy k v t q stripes same here =
       let c = content {V = V} v.words v.blocks in
       let frame = content_frame {V = V} v.words v.blocks stripes in (
         λ o at. read_editions _ _ (c.reads o)
             (λ l m.
-            (same l (frame.no_word o l m) (read_home v stripes o l m ∙ (ap (λ (z : Asked V). z.collection) at ∙ here))).1),
+            (same l (frame.no_word o l m) (read_home v stripes o l m ∙ (ap (λ (z : CollectionCall V). z.collection) at ∙ here))).1),
         sym (frame.legal v.boosted.parts t.boosted.parts q
             (λ l m. let o = c.outcome v.boosted.parts q in (same l (frame.no_word o l m) (read_home v stripes o l m ∙ here)).0)),
       )
@@ -164,30 +164,30 @@ module _ {V : Type 0} where
             (cases_eq j k);
       }
 
-  module _ (o : World V) (id : ℕ) (m : Me (Slot V) (View V)) (qs : List (Event V)) where
+  module _ (o : World V) (id : ℕ) (m : Me (Slot V) (SeatKnowledge V)) (qs : List (Event V)) where
     abbrev alone : World V
     alone = asked_all id (lone id o m.0.turns) qs
 
-    abbrev world : (s : State (Slot V) (View V)) → Rule o s → World V
+    abbrev world : (s : State (Slot V) (SeatKnowledge V)) → Rule o s → World V
     world s rule = asked_all id (run o rule.events) qs
 
-    pub shape_of : (s : State (Slot V) (View V)) (rule : Rule o s) → ((world s rule).words ≡ o.words) × ((world s rule).blocks ≡ o.blocks)
+    pub shape_of : (s : State (Slot V) (SeatKnowledge V)) (rule : Rule o s) → ((world s rule).words ≡ o.words) × ((world s rule).blocks ≡ o.blocks)
     shape_of s rule = let g = asked_calm id qs (run o rule.events) in (g.words ∙ rule.shows.shape.0, g.blocks ∙ rule.shows.shape.1)
 
-    pub alike_of : (s : State (Slot V) (View V)) (rule : Rule o s) → get_elem? s.views id ≡ some m.0 → Alike id (world s rule) alone
+    pub alike_of : (s : State (Slot V) (SeatKnowledge V)) (rule : Rule o s) → get_elem? s.views id ≡ some m.0 → Alike id (world s rule) alone
     alike_of s rule here = asked_alike id qs (run o rule.events) (lone id o m.0.turns) (rule.shows.own id m.0 here).alike
 
     -- the bases that it took out, once it has asked
-    out_of : (s : State (Slot V) (View V)) (rule : Rule o s) → get_elem? s.views id ≡ some m.0 → SameBases id (world s rule) alone
+    out_of : (s : State (Slot V) (SeatKnowledge V)) (rule : Rule o s) → get_elem? s.views id ≡ some m.0 → SameBases id (world s rule) alone
     out_of s rule here =
         let mine = rule.shows.own id m.0 here in asked_bases id qs (run o rule.events) (lone id o m.0.turns) mine.alike mine.out
 
     -- the events that reach the world after a turn
-    abbrev after_turn : (s : State (Slot V) (View V)) → Rule o s → World V
+    abbrev after_turn : (s : State (Slot V) (SeatKnowledge V)) → Rule o s → World V
     after_turn s rule = run o (rule.events ++ turn_events id qs)
 
     -- a turn at a gate
-    gate_at : (s : State (Slot V) (View V)) (rule : Rule o s) (k found new : ℕ) (b : Maybe (Base V)) (hs : List (Option (Slot V)))
+    gate_at : (s : State (Slot V) (SeatKnowledge V)) (rule : Rule o s) (k found new : ℕ) (b : Maybe (Base V)) (hs : List (Option (Slot V)))
         → get_elem? s.views id ≡ some m.0 → 0 < m.0.shares → k < length o.blocks
         → spot id alone ≡ Gate k
         → let w1 = world s rule in let u = (happens w1 (Step id)).0 in
@@ -292,7 +292,7 @@ module _ {V : Type 0} where
         two a c (Some j) x y ne = ne (eqb-true c j y ∙ sym (eqb-true a j x))
 
     -- ---- a gate is put back, its base as it was or with the changes of the transaction
-    came_home : (s : State (Slot V) (View V)) (rule : Rule o s) (k : ℕ) (b : Base V) (rest : List (ℕ × Slot V)) → get_elem? s.views id
+    came_home : (s : State (Slot V) (SeatKnowledge V)) (rule : Rule o s) (k : ℕ) (b : Base V) (rest : List (ℕ × Slot V)) → get_elem? s.views id
         ≡ some m.0 → 0 < m.0.shares → k < length o.blocks
         → m.1 ≡ (k, Some b) ∷ rest → spot id alone ≡ Gate k → is_actor id (alone.boosted.gates k) ≡ true
         → let w1 = world s rule in let u = (happens w1 (Step id)).0 in
@@ -517,11 +517,11 @@ module _ {V : Type 0} where
             (base_trans k w1 (planted b) (happens (planted b) (Step id)).0 (sym (al_p b).words) (sym (al_p b).blocks) base1
             (λ l p at. (sym ((Q b).parts l), sym ((Q b).editions l))))
 
-        view_of : Maybe (Base V) → View V
+        view_of : Maybe (Base V) → SeatKnowledge V
         view_of b = acting m.0 (record { asks = qs; found = found; base = b }) (ends id alone) m.0.clock
 
         by_gate : (p : Maybe ℕ) → w.boosted.gates k ≡ p
-            → (v : View V) × (a : Act (Slot V)) × Valid s.homes m.1 a
+            → (v : SeatKnowledge V) × (a : Act (Slot V)) × Valid s.homes m.1 a
             × Shows o (after_turn s rule) (stepped s (gate_address N k) (either (eqb found 0) 1 found) id m.1 v a) × Took o id qs m k found
             (v, carried_after m.1 a)
         by_gate None e =

@@ -24,16 +24,16 @@ use Rattle.replay_log.specs.Seats.{World, Seat, actor_of}
 use Rattle.replay_log.specs.Worlds.{happens, run}
 use Rattle.actor_laws.specs.Clock.{stamps_left, Grows}
 use Rattle.actor_laws.specs.Own.{Alike, SameAfter}
-use Rattle.actor_laws.specs.Spots.{Spot, Word, Gate, deed_of, gate_word, number_at}
+use Rattle.actor_laws.specs.StepTargets.{Spot, Word, Gate, deed_of, gate_word, number_at}
 use Rattle.actor_laws.specs.Steps.{OnlyOwn, ready_at}
 use Rattle.actor_laws.proofs.Alike.{alike_sym, alike_trans, spot_same, deed_same}
 use Rattle.actor_laws.proofs.Clock.{one_left}
 use Rattle.actor_laws.proofs.Others.{others, calm_alike}
-use Rattle.actor_laws.proofs.Spots.{Keeps, one_spot, after_calm}
-use Rattle.actor_laws.proofs.Turned.{word_turned}
+use Rattle.actor_laws.proofs.StepTargets.{Keeps, one_spot, after_calm}
+use Rattle.actor_laws.proofs.StepResult.{word_turned}
 use Rattle.tx_table.specs.Layout.{address, gate_address, IsInside}
 use Rattle.tx_table.specs.Turns.{Turn, own, asked_all, stage_of, spot, found_at, moved, ends, ends_of, took, lone, turn_events}
-use Rattle.tx_table.specs.Shown.{highest_clock, View, Slot, total, owed, owed_of, acting, HasHappened, OneBase, SameBases, Table, IsOwn}
+use Rattle.tx_table.specs.Shown.{highest_clock, SeatKnowledge, Slot, total, owed, owed_of, acting, HasHappened, OneBase, SameBases, Table, IsOwn}
 use Rattle.tx_table.specs.Shown.{HasReceipts, IsJoined, Shows, Rule, Steps, Told, aborted_by, only_by}
 use Rattle.tx_table.proofs.LayoutLemmas.{apart, gate_apart, low}
 use Rattle.tx_table.proofs.Numbers.{total_set, total_append, inside, tally_set, tally_below, at_set_same, at_set_other}
@@ -91,21 +91,21 @@ module _ {V : Type 0} where
   ends_same a v w e = ap (λ (x : Seat V). ends_of a x x.stage) e.seat
 
   -- ---- a seat that was joined keeps its turns, whatever becomes of one that has shares
-  pub still_joined : (vs : List (View V)) (id : ℕ) (v y : View V) (p : ℕ × List (Turn V)) → get_elem? vs id ≡ some v
+  pub still_joined : (vs : List (SeatKnowledge V)) (id : ℕ) (v y : SeatKnowledge V) (p : ℕ × List (Turn V)) → get_elem? vs id ≡ some v
       → (v.shares ≡ 0 → (y.shares ≡ 0) × (y.turns ≡ v.turns)) → IsJoined vs p → IsJoined (set vs id y) p
   still_joined vs id v y p here stays is = dite (ℕ_discrete p.0 id)
       (λ e.
       let same : v ≡ is.0 = some-injective v is.0 (sym here ∙ ((λ i. get_elem? vs (sym e i)) ∙ is.1)) in
-      let k = stays (ap (λ (z : View V). z.shares) same ∙ is.2) in (
+      let k = stays (ap (λ (z : SeatKnowledge V). z.shares) same ∙ is.2) in (
         y,
         (λ i. get_elem? (set vs id y) (e i)) ∙ at_set_same vs id v y here,
         k.0,
-        k.1 ∙ (ap (λ (z : View V). z.turns) same ∙ is.3),
+        k.1 ∙ (ap (λ (z : SeatKnowledge V). z.turns) same ∙ is.3),
       ))
       (λ ne. (is.0, at_set_other vs id p.0 y ne ∙ is.1, is.2, is.3))
 
   -- ---- a seat has taken a turn
-  pub shows_after : (o w u : World V) (s : State (Slot V) (View V)) (id : ℕ) (v : View V) (i : Turn V) (rs : List (ℕ × Record V)) (k : ℕ)
+  pub shows_after : (o w u : World V) (s : State (Slot V) (SeatKnowledge V)) (id : ℕ) (v : SeatKnowledge V) (i : Turn V) (rs : List (ℕ × Record V)) (k : ℕ)
       (ws : List ℕ) (hs : List (Option (Slot V)))
       → Shows o w s → get_elem? s.views id ≡ some v → 0 < v.shares → (u.words ≡ w.words) × (u.blocks ≡ w.blocks)
       → Table o.words o.blocks u ws hs
@@ -115,8 +115,8 @@ module _ {V : Type 0} where
       → Grows id w u → k ≤ u.boosted.words.clock → ((h : ℕ × Record V → ℕ) → total h u.records ≡ total h w.records + total h rs)
       → Shows o u record { words = ws; homes = hs; views = set s.views id (acting v i rs k) }
   shows_after o w u s id v i rs k ws hs S here live shaped T mine stand noted theirs based grown known notes =
-      let vs : List (View V) = s.views in
-      let y : View V = acting v i rs k in
+      let vs : List (SeatKnowledge V) = s.views in
+      let y : SeatKnowledge V = acting v i rs k in
       let before = S.own id v here in
       let rises = grown.rises in
       let last : lone id o (v.turns ++ i ∷ []) ≡ took id (lone id o v.turns) i = lone_snoc id v.turns o i in
@@ -134,7 +134,7 @@ module _ {V : Type 0} where
       record {
         shape = (shaped.0 ∙ S.shape.0, shaped.1 ∙ S.shape.1);
         table = T;
-        clocks = λ j z e. ⊎_elim (λ (t : (j ≡ id) × (y ≡ z)). let q : k ≡ z.clock = ap (λ (p : View V). p.clock) t.1 in omega arith)
+        clocks = λ j z e. ⊎_elim (λ (t : (j ≡ id) × (y ≡ z)). let q : k ≡ z.clock = ap (λ (p : SeatKnowledge V). p.clock) t.1 in omega arith)
             (λ (t : (j ≢ id) × (get_elem? vs j ≡ some z)). let q = S.clocks j z t.1 in omega arith) (at_set vs id j y z e);
         room =
             (let t = tally_set (owed o) 0 vs id v y here in
@@ -148,9 +148,9 @@ module _ {V : Type 0} where
             let own_u : stamps_left (actor_of u id).place ≡ stamps_left (actor_of (lone id o (v.turns ++ i ∷ [])) id).place = ap
             (λ (x : Actor). stamps_left x.place) mine_now.alike.boosted.actor in
             let r = S.room in
-            let d = tally_below (owed o) (λ (x : View V). x.shares) 0 (set vs id y)
+            let d = tally_below (owed o) (λ (x : SeatKnowledge V). x.shares) 0 (set vs id y)
             (λ j x. owed_le x.shares (actor_of (lone j o x.turns) j).place) in
-            let f = total_set (λ (x : View V). x.shares) vs id v y here in
+            let f = total_set (λ (x : SeatKnowledge V). x.shares) vs id v y here in
             let g = S.shares in
             ⊎_elim
             (λ (h : u.boosted.words.clock + stamps_left (actor_of u id).place ≤ w.boosted.words.clock + stamps_left
@@ -158,26 +158,26 @@ module _ {V : Type 0} where
             (λ (h : (u.boosted.words.clock ≡ w.boosted.words.clock) × (w.boosted.words.clock < clock_limit)). let m = h.0 in let n = h.1 in
             omega arith)
             grown.pays);
-        shares = (let t = total_set (λ (x : View V). x.shares) vs id v y here in let a = S.shares in omega arith);
+        shares = (let t = total_set (λ (x : SeatKnowledge V). x.shares) vs id v y here in let a = S.shares in omega arith);
         own = λ j z e. ⊎_elim
             (λ (t : (j ≡ id) × (y ≡ z)). subst (λ (m : ℕ). IsOwn m u (lone m o z.turns)) (sym t.0)
-            (subst (λ (q : View V). IsOwn id u (lone id o q.turns)) t.1 mine_now))
+            (subst (λ (q : SeatKnowledge V). IsOwn id u (lone id o q.turns)) t.1 mine_now))
             (λ (t : (j ≢ id) × (get_elem? vs j ≡ some z)). still j (lone j o z.turns) t.0 (S.own j z t.1))
             (at_set vs id j y z e);
         fresh = λ a l. (let len = length-set vs id y in let at_id = inside vs id v here in
             still a o (λ e. omega arith) (S.fresh a (omega arith)));
         spent = λ j z e none. ⊎_elim
-            (λ (t : (j ≡ id) × (y ≡ z)). absurd (let q : v.shares ≡ z.shares = ap (λ (p : View V). p.shares) t.1 in omega arith))
+            (λ (t : (j ≡ id) × (y ≡ z)). absurd (let q : v.shares ≡ z.shares = ap (λ (p : SeatKnowledge V). p.shares) t.1 in omega arith))
             (λ (t : (j ≢ id) × (get_elem? vs j ≡ some z)). S.spent j z t.1 none) (at_set vs id j y z e);
         joined = λ j z e i d lt.
-            (let old : (k : ℕ) (x : View V) → get_elem? vs k ≡ some x → i < length x.joined → IsJoined (set vs id y) (get_or x.joined i d) =
+            (let old : (k : ℕ) (x : SeatKnowledge V) → get_elem? vs k ≡ some x → i < length x.joined → IsJoined (set vs id y) (get_or x.joined i d) =
             λ k x at low. still_joined vs id v y (get_or x.joined i d) here (λ none. absurd (omega arith)) (S.joined k x at i d low) in
             ⊎_elim
-            (λ (t : (j ≡ id) × (y ≡ z)). let q : y.joined ≡ z.joined = ap (λ (x : View V). x.joined) t.1 in
+            (λ (t : (j ≡ id) × (y ≡ z)). let q : y.joined ≡ z.joined = ap (λ (x : SeatKnowledge V). x.joined) t.1 in
             subst (λ (ps : List (ℕ × List (Turn V))). IsJoined (set vs id y) (get_or ps i d)) q
             (old id v here (let c = ap (λ (ps : List (ℕ × List (Turn V))). length ps) q in omega arith)))
             (λ (t : (j ≢ id) × (get_elem? vs j ≡ some z)). old j z t.1 lt) (at_set vs id j y z e));
-        receipts = λ h. (let t = total_set (λ (x : View V). total h x.receipts) vs id v y here in
+        receipts = λ h. (let t = total_set (λ (x : SeatKnowledge V). total h x.receipts) vs id v y here in
             let g = total_append h v.receipts rs in
             let a = S.receipts h in
             let b = notes h in omega arith);
@@ -253,21 +253,21 @@ module _ {V : Type 0} where
       }
 
   -- a step that appends to the events keeps the rule
-  pub keeps_rule : (o : World V) (slots id : ℕ) (m : Me (Slot V) (View V)) (qs : List (Event V)) (i : ℕ) (f : ℕ → ℕ)
-      (tells : ℕ → Me (Slot V) (View V) → Type 0) → Steps o slots id m qs i f tells → Allows (Rule o) slots id m i f tells
+  pub keeps_rule : (o : World V) (slots id : ℕ) (m : Me (Slot V) (SeatKnowledge V)) (qs : List (Event V)) (i : ℕ) (f : ℕ → ℕ)
+      (tells : ℕ → Me (Slot V) (SeatKnowledge V) → Type 0) → Steps o slots id m qs i f tells → Allows (Rule o) slots id m i f tells
   keeps_rule o slots id m qs i f tells may s rule len here small =
       let r = may s rule.events rule.shows len here small in
       (r.0, r.1, r.2, record { events = rule.events ++ turn_events id qs; shows = r.3 }, r.4)
 
-  module _ (o : World V) (slots id : ℕ) (m : Me (Slot V) (View V)) (qs : List (Event V)) where
+  module _ (o : World V) (slots id : ℕ) (m : Me (Slot V) (SeatKnowledge V)) (qs : List (Event V)) where
     abbrev alone : World V
     alone = asked_all id (lone id o m.0.turns) qs
 
     -- kf is the clock that the seat knows afterwards, by the word found
     word_at : (c : Cell) (f kf : ℕ → ℕ) → 0 < m.0.shares → spot id alone ≡ Word c → IsInside (end_of o.words o.blocks) c
-        → ((s : State (Slot V) (View V)) → Rule o s → becomes (deed_of (ready_at id alone (stage_of alone id)) id)
+        → ((s : State (Slot V) (SeatKnowledge V)) → Rule o s → becomes (deed_of (ready_at id alone (stage_of alone id)) id)
         (get_or s.words (address (end_of o.words o.blocks) c) 0) ≡ f (get_or s.words (address (end_of o.words o.blocks) c) 0))
-        → ((s : State (Slot V) (View V)) (rule : Rule o s) (u : World V) → let w = run o rule.events in
+        → ((s : State (Slot V) (SeatKnowledge V)) (rule : Rule o s) (u : World V) → let w = run o rule.events in
         m.0.clock ≤ w.boosted.words.clock → w.boosted.words.clock ≤ u.boosted.words.clock
         → f (cell w.boosted.words c) ≡ cell u.boosted.words c → kf (cell w.boosted.words c) ≤ u.boosted.words.clock)
         → Steps o slots id m qs (address (end_of o.words o.blocks) c) f
@@ -294,7 +294,7 @@ module _ {V : Type 0} where
         let after : World V = (happens planted (Step id)).0 in
         let i : Turn V = record { asks = qs; found = found; base = None } in
         let rs : List (ℕ × Record V) = ends id alone in
-        let v : View V = acting m.0 i rs (kf found) in
+        let v : SeatKnowledge V = acting m.0 i rs (kf found) in
         let took_is : after ≡ took id l i = (λ j. (happens (found_at id alone (sym touches j) (sym found1 j) None) (Step id)).0) in
         let own2 = word_own id w1 alone c None al1 at1 in
         let al2 : Alike id u after = own2.0 in

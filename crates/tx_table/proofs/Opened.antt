@@ -3,6 +3,7 @@
 -- Wherever the rule holds, the seat's lone world is alike to its actor in a world that events have reached; so what is proved of such
 -- worlds holds of it (`Guards` and `Bases` of `actor_laws`), and a seat needs to know only which step is next for it.
 use Rattle.std.proofs.Common.{◌≡◌, ℕ, ◌<◌, eqb, List, ◌∷◌, ◌++◌, length, Some, None, sym, ap, ◌∙◌, subst}
+use Rattle.std.proofs.lemmas.Option.{same_Some}
 use prog.Atomic.{either}
 use mathlib.Core.Option.{some}
 use lib.ListN.{get_elem?}
@@ -12,26 +13,25 @@ use Rattle.seq_model.specs.declared.event.Event.{Event}
 use Rattle.seq_model.specs.declared.event.Event.TheVariants.{Step}
 use Rattle.replay_log.specs.declared.base.Base.{Base}
 use Rattle.replay_log.specs.Contents.{Block, HaveStripes, block_of, end_of, home_of, is_plain}
-use Rattle.replay_log.proofs.ContentLemmas.{same_block}
 use Rattle.replay_log.specs.Seats.{World}
 use Rattle.replay_log.specs.Worlds.{happens, opened, run}
 use Rattle.actor_laws.specs.Bases.{IsBaseOf, ShowsBase, IsFolded, log_changes, log_locations}
 use Rattle.actor_laws.specs.Gates.{Tries, Puts, GoesHome}
 use Rattle.actor_laws.specs.Own.{Alike}
-use Rattle.actor_laws.specs.Spots.{Gate}
+use Rattle.actor_laws.specs.StepTargets.{Gate}
 use Rattle.actor_laws.proofs.Alike.{action_same}
 use Rattle.actor_laws.proofs.Bases.{goes_home}
 use Rattle.actor_laws.proofs.Guards as guards
 use Rattle.tx_table.specs.Layout.{gate_address}
 use Rattle.tx_table.specs.Turns.{asked_all, found_at, lone}
-use Rattle.tx_table.specs.Shown.{View, Slot, IsBaseAt, Rule, Steps, Told, Took}
+use Rattle.tx_table.specs.Shown.{SeatKnowledge, Slot, IsBaseAt, Rule, Steps, Told, Took}
 use Rattle.tx_table.proofs.Turned.{found_alike}
 use Rattle.tx_table.proofs.Keeps.{asked_events, run_append, run_asked}
 use Rattle.tx_table.proofs.Gates.{alike_of, shape_of, none_base, take_allowed, put_allowed, home_allowed}
 
 module _ {V : Type 0} where
   module _ (blocks : List Block) (clock : ℕ) (values : List ℕ) (held : List (Held V)) (stripes : HaveStripes blocks) (slots id : ℕ)
-      (m : Me (Slot V) (View V)) (qs : List (Event V)) where
+      (m : Me (Slot V) (SeatKnowledge V)) (qs : List (Event V)) where
     abbrev o : World V
     o = opened blocks clock values held
 
@@ -39,10 +39,10 @@ module _ {V : Type 0} where
     alone = asked_all id (lone id o m.0.turns) qs
 
     -- events have reached a world that is alike to the seat's actor
-    abbrev events_of : (s : State (Slot V) (View V)) → Rule o s → List (Event V)
+    abbrev events_of : (s : State (Slot V) (SeatKnowledge V)) → Rule o s → List (Event V)
     events_of s rule = rule.events ++ asked_events id qs
 
-    reached : (s : State (Slot V) (View V)) (rule : Rule o s) → get_elem? s.views id ≡ some m.0 → Alike id (run o (events_of s rule)) alone
+    reached : (s : State (Slot V) (SeatKnowledge V)) (rule : Rule o s) → get_elem? s.views id ≡ some m.0 → Alike id (run o (events_of s rule)) alone
     reached s rule here =
         subst (λ (w : World V). Alike id w alone)
         (sym (run_append rule.events (asked_events id qs) o ∙ run_asked id qs (run o rule.events)))
@@ -98,5 +98,5 @@ module _ {V : Type 0} where
         let back : ShowsBase o.words blocks (happens planted (Step id)).0 k now =
         subst (λ (n : ℕ). ShowsBase n blocks (happens planted (Step id)).0 k now) (sym n_is)
         (subst (λ (bs : List Block). ShowsBase planted.words bs (happens planted (Step id)).0 k now) (sym b_is) gone.1) in
-        let sort_now : IsBaseAt blocks k now = λ c e. subst (λ (b : Block). IsBaseOf b now) (same_block block c (sym is ∙ e)) gone.0 in
+        let sort_now : IsBaseAt blocks k now = λ c e. subst (λ (b : Block). IsBaseOf b now) (same_Some block c (sym is ∙ e)) gone.0 in
         home_allowed o id m qs slots k now others stripes live lt top goes h.0 h.1 sort_now back s es S len here small

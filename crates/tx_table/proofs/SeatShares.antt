@@ -18,7 +18,7 @@ use Rattle.tx_table.specs.declared.view.Opening.{Opening}
 use Rattle.tx_table.specs.Layout.{address, values_in}
 use Rattle.tx_table.specs.Opening.{Holds, blocks_at, locations_at, words_at, world_at}
 use Rattle.tx_table.specs.Turns.{Turn, lone}
-use Rattle.tx_table.specs.Shown.{highest_clock, View, Slot, Closes, ShowsWorld, HasReceipts, IsJoined, IsOwn, IsSpent, Shows}
+use Rattle.tx_table.specs.Shown.{highest_clock, SeatKnowledge, Slot, Closes, ShowsWorld, HasReceipts, IsJoined, IsOwn, IsSpent, Shows}
 use Rattle.tx_table.specs.Shown.{total, owed, looking, left_of, right_of, both_of}
 use Rattle.tx_table.specs.Shown.{spent_of}
 use Rattle.tx_table.specs.Seated.{Rests}
@@ -40,7 +40,7 @@ module _ {A : Type 0} where
   stands (x ∷ xs) (suc i) v low e = stands xs i v (omega arith) e
 
 module _ {V : Type 0} where
-  pub cuts : (key : Opening V) (id k : ℕ) (v : View V) → 0 < k → k < v.shares → Splits (Holds key) id v (left_of k v) (right_of k v)
+  pub cuts : (key : Opening V) (id k : ℕ) (v : SeatKnowledge V) → 0 < k → k < v.shares → Splits (Holds key) id v (left_of k v) (right_of k v)
   cuts key id k v more fewer s h here = record {
     stripes = h.stripes;
     suits = h.suits;
@@ -51,7 +51,7 @@ module _ {V : Type 0} where
     };
   }
 
-  pub merges : (key : Opening V) (id other : ℕ) (v u : View V) → 0 < v.shares → 0 < u.shares
+  pub merges : (key : Opening V) (id other : ℕ) (v u : SeatKnowledge V) → 0 < v.shares → 0 < u.shares
       → Rests other (lone other (world_at key) u.turns)
       → Joins (Holds key) id v other u (both_of v other u) (spent_of u)
   merges key id other v u live alive rests s h here apart there = record {
@@ -65,30 +65,30 @@ module _ {V : Type 0} where
   }
 
   -- a load that is no step of the actor: there are `SHARES` shares
-  pub counts : (key : Opening V) (slots id : ℕ) (m : Me (Slot V) (View V))
+  pub counts : (key : Opening V) (slots id : ℕ) (m : Me (Slot V) (SeatKnowledge V))
       → Allows (Holds key) slots id m 0 (λ k. k) (λ found t. (t ≡ m) × (m.0.shares ≤ SHARES))
   counts key slots id m s h len here small =
       let words : set s.words 0 (get_or s.words 0 0) ≡ s.words = set-get_or s.words 0 0 in
       let views : set s.views id m.0 ≡ s.views = set_here s.views id m.0 here in
-      let part = total_part (λ (v : View V). v.shares) s.views id m.0 here in
+      let part = total_part (λ (v : SeatKnowledge V). v.shares) s.views id m.0 here in
       let all = h.rule.shows.shares in (
         m.0,
         keeps,
         tt,
-        subst (λ (z : List ℕ × List (View V)). Holds key (record { words = z.0; homes = s.homes; views = z.1 }))
+        subst (λ (z : List ℕ × List (SeatKnowledge V)). Holds key (record { words = z.0; homes = s.homes; views = z.1 }))
             (λ i. (sym words i, sym views i)) h,
         (refl, omega arith),
       )
 
   -- a load of the clock that is no step of the actor: the world stands, and the seat knows the clock from then on
-  pub looks_on : (o w : World V) (slots id : ℕ) (m : Me (Slot V) (View V))
+  pub looks_on : (o w : World V) (slots id : ℕ) (m : Me (Slot V) (SeatKnowledge V))
       → Allows (Shows o w) slots id m 0 (λ k. k)
       (λ found t. (t ≡ (looking m.0 found, m.1)) × (m.0.clock ≤ found) × (found ≤ highest_clock))
   looks_on o w slots id m s S len here small =
-      let vs : List (View V) = s.views in
+      let vs : List (SeatKnowledge V) = s.views in
       let found : ℕ = get_or s.words 0 0 in
       let word : found ≡ w.boosted.words.clock = S.table.cells ClockCell tt in
-      let v : View V = looking m.0 found in
+      let v : SeatKnowledge V = looking m.0 found in
       let same : set s.words 0 found ≡ s.words = set-get_or s.words 0 0 in
       let old = S.clocks id m.0 here in
       let room = S.room in (
@@ -99,41 +99,41 @@ module _ {V : Type 0} where
           shape = S.shape;
           table = S.table;
           clocks = λ j z e. ⊎_elim
-              (λ (t : (j ≡ id) × (v ≡ z)). let q : found ≡ z.clock = ap (λ (p : View V). p.clock) t.1 in omega arith)
+              (λ (t : (j ≡ id) × (v ≡ z)). let q : found ≡ z.clock = ap (λ (p : SeatKnowledge V). p.clock) t.1 in omega arith)
               (λ (t : (j ≢ id) × (get_elem? vs j ≡ some z)). S.clocks j z t.1) (at_set vs id j v z e);
           room = (let t = tally_set (owed o) 0 vs id m.0 v here in
               let q : owed o (0 + id) v ≡ owed o (0 + id) m.0 = refl in omega arith);
-          shares = (let t = total_set (λ (z : View V). z.shares) vs id m.0 v here in let a = S.shares in omega arith);
+          shares = (let t = total_set (λ (z : SeatKnowledge V). z.shares) vs id m.0 v here in let a = S.shares in omega arith);
           own = λ j z e. ⊎_elim
-              (λ (t : (j ≡ id) × (v ≡ z)). subst (λ (p : ℕ × View V). IsOwn p.0 w (lone p.0 o p.1.turns)) (λ i. (sym t.0 i, t.1 i))
+              (λ (t : (j ≡ id) × (v ≡ z)). subst (λ (p : ℕ × SeatKnowledge V). IsOwn p.0 w (lone p.0 o p.1.turns)) (λ i. (sym t.0 i, t.1 i))
               (S.own id m.0 here))
               (λ (t : (j ≢ id) × (get_elem? vs j ≡ some z)). S.own j z t.1) (at_set vs id j v z e);
           fresh = λ a l. (let len = length-set vs id v in S.fresh a (omega arith));
           spent = λ j z e none. ⊎_elim
-              (λ (t : (j ≡ id) × (v ≡ z)). let q = S.spent id m.0 here (ap (λ (p : View V). p.shares) t.1 ∙ none) in
-              subst (λ (p : ℕ × View V). IsSpent o p.0 p.1) (λ i. (sym t.0 i, t.1 i))
+              (λ (t : (j ≡ id) × (v ≡ z)). let q = S.spent id m.0 here (ap (λ (p : SeatKnowledge V). p.shares) t.1 ∙ none) in
+              subst (λ (p : ℕ × SeatKnowledge V). IsSpent o p.0 p.1) (λ i. (sym t.0 i, t.1 i))
               (record { receipts = q.receipts; done = q.done; bare = q.bare }))
               (λ (t : (j ≢ id) × (get_elem? vs j ≡ some z)). S.spent j z t.1 none) (at_set vs id j v z e);
           joined = λ j z e i d lt.
-              (let old : (k : ℕ) (x : View V) → get_elem? vs k ≡ some x → i < length x.joined
+              (let old : (k : ℕ) (x : SeatKnowledge V) → get_elem? vs k ≡ some x → i < length x.joined
               → IsJoined (set vs id v) (get_or x.joined i d) =
               λ k x at low. still_joined vs id m.0 v (get_or x.joined i d) here (λ none. (none, refl)) (S.joined k x at i d low) in
               ⊎_elim
-              (λ (t : (j ≡ id) × (v ≡ z)). let q : v.joined ≡ z.joined = ap (λ (x : View V). x.joined) t.1 in
+              (λ (t : (j ≡ id) × (v ≡ z)). let q : v.joined ≡ z.joined = ap (λ (x : SeatKnowledge V). x.joined) t.1 in
               subst (λ (ps : List (ℕ × List (Turn V))). IsJoined (set vs id v) (get_or ps i d)) q
               (old id m.0 here (let c = ap (λ (ps : List (ℕ × List (Turn V))). length ps) q in omega arith)))
               (λ (t : (j ≢ id) × (get_elem? vs j ≡ some z)). old j z t.1 lt) (at_set vs id j v z e));
-          receipts = λ f. (let t = total_set (λ (z : View V). total f z.receipts) vs id m.0 v here in
+          receipts = λ f. (let t = total_set (λ (z : SeatKnowledge V). total f z.receipts) vs id m.0 v here in
               let a = S.receipts f in omega arith);
           earned = λ j z e some_shares. ⊎_elim
-              (λ (t : (j ≡ id) × (v ≡ z)). subst (λ (p : ℕ × View V). HasReceipts o p.0 p.1) (λ i. (sym t.0 i, t.1 i))
-              (S.earned id m.0 here (let q : m.0.shares ≡ z.shares = ap (λ (p : View V). p.shares) t.1 in omega arith)))
+              (λ (t : (j ≡ id) × (v ≡ z)). subst (λ (p : ℕ × SeatKnowledge V). HasReceipts o p.0 p.1) (λ i. (sym t.0 i, t.1 i))
+              (S.earned id m.0 here (let q : m.0.shares ≡ z.shares = ap (λ (p : SeatKnowledge V). p.shares) t.1 in omega arith)))
               (λ (t : (j ≢ id) × (get_elem? vs j ≡ some z)). S.earned j z t.1 some_shares) (at_set vs id j v z e);
         },
         (refl, omega arith, omega arith),
       )
 
-  pub looks : (key : Opening V) (slots id : ℕ) (m : Me (Slot V) (View V))
+  pub looks : (key : Opening V) (slots id : ℕ) (m : Me (Slot V) (SeatKnowledge V))
       → Allows (Holds key) slots id m 0 (λ k. k)
       (λ found t. (t ≡ (looking m.0 found, m.1)) × (m.0.clock ≤ found) × (found ≤ highest_clock))
   looks key slots id m s h len here small =
@@ -145,7 +145,7 @@ module _ {V : Type 0} where
         r.4,
       )
 
-  pub closes_all : ClosingLaw V → (key : Opening V) (id : ℕ) (v : View V) (ws : List ℕ) (xs : List (Slot V)) → v.shares ≡ SHARES
+  pub closes_all : ClosingLaw V → (key : Opening V) (id : ℕ) (v : SeatKnowledge V) (ws : List ℕ) (xs : List (Slot V)) → v.shares ≡ SHARES
       → Rests id (lone id (world_at key) v.turns) → Final (Seen (Holds key) id v) ws xs
       → Closes (words_at key) (blocks_at key) key.state.value v ws (map some xs)
   closes_all law key id v ws xs all rests last =
@@ -175,7 +175,7 @@ module _ {V : Type 0} where
             }) last.2;
       }
 
-  pub shows_last : (key : Opening V) (id : ℕ) (v : View V) (ws : List ℕ) (xs : List (Slot V)) → v.shares ≡ SHARES
+  pub shows_last : (key : Opening V) (id : ℕ) (v : SeatKnowledge V) (ws : List ℕ) (xs : List (Slot V)) → v.shares ≡ SHARES
       → Rests id (lone id (world_at key) v.turns) → Final (Seen (Holds key) id v) ws xs
       → ShowsWorld (world_at key) id v ws (map some xs)
   shows_last key id v ws xs all rests last =
@@ -193,7 +193,7 @@ module _ {V : Type 0} where
       }
 
   -- every base is in its slot
-  pub all_home : (key : Opening V) (v : View V) (ws : List ℕ) (xs : List (Slot V))
+  pub all_home : (key : Opening V) (v : SeatKnowledge V) (ws : List ℕ) (xs : List (Slot V))
       → Closes (words_at key) (blocks_at key) key.state.value v ws (map some xs) → length xs ≡ length (blocks_at key)
       → (k : ℕ) → get_elem? xs k ≡ some None → ⊥
   all_home key v ws xs c long k out =

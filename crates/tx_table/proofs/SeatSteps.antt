@@ -14,13 +14,13 @@ use Rattle.replay_log.specs.declared.base.Base.{Base}
 use Rattle.replay_log.specs.Contents.{HaveStripes, end_of}
 use Rattle.replay_log.specs.Seats.{World}
 use Rattle.actor_laws.specs.Gates.{Tries}
-use Rattle.actor_laws.specs.Spots.{Word}
+use Rattle.actor_laws.specs.StepTargets.{Word}
 use Rattle.tx_table.specs.declared.seat.Seat.{Seat}
 use Rattle.tx_table.specs.Layout.{address, gate_address, IsInside}
 use Rattle.tx_table.specs.declared.view.Opening.{Opening}
 use Rattle.tx_table.specs.Opening.{Holds, blocks_at, locations_at, world_at}
 use Rattle.tx_table.specs.Turns.{Turn, asked_all, lone, spot, moved, ends}
-use Rattle.tx_table.specs.Shown.{highest_clock, View, Slot, HasHappened, IsBaseAt, IsReached, Steps, Told, Took, Went, acting}
+use Rattle.tx_table.specs.Shown.{highest_clock, SeatKnowledge, Slot, HasHappened, IsBaseAt, IsReached, Steps, Told, Took, Went, acting}
 use Rattle.tx_table.specs.Seated.{Adds, Exchanges, IsHome, IsSameSeat, Loads, Stores, Takes, acts, list_of, out, turned, view}
 use Rattle.tx_table.proofs.Turned.{lone_snoc}
 use Rattle.tx_table.proofs.Numbers.{at_set_same}
@@ -38,14 +38,14 @@ either_is false x y = refl
 
 module _ {V : Type 0} where
   -- the same step may say less
-  pub weaker : (holds : State (Slot V) (View V) → Type 0) (slots id : ℕ) (m : Me (Slot V) (View V)) (i : ℕ) (f : ℕ → ℕ)
-      (tells less : ℕ → Me (Slot V) (View V) → Type 0) → ((k : ℕ) (t : Me (Slot V) (View V)) → tells k t → less k t)
+  pub weaker : (holds : State (Slot V) (SeatKnowledge V) → Type 0) (slots id : ℕ) (m : Me (Slot V) (SeatKnowledge V)) (i : ℕ) (f : ℕ → ℕ)
+      (tells less : ℕ → Me (Slot V) (SeatKnowledge V) → Type 0) → ((k : ℕ) (t : Me (Slot V) (SeatKnowledge V)) → tells k t → less k t)
       → Allows holds slots id m i f tells → Allows holds slots id m i f less
   weaker holds slots id m i f tells less so may s rule len here small =
       let r = may s rule len here small in (r.0, r.1, r.2, r.3, so _ _ r.4)
 
   -- what an actor's lone world is once its seat took a turn and asks nothing
-  acts_after : (o : World V) (a b : ℕ) (v u : View V) (es : List (Event V)) (i : Turn V) (rs : List (ℕ × Record V)) (k : ℕ) → b ≡ a
+  acts_after : (o : World V) (a b : ℕ) (v u : SeatKnowledge V) (es : List (Event V)) (i : Turn V) (rs : List (ℕ × Record V)) (k : ℕ) → b ≡ a
       → es ≡ []
       → u ≡ acting v i rs k
       → asked_all b (lone b o u.turns) es ≡ (moved a (asked_all a (lone a o v.turns) i.asks) i.found i.base).0
@@ -74,15 +74,15 @@ module _ {V : Type 0} where
       }
 
   -- the seat has its shares, and knows its last number, once it took a turn
-  pub still : (s : Seat V) (w : View V) (i : Turn V) (rs : List (ℕ × Record V)) (k : ℕ) → w ≡ acting (view s) i rs k → (view s).clock ≤ k
+  pub still : (s : Seat V) (w : SeatKnowledge V) (i : Turn V) (rs : List (ℕ × Record V)) (k : ℕ) → w ≡ acting (view s) i rs k → (view s).clock ≤ k
       → (s.shares ≡ w.shares) × (s.last ≤ w.clock)
   still s w i rs k is low = (
-    s.counted ∙ sym (ap (λ (v : View V). v.shares) is),
-    (let a = s.known in let b : w.clock ≡ k = ap (λ (v : View V). v.clock) is in omega arith),
+    s.counted ∙ sym (ap (λ (v : SeatKnowledge V). v.shares) is),
+    (let a = s.known in let b : w.clock ≡ k = ap (λ (v : SeatKnowledge V). v.clock) is in omega arith),
   )
 
   -- a step that keeps the rule of the world keeps that of the table; some events lead to where it leaves the seat
-  lifted : (key : Opening V) (slots id : ℕ) (m : Me (Slot V) (View V)) (i : ℕ) (f : ℕ → ℕ) (tells : ℕ → Me (Slot V) (View V) → Type 0)
+  lifted : (key : Opening V) (slots id : ℕ) (m : Me (Slot V) (SeatKnowledge V)) (i : ℕ) (f : ℕ → ℕ) (tells : ℕ → Me (Slot V) (SeatKnowledge V) → Type 0)
       → (asks : List (Event V)) → (HaveStripes (blocks_at key) → Steps (world_at key) slots id m asks i f tells)
       → Allows (Holds key) slots id m i f (λ k t. tells k t × Went (world_at key) id t)
   lifted key slots id m i f tells asks may s h len here small =
@@ -107,7 +107,7 @@ module _ {V : Type 0} where
         ),
       )
 
-  module _ (key : Opening V) (slots id : ℕ) (m : Me (Slot V) (View V)) (asks qs : List (Event V)) (are : asks ≡ qs)
+  module _ (key : Opening V) (slots id : ℕ) (m : Me (Slot V) (SeatKnowledge V)) (asks qs : List (Event V)) (are : asks ≡ qs)
       (live : 0 < m.0.shares) where
     abbrev o : World V
     o = world_at key
@@ -117,7 +117,7 @@ module _ {V : Type 0} where
     mine = asked_all id (lone id o m.0.turns) qs
 
     -- what a step on a word says of the seat
-    abbrev Turned : ℕ → Me (Slot V) (View V) → Type 0
+    abbrev Turned : ℕ → Me (Slot V) (SeatKnowledge V) → Type 0
     Turned found t = Told o id asks m.0.clock m found None t.0 × (t.1 ≡ m.1) × Went o id t
 
     -- a word becomes f of what it was, as the actor's next step makes of it
@@ -130,7 +130,7 @@ module _ {V : Type 0} where
         × ((k : ℕ) → turned id (asked_all id (lone id o m.0.turns) asks) k ≡ f k) =
         subst (λ (q : List (Event V)). (spot id (asked_all id (lone id o m.0.turns) q) ≡ Word c)
         × ((k : ℕ) → turned id (asked_all id (lone id o m.0.turns) q) k ≡ f k)) (sym are) (at, is) in
-        let tells = λ (found : ℕ) (t : Me (Slot V) (View V)). Told o id asks m.0.clock m found None t.0 × (t.1 ≡ m.1) in
+        let tells = λ (found : ℕ) (t : Me (Slot V) (SeatKnowledge V)). Told o id asks m.0.clock m found None t.0 × (t.1 ≡ m.1) in
         subst (λ (j : ℕ). Allows (Holds key) slots id m j f Turned)
         (sym place)
         (weaker (Holds key) slots id m (address (end_of o.words o.blocks) c) f (λ k t. tells k t × Went o id t) Turned
@@ -160,7 +160,7 @@ module _ {V : Type 0} where
         (goes c i (λ _. new) due.0 due.1 inner place)
 
     -- what a step on the clock says of the seat
-    abbrev Clocked : (ℕ → ℕ) → ℕ → Me (Slot V) (View V) → Type 0
+    abbrev Clocked : (ℕ → ℕ) → ℕ → Me (Slot V) (SeatKnowledge V) → Type 0
     Clocked left found t =
         Told o id asks (left found) m found None t.0 × (t.1 ≡ m.1) × (m.0.clock ≤ found) × (found ≤ highest_clock) × Went o id t
 
@@ -173,7 +173,7 @@ module _ {V : Type 0} where
         × ((k : ℕ) → k ≤ highest_clock → turned id (asked_all id (lone id o m.0.turns) asks) k ≡ f k) =
         subst (λ (q : List (Event V)). (spot id (asked_all id (lone id o m.0.turns) q) ≡ Word ClockCell)
         × ((k : ℕ) → k ≤ highest_clock → turned id (asked_all id (lone id o m.0.turns) q) k ≡ f k)) (sym are) (at, is) in
-        let tells = λ (found : ℕ) (t : Me (Slot V) (View V)).
+        let tells = λ (found : ℕ) (t : Me (Slot V) (SeatKnowledge V)).
         Told o id asks (left found) m found None t.0 × (t.1 ≡ m.1) × (m.0.clock ≤ found) × (found ≤ highest_clock) in
         weaker (Holds key) slots id m 0 f (λ k t. tells k t × Went o id t) (Clocked left)
         (λ k t told. (told.0.0, told.0.1, told.0.2, told.0.3, told.1))
@@ -187,7 +187,7 @@ module _ {V : Type 0} where
 
   -- ---- gates of a table that was opened
   -- a gate that was tried: what the seat has, once it has turned to the bases that it took before
-  pub won : (o : World V) (s t : Seat V) (asks : List (Event V)) (k found : ℕ) (m n : Me (Slot V) (View V)) (base : Slot V)
+  pub won : (o : World V) (s t : Seat V) (asks : List (Event V)) (k found : ℕ) (m n : Me (Slot V) (SeatKnowledge V)) (base : Slot V)
       → asks ≡ list_of s.asked → found ≡ 0 → Took o s.place.id asks s.place.me k found m → m.1 ≡ (k, base) ∷ rest m.1
       → n ≡ (m.0, (k, None) ∷ rest m.1) → t.place.me ≡ (n.0, shifted n.1) → IsSameSeat s t → list_of t.asked ≡ []
       → Went o s.place.id m → MatchOption base (Takes o s (view s).clock 1 None (out s) t)
@@ -202,13 +202,13 @@ module _ {V : Type 0} where
         p.2,
         takes o s t asks (view s).clock 0 (Some b) (out s ++ (k, None) ∷ []) are same
             (let q = subst (λ (z : ℕ). Told o s.place.id asks (view s).clock s.place.me z (Some b) m.0) p.0 p.3 in
-            (ap (λ (z : Me (Slot V) (View V)). z.0) turned ∙ ap (λ (z : Me (Slot V) (View V)). z.0) swapped ∙ q.0, q.1))
-            (ap (λ (z : Me (Slot V) (View V)). z.1) turned
-            ∙ ap (λ (z : Me (Slot V) (View V)). shifted z.1) swapped
+            (ap (λ (z : Me (Slot V) (SeatKnowledge V)). z.0) turned ∙ ap (λ (z : Me (Slot V) (SeatKnowledge V)). z.0) swapped ∙ q.0, q.1))
+            (ap (λ (z : Me (Slot V) (SeatKnowledge V)). z.1) turned
+            ∙ ap (λ (z : Me (Slot V) (SeatKnowledge V)). shifted z.1) swapped
             ∙ ap (λ (l : List (ℕ × Slot V)). l ++ (k, None) ∷ []) (sym others))
             none
-            (subst (λ (v : View V). IsReached o s.place.id (lone s.place.id o v.turns))
-            (sym (ap (λ (z : Me (Slot V) (View V)). z.0) turned ∙ ap (λ (z : Me (Slot V) (View V)). z.0) swapped)) went),
+            (subst (λ (v : SeatKnowledge V). IsReached o s.place.id (lone s.place.id o v.turns))
+            (sym (ap (λ (z : Me (Slot V) (SeatKnowledge V)). z.0) turned ∙ ap (λ (z : Me (Slot V) (SeatKnowledge V)). z.0) swapped)) went),
       ))
       (λ p. absurd (let q : found ≡ 1 = p.0 in omega arith)) told
 
@@ -222,7 +222,7 @@ module _ {V : Type 0} where
       (subst (λ (z : ℕ). Told o s.place.id asks (view s).clock s.place.me z None t.place.me.0) p.0 p.1) p.2 none went) told
 
   -- the slot that was taken is in front
-  pub topped : (o : World V) (s : Seat V) (asks : List (Event V)) (k gate found : ℕ) (m : Me (Slot V) (View V)) → k ≡ gate → found ≡ 0
+  pub topped : (o : World V) (s : Seat V) (asks : List (Event V)) (k gate found : ℕ) (m : Me (Slot V) (SeatKnowledge V)) → k ≡ gate → found ≡ 0
       → Took o s.place.id asks s.place.me k found m → (b : Slot V) × (m.1 ≡ (gate, b) ∷ rest m.1)
   topped o s asks k gate found m same free told = ⊎_elim
       (λ p. let others : s.place.me.1 ≡ rest m.1 = sym (ap (λ (l : List (ℕ × Slot V)). rest l) p.4) in (
@@ -232,12 +232,12 @@ module _ {V : Type 0} where
       (λ p. absurd (let q : found ≡ 1 = p.0 in omega arith)) told
 
   -- either way the seat has its shares
-  pub still_tried : (o : World V) (s : Seat V) (asks : List (Event V)) (k found : ℕ) (t : Me (Slot V) (View V))
+  pub still_tried : (o : World V) (s : Seat V) (asks : List (Event V)) (k found : ℕ) (t : Me (Slot V) (SeatKnowledge V))
       → Took o s.place.id asks s.place.me k found t → (s.shares ≡ t.0.shares) × (s.last ≤ t.0.clock)
   still_tried o s asks k found t told = ⊎_elim (λ p. still s t.0 _ _ (view s).clock p.3.0 (omega arith))
       (λ p. still s t.0 _ _ (view s).clock p.1.0 (omega arith)) told
 
-  module _ (key : Opening V) (slots id : ℕ) (m : Me (Slot V) (View V)) (asks qs : List (Event V)) (are : asks ≡ qs) (live : 0 < m.0.shares)
+  module _ (key : Opening V) (slots id : ℕ) (m : Me (Slot V) (SeatKnowledge V)) (asks qs : List (Event V)) (are : asks ≡ qs) (live : 0 < m.0.shares)
       (k i : ℕ) (low : k < length (blocks_at key)) (place : i ≡ gate_address (locations_at key) k) where
     abbrev start : World V
     start = world_at key
@@ -271,7 +271,7 @@ module _ {V : Type 0} where
         (subst (λ (q : List (Event V)). IsHome start id (alone q) k b) (sym are) due))))
 
   -- the base that is put back was put into the slot in front
-  pub puts_back : (key : Opening V) (slots : ℕ) (s : Seat V) (id : ℕ) (n : Me (Slot V) (View V)) (asks : List (Event V)) (k gate i : ℕ)
+  pub puts_back : (key : Opening V) (slots : ℕ) (s : Seat V) (id : ℕ) (n : Me (Slot V) (SeatKnowledge V)) (asks : List (Event V)) (k gate i : ℕ)
       (b : Base V) → asks ≡ list_of s.asked → k ≡ gate → 0 < (view s).shares → k < length (blocks_at key)
       → i ≡ gate_address (locations_at key) k → id ≡ s.place.id → n ≡ (view s, (gate, Some b) ∷ rest (out s))
       → IsHome (world_at key) s.place.id (acts (world_at key) s) k b
@@ -279,23 +279,23 @@ module _ {V : Type 0} where
       × Went (world_at key) id t)
   puts_back key slots s id n asks k gate i b are same live low place id_is is due =
       let o : World V = world_at key in
-      let views : n.0 ≡ view s = ap (λ (z : Me (Slot V) (View V)). z.0) is in
-      let front : n.1 ≡ (gate, Some b) ∷ rest (out s) = ap (λ (z : Me (Slot V) (View V)). z.1) is in
+      let views : n.0 ≡ view s = ap (λ (z : Me (Slot V) (SeatKnowledge V)). z.0) is in
+      let front : n.1 ≡ (gate, Some b) ∷ rest (out s) = ap (λ (z : Me (Slot V) (SeatKnowledge V)). z.1) is in
       let others : rest n.1 ≡ rest (out s) = ap (λ (l : List (ℕ × Slot V)). rest l) front in
-      puts key slots id n asks (list_of s.asked) are (subst (λ (v : View V). 0 < v.shares) (sym views) live) k i low place b
+      puts key slots id n asks (list_of s.asked) are (subst (λ (v : SeatKnowledge V). 0 < v.shares) (sym views) live) k i low place b
       (front ∙ (λ j. (sym same j, Some b) ∷ sym others j))
-      (subst (λ (z : ℕ × View V). IsHome o z.0 (asked_all z.0 (lone z.0 o z.1.turns) (list_of s.asked)) k b)
+      (subst (λ (z : ℕ × SeatKnowledge V). IsHome o z.0 (asked_all z.0 (lone z.0 o z.1.turns) (list_of s.asked)) k b)
       (λ j. (sym id_is j, sym views j)) due)
 
-  pub put_takes : (o : World V) (s t : Seat V) (id : ℕ) (n : Me (Slot V) (View V)) (asks : List (Event V)) (gate : ℕ) (b : Base V)
+  pub put_takes : (o : World V) (s t : Seat V) (id : ℕ) (n : Me (Slot V) (SeatKnowledge V)) (asks : List (Event V)) (gate : ℕ) (b : Base V)
       → asks ≡ list_of s.asked → id ≡ s.place.id → n ≡ (view s, (gate, Some b) ∷ rest (out s))
       → Told o id asks n.0.clock n 1 None t.place.me.0 × (t.place.me.1 ≡ rest n.1) × Went o id t.place.me → IsSameSeat s t
       → list_of t.asked ≡ [] → Takes o s (view s).clock 1 None (rest (out s)) t
   put_takes o s t id n asks gate b are id_is is told same none =
-      let views : n.0 ≡ view s = ap (λ (z : Me (Slot V) (View V)). z.0) is in
-      let others : rest n.1 ≡ rest (out s) = ap (λ (z : Me (Slot V) (View V)). rest z.1) is in
+      let views : n.0 ≡ view s = ap (λ (z : Me (Slot V) (SeatKnowledge V)). z.0) is in
+      let others : rest n.1 ≡ rest (out s) = ap (λ (z : Me (Slot V) (SeatKnowledge V)). rest z.1) is in
       takes o s t asks (view s).clock 1 None (rest (out s)) are same
-      (subst (λ (z : ℕ × View V). (t.place.me.0 ≡ acting z.1 (record { asks = asks; found = 1; base = None })
+      (subst (λ (z : ℕ × SeatKnowledge V). (t.place.me.0 ≡ acting z.1 (record { asks = asks; found = 1; base = None })
       (ends z.0 (asked_all z.0 (lone z.0 o z.1.turns) asks)) z.1.clock)
       × HasHappened o z.0 (asked_all z.0 (lone z.0 o z.1.turns) asks) 1 None) (λ j. (id_is j, views j)) told.0)
       (told.1 ∙ others) none (subst (λ (z : ℕ). Went o z t.place.me) id_is told.2)

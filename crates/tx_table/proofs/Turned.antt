@@ -16,13 +16,13 @@ use Rattle.seq_model.specs.declared.record.Record.{Record}
 use Rattle.seq_model.specs.Runs.{comes_before, insert_record}
 use Rattle.tx_machine.specs.Boosted.{Action, OnWords, TakeGate, PutGate, Accept, GoHome}
 use Rattle.replay_log.specs.declared.base.Base.{Base}
-use Rattle.replay_log.specs.Contents.{Asked}
+use Rattle.replay_log.specs.Contents.{CollectionCall}
 use Rattle.replay_log.specs.Seats.{World, Ended, Seat, Stage, Closing, Copying, Leaving, Ready, acted, asks}
 use Rattle.replay_log.specs.WorldTraces.{ended_by}
 use Rattle.replay_log.specs.Worlds.{happens}
 use Rattle.actor_laws.specs.Machine.{SameWord}
 use Rattle.actor_laws.specs.Own.{Alike, SameAfter, FindsBy, FindsAt}
-use Rattle.actor_laws.specs.Spots.{Spot, Nowhere, Word, Gate, spot_of, deed_of, word_spot, spot_by, spot_at}
+use Rattle.actor_laws.specs.StepTargets.{Spot, Nowhere, Word, Gate, spot_of, deed_of, word_spot, spot_by, spot_at}
 use Rattle.actor_laws.specs.Steps.{OnlyOwn, Does, atomic_action, ready_at, ended_at}
 use Rattle.actor_laws.proofs.Alone.{planted_word, planted_alike}
 use Rattle.actor_laws.proofs.OneStep.{one_step, nothing, through, ask_calm}
@@ -79,7 +79,7 @@ module _ {V : Type 0} where
       ∙ (word_same a v w c b d (word_of (deed_of (acted v (asks a word.AskStore ∷ [])) a)) e touches
       ∙ sym ((ask_calm a (word_planted a v w c b) word.AskStore).cells d))
 
-  finds_by : (a : ℕ) (v w u : World V) (x : Seat V) (p : Stage V) (c : Cell) (b : Option (Base V)) (d : Option (Action (Asked V)))
+  finds_by : (a : ℕ) (v w u : World V) (x : Seat V) (p : Stage V) (c : Cell) (b : Option (Base V)) (d : Option (Action (CollectionCall V)))
       → spot_by a v d ≡ Word c
       → Does a v x p d u → FindsBy a v (word_planted a v w c b) d
   finds_by a v w u x p c b None e g = tt
@@ -126,7 +126,7 @@ module _ {V : Type 0} where
   none_ends a v x Closing e = absurd (let z : ⊥ = cc in z)
   none_ends a v x p e = refl
 
-  step_records : (h : ℕ × Record V → ℕ) (a : ℕ) (r v u : World V) (x : Seat V) (p : Stage V) (d : Option (Action (Asked V)))
+  step_records : (h : ℕ × Record V → ℕ) (a : ℕ) (r v u : World V) (x : Seat V) (p : Stage V) (d : Option (Action (CollectionCall V)))
       → atomic_action a v p ≡ d
       → Does a r x p d u → total h u.records ≡ total h r.records + total h (ends_of a x p)
   step_records h a r v u x p None e g = let z = ap (total h) g.records in let q = ap (total h) (none_ends a v x p e) in omega arith
@@ -155,7 +155,7 @@ module _ {V : Type 0} where
   ended_aborted a t x Leaving = refl
   ended_aborted a t x p = sym (append-nil t.aborted)
 
-  step_aborted : (a : ℕ) (r v u : World V) (x : Seat V) (p : Stage V) (d : Option (Action (Asked V))) → atomic_action a v p ≡ d
+  step_aborted : (a : ℕ) (r v u : World V) (x : Seat V) (p : Stage V) (d : Option (Action (CollectionCall V))) → atomic_action a v p ≡ d
       → Does a r x p d u → u.aborted ≡ r.aborted ++ ended_by a x p
   step_aborted a r v u x p None e g =
       g.aborted ∙ (sym (append-nil r.aborted) ∙ ap (λ (es : List (Ended V)). r.aborted ++ es) (sym (none_aborted a v x p e)))

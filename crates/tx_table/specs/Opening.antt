@@ -6,7 +6,7 @@ use Rattle.replay_log.specs.Contents.{Block, HaveStripes, end_of}
 use Rattle.replay_log.specs.Seats.{World}
 use Rattle.actor_parts.specs.Openings.{blocks_of, world_of}
 use Rattle.tx_table.specs.declared.view.Opening.{Opening}
-use Rattle.tx_table.specs.Shown.{View, Slot, Rule}
+use Rattle.tx_table.specs.Shown.{SeatKnowledge, Slot, Rule}
 
 module _ {V : Type 0} where
   -- the collections' blocks
@@ -24,7 +24,7 @@ module _ {V : Type 0} where
   world_at k = world_of k.shape.value.stripes k.shape.value.clock k.state.value
 
   -- The rule of a running table: its collections have stripes, and suit them, and the rule of the world that it opened with.
-  pub record Holds (k : Opening V) (s : State (Slot V) (View V)) : Type 0 where
+  pub record Holds (k : Opening V) (s : State (Slot V) (SeatKnowledge V)) : Type 0 where
     pub stripes : HaveStripes (blocks_at k)
     pub suits : Suit (blocks_at k) k.state.value.held
     pub rule : Rule (world_at k) s

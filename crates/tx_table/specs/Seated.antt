@@ -14,14 +14,14 @@ use Rattle.replay_log.specs.Worlds.{happens}
 use Rattle.replay_log.specs.WorldTraces.{is_half_done}
 use Rattle.actor_laws.specs.Bases.{IsBaseOf, ShowsBase, IsFolded, log_changes, log_locations}
 use Rattle.actor_laws.specs.Gates.{Puts, GoesHome}
-use Rattle.actor_laws.specs.Spots.{Word, Gate, deed_of}
+use Rattle.actor_laws.specs.StepTargets.{Word, Gate, deed_of}
 use Rattle.actor_laws.specs.Steps.{ready_at}
-use Rattle.tx_table.specs.declared.seat.Asked.{Asked, Nothing, More'}
+use Rattle.tx_table.specs.declared.seat.EventsSinceStep.{EventsSinceStep, Nothing, More'}
 use Rattle.tx_table.specs.declared.seat.Seat.{Seat}
 use Rattle.tx_table.specs.declared.table.TxTable.{TxTable}
 use Rattle.tx_table.specs.Opening.{blocks_at, locations_at, words_at, world_at}
 use Rattle.tx_table.specs.Turns.{asked_all, lone, spot, stage_of, found_at, moved, ends}
-use Rattle.tx_table.specs.Shown.{View, Slot, HasHappened, IsBaseAt, IsReached, acting}
+use Rattle.tx_table.specs.Shown.{SeatKnowledge, Slot, HasHappened, IsBaseAt, IsReached, acting}
 
 -- The place of collection k among the locations after n words.
 pub record IsBlockAt (n : ℕ) (bs : List Block) (k : ℕ) (b : placed.Block) : Type 0 where
@@ -30,12 +30,12 @@ pub record IsBlockAt (n : ℕ) (bs : List Block) (k : ℕ) (b : placed.Block) : 
 
 module _ {V : Type 0} where
   -- what the seat has asked, the first event first
-  abbrev pub list_of : Asked V → List (Event V)
+  abbrev pub list_of : EventsSinceStep V → List (Event V)
   list_of Nothing = []
   list_of (More' _ before event) = list_of before ++ event.value ∷ []
 
   -- what the seat knows: its shares, clock, turns and receipts
-  abbrev pub view : Seat V → View V
+  abbrev pub view : Seat V → SeatKnowledge V
   view s = s.place.me.0
 
   -- the bases that it has out of their slots, in the order in which it took them

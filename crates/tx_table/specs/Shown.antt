@@ -30,11 +30,11 @@ use Rattle.actor_laws.specs.Bases.{IsBaseOf, ShowsBase}
 use Rattle.actor_laws.specs.Clock.{stamps_left}
 use Rattle.actor_laws.specs.Machine.{SameBase}
 use Rattle.actor_laws.specs.Own.{Alike, SameAfter}
-use Rattle.actor_laws.specs.Spots.{gate_word, number_at}
+use Rattle.actor_laws.specs.StepTargets.{gate_word, number_at}
 use Rattle.tx_table.specs.Layout.{address, gate_address, IsInside, values_in, width}
 use Rattle.tx_table.specs.Turns.{Turn, asked_all, lone, moved, ends, spot, stage_of, turn_events}
 use Rattle.tx_table.specs.declared.view.TheConstants.{SHARES}
-pub use Rattle.tx_table.specs.declared.view.View.{View}
+pub use Rattle.tx_table.specs.declared.view.SeatKnowledge.{SeatKnowledge}
 
 abbrev pub total : {A : Type 0} → (A → ℕ) → List A → ℕ
 total f [] = 0
@@ -52,7 +52,7 @@ abbrev pub tally : {A : Type 0} → (ℕ → A → ℕ) → ℕ → List A → �
 tally f i [] = 0
 tally f i (x ∷ xs) = f i x + tally f (suc i) xs
 
-abbrev pub first : {V : Type 0} → View V
+abbrev pub first : {V : Type 0} → SeatKnowledge V
 first = record { shares = SHARES; clock = 0; turns = []; receipts = []; joined = []; looks = [] }
 
 abbrev pub owed_of : ℕ → Place → ℕ
@@ -61,7 +61,7 @@ owed_of (suc k) p = stamps_left p
 
 module _ {V : Type 0} where
   -- the seat, once its actor has taken this turn, has committed these, and knows this clock
-  abbrev pub acting : View V → Turn V → List (ℕ × Record V) → ℕ → View V
+  abbrev pub acting : SeatKnowledge V → Turn V → List (ℕ × Record V) → ℕ → SeatKnowledge V
   acting v i rs k = record {
     shares = v.shares;
     clock = k;
@@ -72,7 +72,7 @@ module _ {V : Type 0} where
   }
 
   -- the seat, once it has loaded the clock beside its turns, and found this
-  abbrev pub looking : View V → ℕ → View V
+  abbrev pub looking : SeatKnowledge V → ℕ → SeatKnowledge V
   looking v k = record {
     shares = v.shares;
     clock = k;
@@ -83,7 +83,7 @@ module _ {V : Type 0} where
   }
 
   -- what the seat of actor j may still add to the clock; one without shares steps no more
-  abbrev pub owed : World V → ℕ → View V → ℕ
+  abbrev pub owed : World V → ℕ → SeatKnowledge V → ℕ
   owed o j v = owed_of v.shares (actor_of (lone j o v.turns) j).place
 
   -- a base of the kind and shape of collection k
@@ -130,37 +130,37 @@ module _ {V : Type 0} where
 
   -- the receipts of the seat of j are what the actors for which it stands have committed: its own, and those whose seats were joined into
   -- it
-  abbrev pub HasReceipts : World V → ℕ → View V → Type 0
+  abbrev pub HasReceipts : World V → ℕ → SeatKnowledge V → Type 0
   HasReceipts o j v = (h : ℕ × Record V → ℕ)
       → total h v.receipts ≡ total h (lone j o v.turns).records + total (λ p. total h (lone p.0 o p.1).records) v.joined
 
   -- what is left of a seat that was joined into another
-  pub record IsSpent (o : World V) (j : ℕ) (v : View V) : Type 0 where
+  pub record IsSpent (o : World V) (j : ℕ) (v : SeatKnowledge V) : Type 0 where
     pub receipts : v.receipts ≡ []
     pub done : is_half_done (stage_of (lone j o v.turns) j) ≡ false
     pub bare : (k : ℕ) → is_actor j ((lone j o v.turns).boosted.gates k) ≡ false
 
   -- the seat of this actor was joined into another once it had taken these turns
-  abbrev pub IsJoined : List (View V) → ℕ × List (Turn V) → Type 0
-  IsJoined views p = (u : View V) × (get_elem? views p.0 ≡ some u) × (u.shares ≡ 0) × (u.turns ≡ p.1)
+  abbrev pub IsJoined : List (SeatKnowledge V) → ℕ × List (Turn V) → Type 0
+  IsJoined views p = (u : SeatKnowledge V) × (get_elem? views p.0 ≡ some u) × (u.shares ≡ 0) × (u.turns ≡ p.1)
 
   -- The table, opened with o, shows w in s: its words, gates and bases, each actor as its seat's lone world has it, with the transactions
   -- that it has committed and aborted, and all records. A seat has the turns of those that were joined into it, and their receipts.
-  pub record Shows (o w : World V) (s : State (Slot V) (View V)) : Type 0 where
+  pub record Shows (o w : World V) (s : State (Slot V) (SeatKnowledge V)) : Type 0 where
     pub shape : (w.words ≡ o.words) × (w.blocks ≡ o.blocks)
     pub table : Table o.words o.blocks w s.words s.homes
-    pub clocks : (j : ℕ) (v : View V) → get_elem? s.views j ≡ some v → v.clock ≤ w.boosted.words.clock
+    pub clocks : (j : ℕ) (v : SeatKnowledge V) → get_elem? s.views j ≡ some v → v.clock ≤ w.boosted.words.clock
     pub room : w.boosted.words.clock + tally (owed o) 0 s.views ≤ highest_clock
     pub shares : total (λ v. v.shares) s.views ≡ SHARES
-    pub own : (j : ℕ) (v : View V) → get_elem? s.views j ≡ some v → IsOwn j w (lone j o v.turns)
+    pub own : (j : ℕ) (v : SeatKnowledge V) → get_elem? s.views j ≡ some v → IsOwn j w (lone j o v.turns)
     pub fresh : (a : ℕ) → length s.views ≤ a → IsOwn a w o
-    pub spent : (j : ℕ) (v : View V) → get_elem? s.views j ≡ some v → v.shares ≡ 0 → IsSpent o j v
-    pub joined : (j : ℕ) (v : View V) → get_elem? s.views j ≡ some v → All (IsJoined s.views) v.joined
+    pub spent : (j : ℕ) (v : SeatKnowledge V) → get_elem? s.views j ≡ some v → v.shares ≡ 0 → IsSpent o j v
+    pub joined : (j : ℕ) (v : SeatKnowledge V) → get_elem? s.views j ≡ some v → All (IsJoined s.views) v.joined
     pub receipts : (h : ℕ × Record V → ℕ) → total (λ v. total h v.receipts) s.views ≡ total h w.records
-    pub earned : (j : ℕ) (v : View V) → get_elem? s.views j ≡ some v → 0 < v.shares → HasReceipts o j v
+    pub earned : (j : ℕ) (v : SeatKnowledge V) → get_elem? s.views j ≡ some v → 0 < v.shares → HasReceipts o j v
 
   -- some list of events reaches, from the opening o, a world that the table shows
-  pub record Rule (o : World V) (s : State (Slot V) (View V)) : Type 0 where
+  pub record Rule (o : World V) (s : State (Slot V) (SeatKnowledge V)) : Type 0 where
     pub events : List (Event V)
     pub shows : Shows o (run o events) s
 
@@ -183,7 +183,7 @@ module _ {V : Type 0} where
     pub clock : (run o events).boosted.words.clock ≤ highest_clock
 
   -- to a world that is to a as the one that it has for itself, by what its seat knows
-  abbrev pub Went : World V → ℕ → Me (Slot V) (View V) → Type 0
+  abbrev pub Went : World V → ℕ → Me (Slot V) (SeatKnowledge V) → Type 0
   Went o a m = IsReached o a (lone a o m.0.turns)
 
   -- Some events lead from the opening o to a world that is to actor a as w is, also in the bases that a has out; and a's next step there
@@ -196,27 +196,27 @@ module _ {V : Type 0} where
     pub same : SameAfter a (happens (run o events) (Step a)) (moved a w found base)
 
   -- what a step says of a seat: it took this turn, which is the step that happened
-  abbrev pub Told : World V → ℕ → List (Event V) → ℕ → Me (Slot V) (View V) → ℕ → Maybe (Base V) → View V → Type 0
+  abbrev pub Told : World V → ℕ → List (Event V) → ℕ → Me (Slot V) (SeatKnowledge V) → ℕ → Maybe (Base V) → SeatKnowledge V → Type 0
   Told o id qs k m found b v =
       let w = asked_all id (lone id o m.0.turns) qs in
       (v ≡ acting m.0 (record { asks = qs; found = found; base = b }) (ends id w) k) × HasHappened o id w found b
 
   -- what a try on the gate of k says: it found the gate free and has its base, or found it taken
-  abbrev pub Took : World V → ℕ → List (Event V) → Me (Slot V) (View V) → ℕ → ℕ → Me (Slot V) (View V) → Type 0
+  abbrev pub Took : World V → ℕ → List (Event V) → Me (Slot V) (SeatKnowledge V) → ℕ → ℕ → Me (Slot V) (SeatKnowledge V) → Type 0
   Took o id qs m k found t =
       ((found ≡ 0) × (b : Base V) × IsBaseAt o.blocks k b × Told o id qs m.0.clock m found (Some b) t.0 × (t.1 ≡ (k, Some b) ∷ m.1))
       ⊎ ((found ≡ 1) × Told o id qs m.0.clock m found None t.0 × (t.1 ≡ m.1))
 
   -- A step of a seat on the word at i, which becomes f of what it was. If these events reach a world that the table shows, then what the
   -- seat has asked and its step after them reach the one that it shows then, and this is said of what was found.
-  abbrev pub Steps : World V → ℕ → ℕ → Me (Slot V) (View V) → List (Event V) → ℕ → (ℕ → ℕ) → (ℕ → Me (Slot V) (View V) → Type 0) → Type 0
-  Steps o slots id m asks i f tells = (s : State (Slot V) (View V)) (es : List (Event V)) → Shows o (run o es) s → length s.homes ≡ slots
+  abbrev pub Steps : World V → ℕ → ℕ → Me (Slot V) (SeatKnowledge V) → List (Event V) → ℕ → (ℕ → ℕ) → (ℕ → Me (Slot V) (SeatKnowledge V) → Type 0) → Type 0
+  Steps o slots id m asks i f tells = (s : State (Slot V) (SeatKnowledge V)) (es : List (Event V)) → Shows o (run o es) s → length s.homes ≡ slots
       → get_elem? s.views id ≡ some m.0 → get_or s.words i 0 < 2 ^ 64
-      → (v : View V) × (a : Act (Slot V)) × Valid s.homes m.1 a
+      → (v : SeatKnowledge V) × (a : Act (Slot V)) × Valid s.homes m.1 a
       × Shows o (run o (es ++ turn_events id asks)) (stepped s i (f (get_or s.words i 0)) id m.1 v a)
       × tells (get_or s.words i 0) (v, carried_after m.1 a)
 
-  abbrev pub left_of : ℕ → View V → View V
+  abbrev pub left_of : ℕ → SeatKnowledge V → SeatKnowledge V
   left_of k v = record {
     shares = v.shares - k;
     clock = v.clock;
@@ -226,11 +226,11 @@ module _ {V : Type 0} where
     looks = v.looks;
   }
 
-  abbrev pub right_of : ℕ → View V → View V
+  abbrev pub right_of : ℕ → SeatKnowledge V → SeatKnowledge V
   right_of k v = record { shares = k; clock = 0; turns = []; receipts = []; joined = []; looks = [] }
 
   -- v, with the seat of this actor joined into it, which had u
-  abbrev pub both_of : View V → ℕ → View V → View V
+  abbrev pub both_of : SeatKnowledge V → ℕ → SeatKnowledge V → SeatKnowledge V
   both_of v other u = record {
     shares = v.shares + u.shares;
     clock = max v.clock u.clock;
@@ -240,7 +240,7 @@ module _ {V : Type 0} where
     looks = v.looks;
   }
 
-  abbrev pub spent_of : View V → View V
+  abbrev pub spent_of : SeatKnowledge V → SeatKnowledge V
   spent_of u = record { shares = 0; clock = 0; turns = u.turns; receipts = []; joined = []; looks = [] }
 
   -- nothing has happened yet
@@ -255,7 +255,7 @@ module _ {V : Type 0} where
   -- the seat as its records. In it j, and each actor whose seat was joined into that of j, is as its lone world has it after its turns. The
   -- table's clock is that of this world, which is no less than the seat knows; and each slot has the base of its collection, of its kind
   -- and shape, with what it holds there and with its editions.
-  pub record ShowsWorld (o : World V) (j : ℕ) (v : View V) (words : List ℕ) (homes : List (Option (Slot V))) : Type 0 where
+  pub record ShowsWorld (o : World V) (j : ℕ) (v : SeatKnowledge V) (words : List ℕ) (homes : List (Option (Slot V))) : Type 0 where
     pub events : List (Event V)
     pub own : IsOwn j (run o events) (lone j o v.turns)
     pub joined : All (λ p. IsOwn p.0 (run o events) (lone p.0 o p.1)) v.joined
@@ -270,7 +270,7 @@ module _ {V : Type 0} where
   -- What a closed table leaves: the receipts, in commit order, are a run of the sequential model from the opening, no number of theirs is
   -- above the clock, and words and bases are what it leaves: each by itself, and all of them as the state that they make up, which is
   -- within the limits of states.
-  pub record Closes (n : ℕ) (bs : List Block) (opening : Contents V) (v : View V) (words : List ℕ)
+  pub record Closes (n : ℕ) (bs : List Block) (opening : Contents V) (v : SeatKnowledge V) (words : List ℕ)
       (homes : List (Option (Slot V))) : Type 0 where
     pub order : List (ℕ × Record V)
     pub same : (h : ℕ × Record V → ℕ) → total h v.receipts ≡ total h order

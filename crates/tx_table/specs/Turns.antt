@@ -9,7 +9,7 @@ use Rattle.replay_log.specs.Parts.{part}
 use Rattle.replay_log.specs.Contents.{first_of}
 use Rattle.replay_log.specs.Seats.{World, After, Seat, Stage, Ready, Closing}
 use Rattle.replay_log.specs.Worlds.{happens}
-use Rattle.actor_laws.specs.Spots.{Spot, Gate, spot_at, planted}
+use Rattle.actor_laws.specs.StepTargets.{Spot, Gate, spot_at, planted}
 pub use Rattle.tx_table.specs.declared.view.Turn.{Turn}
 
 module _ {V : Type 0} where

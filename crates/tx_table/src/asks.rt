@@ -2,7 +2,7 @@
 ghost use Rattle.std.specs.Prelude.{◌≡◌, ◌≤◌, ◌++◌, ◌∷◌, [], max};
 ghost use Rattle.tx_table.specs.Seated.{IsSameSeat, list_of, view};
 
-use crate::seat::{Asked, Seat};
+use crate::seat::{EventsSinceStep, Seat};
 use seq_model::Event;
 use std::snapshot::Snapshot;
 
@@ -47,7 +47,7 @@ impl<V> Seat<V> {
         ensures asked { list_of self.new.asked ≡ list_of self.old.asked ++ event.value ∷ [] }
     {
         let before = Snapshot::of(&self.asked);
-        self.asked = Asked::More(before, event);
+        self.asked = EventsSinceStep::More(before, event);
     }
 
     /// What was asked since the last step is not asked.
@@ -55,6 +55,6 @@ impl<V> Seat<V> {
         ensures same { IsSameSeat self.old self.new × (self.new.place.me ≡ self.old.place.me) }
         ensures none { list_of self.new.asked ≡ [] }
     {
-        self.asked = Asked::Nothing;
+        self.asked = EventsSinceStep::Nothing;
     }
 }

@@ -65,7 +65,7 @@ impl<V: Value> TxTable<V> {
         requires due { Loads (actor seat.old) (acts (opening_of self.now) seat.old) (LockCell location) }
         ensures { Stepped (opening_of self.now) seat.old result seat.new }
     {
-        load_word(&self.whole.shared, seat, self.place(location))
+        load_word(&self.whole.shared, seat, self.lock_index(location))
     }
 
     /// A load of the value of a location.
@@ -76,7 +76,7 @@ impl<V: Value> TxTable<V> {
         requires due { Loads (actor seat.old) (acts (opening_of self.now) seat.old) (ValueCell location) }
         ensures { Stepped (opening_of self.now) seat.old result seat.new }
     {
-        load_word(&self.whole.shared, seat, self.place(location) + 1)
+        load_word(&self.whole.shared, seat, self.lock_index(location) + 1)
     }
 
     /// Locks a location whose lock word was found as `old`. Where it is another number by now, that is the answer, and it is unchanged.
@@ -89,7 +89,13 @@ impl<V: Value> TxTable<V> {
         ensures { MatchOption result (Stepped (opening_of self.now) seat.old old seat.new)
             (λ found. (found ≢ old) × Stepped (opening_of self.now) seat.old found seat.new) }
     {
-        let found = swap_word(&self.whole.shared, seat, self.place(location), old, old + 1);
+        let found = swap_word(
+            &self.whole.shared,
+            seat,
+            self.lock_index(location),
+            old,
+            old + 1,
+        );
         if found == old { None } else { Some(found) }
     }
 
@@ -112,7 +118,12 @@ impl<V: Value> TxTable<V> {
         requires due { Stores (actor seat.old) (acts (opening_of self.now) seat.old) (ValueCell location) value }
         ensures { StepsBlind (opening_of self.now) seat.old seat.new }
     {
-        store_word(&self.whole.shared, seat, self.place(location) + 1, value);
+        store_word(
+            &self.whole.shared,
+            seat,
+            self.lock_index(location) + 1,
+            value,
+        );
     }
 
     /// Stores the lock word of a location.
@@ -123,7 +134,7 @@ impl<V: Value> TxTable<V> {
         requires due { Stores (actor seat.old) (acts (opening_of self.now) seat.old) (LockCell location) word }
         ensures { StepsBlind (opening_of self.now) seat.old seat.new }
     {
-        store_word(&self.whole.shared, seat, self.place(location), word);
+        store_word(&self.whole.shared, seat, self.lock_index(location), word);
     }
 
     /// Tries the gate of a collection, and has its base where the gate was free.
@@ -141,7 +152,7 @@ impl<V: Value> TxTable<V> {
         try_gate(
             &self.whole.shared,
             seat,
-            self.gate_place(collection),
+            self.gate_index(collection),
             collection as usize,
         )
     }
@@ -151,7 +162,7 @@ impl<V: Value> TxTable<V> {
     pub fn is_gate_taken(&self, collection: u32) -> bool
         requires collection { collection < length (blocks_in self.now) }
     {
-        self.whole.shared.peek(self.gate_place(collection)) != 0
+        self.whole.shared.peek(self.gate_index(collection)) != 0
     }
 
     /// Puts back the gate that the seat took first of those that it has, and its base with it: as it was found, or with the log of the
@@ -168,7 +179,7 @@ impl<V: Value> TxTable<V> {
         free_gate(
             &self.whole.shared,
             seat,
-            self.gate_place(collection),
+            self.gate_index(collection),
             collection as usize,
             base,
         );

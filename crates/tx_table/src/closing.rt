@@ -10,7 +10,7 @@ ghost use Rattle.tx_table.specs.Ends.{held_in, homes_of, row_of};
 ghost use Rattle.tx_table.specs.Seated.{Owns, Rests, actor, blocks_in, contents_in, kept, locations_in, opening_of, view, words_in};
 
 use crate::closed::Closed;
-use crate::laws::closed;
+use crate::laws::closed_tables;
 use crate::layout::stride;
 use crate::seat::Seat;
 use crate::table::TxTable;
@@ -32,7 +32,7 @@ impl<V: Value> TxTable<V> {
             (view seat) (row_of result) (map some (homes_of result)) }
         ensures shows { ShowsWorld (opening_of self) (actor seat) (view seat) (row_of result) (map some (homes_of result)) }
     {
-        closed::<V>();
+        closed_tables::<V>();
         let TxTable {
             whole,
             words,

@@ -1,5 +1,5 @@
 //! The laws of the table's rule. Each step has one event appended to those that reach the table's world, after what its seat has asked; a
-//! split, a join and a look at the clock leave the world as it is.
+//! split, a join and a load of the clock leave the world as it is.
 ghost use Rattle.tx_table.specs.declared.view.TheConstants.{SHARES};
 ghost use Rattle.std.specs.Prelude.{◌≡◌, ◌+◌, ◌<◌, ◌≤◌, ◌==◌, ◌∷◌, ℕ, List, Option, [], Some, None, false, length};
 ghost use mathlib.Core.Option.{some, Option as Home};
@@ -22,7 +22,7 @@ ghost use Rattle.replay_log.specs.WorldTraces.{is_half_done};
 ghost use Rattle.actor_laws.specs.Bases.{IsBaseOf, ShowsBase, IsFolded, log_changes, log_locations};
 ghost use Rattle.actor_laws.specs.Gates.{Tries, Puts, GoesHome};
 ghost use Rattle.actor_laws.specs.Own.{Alike, SameAfter};
-ghost use Rattle.actor_laws.specs.Spots.{Word, Gate, deed_of};
+ghost use Rattle.actor_laws.specs.StepTargets.{Word, Gate, deed_of};
 ghost use Rattle.actor_laws.specs.Steps.{ready_at};
 ghost use Rattle.tx_table.specs.Layout.{address, gate_address, IsInside};
 ghost use Rattle.tx_table.specs.Turns.{spot, found_at, ends, asked_all, lone, stage_of};
@@ -36,7 +36,7 @@ ghost use Rattle.tx_table.specs.Shown.{
   Told,
   Took,
   IsBaseAt,
-  View,
+  SeatKnowledge,
   Slot,
   IsOpening,
   Closes,
@@ -63,13 +63,13 @@ pub fn turns<V>()
 /// A step on a word of the table, whatever the table is by then: the word becomes what the machine says, the seat takes note of what it
 /// found, and what it has asked and the step follow the events. On the clock it finds room, and the seat knows what it left there.
 pub fn word_steps<V>()
-    ensures any { (o : World V) (slots id : ℕ) (m : Me (Slot V) (View V)) (asks : List (Event V)) (c : Cell) (f : ℕ → ℕ) →
+    ensures any { (o : World V) (slots id : ℕ) (m : Me (Slot V) (SeatKnowledge V)) (asks : List (Event V)) (c : Cell) (f : ℕ → ℕ) →
         let alone = asked_all id (lone id o m.0.turns) asks in
         0 < m.0.shares → spot id alone ≡ Word c → IsInside (end_of o.words o.blocks) c →
         ((k : ℕ) → becomes (deed_of (ready_at id alone (stage_of alone id)) id) k ≡ f k) →
         Steps o slots id m asks (address (end_of o.words o.blocks) c) f
         (λ found t. Told o id asks m.0.clock m found None t.0 × (t.1 ≡ m.1)) }
-    ensures clock { (o : World V) (slots id : ℕ) (m : Me (Slot V) (View V)) (asks : List (Event V)) (f left : ℕ → ℕ) →
+    ensures clock { (o : World V) (slots id : ℕ) (m : Me (Slot V) (SeatKnowledge V)) (asks : List (Event V)) (f left : ℕ → ℕ) →
         let alone = asked_all id (lone id o m.0.turns) asks in
         0 < m.0.shares → spot id alone ≡ Word ClockCell →
         ((k : ℕ) → k ≤ highest_clock → becomes (deed_of (ready_at id alone (stage_of alone id)) id) k ≡ f k) →
@@ -79,17 +79,17 @@ pub fn word_steps<V>()
 {}
 
 /// A step on a gate of a table that was opened, likewise. A gate that is tried and found free goes to the seat with its base. One that is
-/// put back puts its base back: as the actor's lone world has it then, or with the log of the transaction folded into what the lone world
+/// put back puts its base back: as in the actor's lone world then, or with the log of the transaction folded into what the lone world
 /// had. Which step is next in the lone world is all that a seat has to know; the machine's guards hold.
 pub fn gate_steps<V>()
     ensures take { (blocks : List Block) (clock : ℕ) (values : List ℕ) (held : List (Held V)) → HaveStripes blocks →
         let o = opened blocks clock values held in
-        (slots id : ℕ) (m : Me (Slot V) (View V)) (asks : List (Event V)) (k : ℕ) → 0 < m.0.shares → k < length blocks →
+        (slots id : ℕ) (m : Me (Slot V) (SeatKnowledge V)) (asks : List (Event V)) (k : ℕ) → 0 < m.0.shares → k < length blocks →
         Tries (asked_all id (lone id o m.0.turns) asks) id k →
         Steps o slots id m asks (gate_address (end_of o.words blocks) k) (λ n. either (n == 0) 1 n) (Took o id asks m k) }
     ensures put { (blocks : List Block) (clock : ℕ) (values : List ℕ) (held : List (Held V)) → HaveStripes blocks →
         let o = opened blocks clock values held in
-        (slots id : ℕ) (m : Me (Slot V) (View V)) (asks : List (Event V)) (k : ℕ) (b : Base V) (others : List ((i : ℕ) × Slot V)) →
+        (slots id : ℕ) (m : Me (Slot V) (SeatKnowledge V)) (asks : List (Event V)) (k : ℕ) (b : Base V) (others : List ((i : ℕ) × Slot V)) →
         let alone = asked_all id (lone id o m.0.turns) asks in
         0 < m.0.shares → k < length blocks → m.1 ≡ (k, Some b) ∷ others → Puts alone id k → IsBaseAt blocks k b →
         ShowsBase o.words blocks (happens (found_at id alone (Gate k) 1 None) (Step id)).0 k b →
@@ -97,7 +97,7 @@ pub fn gate_steps<V>()
         (λ _ t. Told o id asks m.0.clock m 1 None t.0 × (t.1 ≡ others)) }
     ensures home { (blocks : List Block) (clock : ℕ) (values : List ℕ) (held : List (Held V)) → HaveStripes blocks →
         let o = opened blocks clock values held in
-        (slots id : ℕ) (m : Me (Slot V) (View V)) (asks : List (Event V)) (k : ℕ) (b : Block) (before now : Base V)
+        (slots id : ℕ) (m : Me (Slot V) (SeatKnowledge V)) (asks : List (Event V)) (k : ℕ) (b : Block) (before now : Base V)
         (others : List ((i : ℕ) × Slot V)) →
         let alone = asked_all id (lone id o m.0.turns) asks in
         let outcomes = (alone.boosted.shadows id).outcomes in
@@ -113,12 +113,12 @@ pub fn gate_steps<V>()
 pub fn shares<V>()
     ensures opened { (o : World V) (words : List ℕ) (homes : List (Home (Slot V))) → IsOpening o → o.boosted.words.clock ≤ clock_limit →
         o.records ≡ [] → Table o.words o.blocks o words homes → Rule o (record { words = words; homes = homes; views = first_view ∷ [] }) }
-    ensures split { (o w : World V) (id k : ℕ) (v : View V) → IsOpening o → 0 < k → k < v.shares →
+    ensures split { (o w : World V) (id k : ℕ) (v : SeatKnowledge V) → IsOpening o → 0 < k → k < v.shares →
         Splits (Shows o w) id v (left_of k v) (right_of k v) }
-    ensures look { (o w : World V) (slots id : ℕ) (m : Me (Slot V) (View V)) →
+    ensures look { (o w : World V) (slots id : ℕ) (m : Me (Slot V) (SeatKnowledge V)) →
         Allows (Shows o w) slots id m 0 (λ k. k)
         (λ found t. (t ≡ (looking m.0 found, m.1)) × (m.0.clock ≤ found) × (found ≤ highest_clock)) }
-    ensures join { (o w : World V) (id other : ℕ) (v u : View V) → 0 < v.shares → 0 < u.shares →
+    ensures join { (o w : World V) (id other : ℕ) (v u : SeatKnowledge V) → 0 < v.shares → 0 < u.shares →
         is_half_done (stage_of (lone other o u.turns) other) ≡ false →
         ((k : ℕ) → is_actor other ((lone other o u.turns).boosted.gates k) ≡ false) →
         Joins (Shows o w) id v other u (both_of v other u) (spent_of u) }
@@ -126,10 +126,10 @@ pub fn shares<V>()
 
 /// What a table leaves whose seat has all shares: its receipts, in commit order, are a run of the sequential model from the opening,
 /// words and bases are what that run leaves.
-pub fn closed<V: Value>()
+pub fn closed_tables<V: Value>()
     ensures { (blocks : List Block) (clock : ℕ) (values : List ℕ) (held : List (Held V)) → HaveStripes blocks → Suit blocks held →
         let o = opened blocks clock values held in
-        (id : ℕ) (v : View V) (s : State (Slot V) (View V)) → Rule o s → get_elem? s.views id ≡ some v → v.shares ≡ SHARES →
+        (id : ℕ) (v : SeatKnowledge V) (s : State (Slot V) (SeatKnowledge V)) → Rule o s → get_elem? s.views id ≡ some v → v.shares ≡ SHARES →
         is_half_done (stage_of (lone id o v.turns) id) ≡ false → ((k : ℕ) → is_actor id ((lone id o v.turns).boosted.gates k) ≡ false) →
         Closes (length values) blocks (record { words = values; held = held }) v s.words s.homes }
 {

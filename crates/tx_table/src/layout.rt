@@ -21,7 +21,7 @@ pub(crate) fn stride(locations: usize) -> usize
 impl<V: Value> TxTable<V> {
     /// Where the lock word of a location is; its value is right after it.
     #[inline(always)]
-    pub(crate) fn place(&self, location: u32) -> usize
+    pub(crate) fn lock_index(&self, location: u32) -> usize
         requires { location < locations_in self.now }
         ensures lock { result ≡ address (locations_in self.now) (LockCell location) }
         ensures value { result + 1 ≡ address (locations_in self.now) (ValueCell location) }
@@ -32,7 +32,7 @@ impl<V: Value> TxTable<V> {
 
     /// Where the gate of a collection is.
     #[inline(always)]
-    pub(crate) fn gate_place(&self, collection: u32) -> usize
+    pub(crate) fn gate_index(&self, collection: u32) -> usize
         requires { collection < length (blocks_in self.now) }
         ensures place { result ≡ gate_address (locations_in self.now) collection }
         ensures inside { result < self.now.whole.shared.table_id.words }

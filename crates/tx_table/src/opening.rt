@@ -11,7 +11,7 @@ ghost use Rattle.tx_table.specs.Seated.{Owns, blocks_in, contents_in, list_of, o
 use crate::home::Home;
 use crate::layout::stride;
 use crate::rule::Whole;
-use crate::seat::{Asked, Seat};
+use crate::seat::{EventsSinceStep, Seat};
 use crate::table::TxTable;
 use crate::view::{Opening, SHARES};
 use actor_parts::{Blocks, Boxed, lay};
@@ -119,7 +119,7 @@ impl<V: Value> TxTable<V> {
         };
         let seat = Seat {
             place,
-            asked: Asked::Nothing,
+            asked: EventsSinceStep::Nothing,
             shares: SHARES,
             last: 0,
         };

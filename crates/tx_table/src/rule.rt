@@ -1,6 +1,6 @@
 //! The rule of a running table.
 use crate::home::Home;
-use crate::view::{Opening, View};
+use crate::view::{Opening, SeatKnowledge};
 use actor_parts::Boxed;
 use atomic_table::{Join, Play, Seat, Shared, Split, Table, TableRule};
 use replay_log::Base;
@@ -10,7 +10,7 @@ use std::marker::Brand;
 /// Some list of events reaches, from the opening, a world that the table shows.
 pub struct Order;
 
-impl<V> TableRule<Boxed<Home<Base<V>>>, View<V>, Opening<V>> for Order {
+impl<V> TableRule<Boxed<Home<Base<V>>>, SeatKnowledge<V>, Opening<V>> for Order {
     ghost use Rattle.tx_table.specs.Shown.{first as first_view};
     ghost use Rattle.tx_table.specs.Opening.{Holds};
 
@@ -20,19 +20,19 @@ impl<V> TableRule<Boxed<Home<Base<V>>>, View<V>, Opening<V>> for Order {
 }
 
 // Each call picks what its step answers.
-impl<V> Play<Boxed<Home<Base<V>>>, View<V>> for Brand {
+impl<V> Play<Boxed<Home<Base<V>>>, SeatKnowledge<V>> for Brand {
     ghost then = { λ _ _ _ _. Unit {0} };
 }
 
 // Each call picks how many shares go.
-impl<V> Split<View<V>> for Brand {
+impl<V> Split<SeatKnowledge<V>> for Brand {
     ghost left = { λ v. v };
 
     ghost right = { λ v. v };
 }
 
 // Each call picks what is left of the other seat.
-impl<V> Join<View<V>> for Brand {
+impl<V> Join<SeatKnowledge<V>> for Brand {
     ghost use Rattle.tx_table.specs.Shown.{first};
 
     ghost both = { λ v _. v };
@@ -41,10 +41,10 @@ impl<V> Join<View<V>> for Brand {
 }
 
 /// What all threads share of a table.
-pub type Board<V> = Shared<Boxed<Home<Base<V>>>, View<V>, Opening<V>, Order>;
+pub type Board<V> = Shared<Boxed<Home<Base<V>>>, SeatKnowledge<V>, Opening<V>, Order>;
 
 /// A whole table, which one thread owns.
-pub type Whole<V> = Table<Boxed<Home<Base<V>>>, View<V>, Opening<V>, Order, Global>;
+pub type Whole<V> = Table<Boxed<Home<Base<V>>>, SeatKnowledge<V>, Opening<V>, Order, Global>;
 
 /// What a seat has of a table: its view, and the slots that it took out.
-pub type Place<V> = Seat<Boxed<Home<Base<V>>>, View<V>>;
+pub type TableSeat<V> = Seat<Boxed<Home<Base<V>>>, SeatKnowledge<V>>;

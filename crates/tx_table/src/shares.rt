@@ -5,7 +5,7 @@ ghost use Rattle.tx_table.specs.Shown.{both_of, left_of, right_of};
 ghost use Rattle.tx_table.specs.Seated.{IsSameSeat, Owns, Rests, actor, acts, kept, list_of, opening_of, out, view};
 
 use crate::rule::Board;
-use crate::seat::{Asked, Seat};
+use crate::seat::{EventsSinceStep, Seat};
 use crate::table::TxTable;
 use seq_model::Value;
 use std::marker::Brand;
@@ -26,7 +26,7 @@ fn cut<V: Value>(board: &Board<V>, seat: &mut Seat<V>, shares: u64) -> Seat<V>
     seat.shares -= shares;
     Seat {
         place,
-        asked: Asked::Nothing,
+        asked: EventsSinceStep::Nothing,
         shares,
         last: 0,
     }

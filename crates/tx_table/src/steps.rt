@@ -11,7 +11,7 @@ ghost use Rattle.tx_table.specs.Seated.{Adds, Exchanges, IsHome, Loads, Stepped,
 
 use crate::home::{lift, put};
 use crate::rule::Board;
-use crate::seat::{Asked, Seat};
+use crate::seat::{EventsSinceStep, Seat};
 use actor_parts::Boxed;
 use replay_log::Base;
 use seq_model::Value;
@@ -28,7 +28,7 @@ pub(crate) fn load_word<V: Value>(board: &Board<V>, seat: &mut Seat<V>, word: us
     ensures { Stepped (world_at board.now.key) seat.old result seat.new }
 {
     let found = board.load::<Brand>(&mut seat.place, word);
-    seat.asked = Asked::Nothing;
+    seat.asked = EventsSinceStep::Nothing;
     found
 }
 
@@ -49,7 +49,7 @@ pub(crate) fn swap_word<V: Value>(
     ensures { Stepped (world_at board.now.key) seat.old result seat.new }
 {
     let found = board.compare_exchange::<Brand>(&mut seat.place, word, old, new);
-    seat.asked = Asked::Nothing;
+    seat.asked = EventsSinceStep::Nothing;
     found
 }
 
@@ -64,7 +64,7 @@ pub(crate) fn store_word<V: Value>(board: &Board<V>, seat: &mut Seat<V>, word: u
     ensures { StepsBlind (world_at board.now.key) seat.old seat.new }
 {
     board.store::<Brand>(&mut seat.place, word, new);
-    seat.asked = Asked::Nothing;
+    seat.asked = EventsSinceStep::Nothing;
 }
 
 pub(crate) fn load_first<V: Value>(board: &Board<V>, seat: &mut Seat<V>) -> u64
@@ -78,7 +78,7 @@ pub(crate) fn load_first<V: Value>(board: &Board<V>, seat: &mut Seat<V>) -> u64
     ensures step { Takes (world_at board.now.key) seat.old result result None (out seat.old) seat.new }
 {
     let found = board.load::<Brand>(&mut seat.place, 0);
-    seat.asked = Asked::Nothing;
+    seat.asked = EventsSinceStep::Nothing;
     found
 }
 
@@ -93,7 +93,7 @@ pub(crate) fn add_one<V: Value>(board: &Board<V>, seat: &mut Seat<V>) -> u64
     ensures step { Takes (world_at board.now.key) seat.old (result + 1) result None (out seat.old) seat.new }
 {
     let found = board.fetch_add::<Brand>(&mut seat.place, 0, 1);
-    seat.asked = Asked::Nothing;
+    seat.asked = EventsSinceStep::Nothing;
     found
 }
 
@@ -118,7 +118,7 @@ pub(crate) fn try_gate<V: Value>(
         × Takes (world_at board.now.key) seat.old (view seat.old).clock 0 (Some base) (out seat.old ++ (of.1, None) ∷ []) seat.new) }
 {
     let found = board.compare_exchange::<Brand>(&mut seat.place, word, 0, 1);
-    seat.asked = Asked::Nothing;
+    seat.asked = EventsSinceStep::Nothing;
     if found != 0 {
         return None;
     }
@@ -149,5 +149,5 @@ pub(crate) fn free_gate<V: Value>(
 {
     put(seat.place.slot_mut(board, gate), base);
     board.store::<Brand>(&mut seat.place, word, 0);
-    seat.asked = Asked::Nothing;
+    seat.asked = EventsSinceStep::Nothing;
 }

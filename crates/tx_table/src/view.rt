@@ -25,7 +25,7 @@ pub struct Turn<V> {
 /// What a seat knows: its shares, the clock as it last left it, what its actor has asked and found, the transactions that were committed,
 /// by its actor and by those whose seats were joined into it, these actors, each with what it has asked and found, and the clocks that it
 /// loaded beside its turns.
-pub struct View<V> {
+pub struct SeatKnowledge<V> {
     pub shares: u64,
     pub clock: u64,
     pub turns: Items<Turn<V>>,

@@ -24,14 +24,14 @@ use Rattle.actor_laws.proofs.OwnEvents.{own_event}
 use Rattle.actor_parts.specs.Requests.{HasNoReads}
 use Rattle.tx_actor.specs.Asks.{Admits}
 use Rattle.tx_actor.specs.Calls.{AsksAt, CanCall, StandsOwn}
-use Rattle.tx_actor.specs.Having.{ReadsStill}
-use Rattle.tx_actor.specs.Keeping.{IsRunning, KeepsIn}
+use Rattle.tx_actor.specs.CopiesByStage.{ReadsStill}
+use Rattle.tx_actor.specs.ActorBounds.{IsRunning, KeepsIn}
 use Rattle.tx_actor.specs.Running.{Runs, seat_at, seat_of, stage_of}
 use Rattle.tx_actor.specs.declared.actor.Stage.{Stage}
 use Rattle.tx_actor.specs.declared.actor.Stage.TheVariants as stage
-use Rattle.tx_actor.specs.declared.actor.Told.{Told}
+use Rattle.tx_actor.specs.declared.actor.ActorNotice.{ActorNotice}
 use Rattle.tx_actor.specs.declared.actor.TxActor.{TxActor}
-use Rattle.tx_actor.specs.Kept.{AsksKeep}
+use Rattle.tx_actor.specs.CopiesAfterEvent.{AsksKeep}
 use Rattle.tx_actor.proofs.GatesLemmas.{gates_as, none_has}
 use Rattle.tx_actor.proofs.OwnLemmas.{AllLaw, Apart, BlocksLaw, CallsReached, OthersLaw, ask_runs, can_call, may_call, open_or}
 use Rattle.tx_actor.proofs.OwnLemmas.{refused_ask}
@@ -41,9 +41,9 @@ use Rattle.tx_table.specs.declared.table.TxTable.{TxTable}
 use Rattle.tx_table.specs.Seated as seated
 use Rattle.tx_table.specs.Seated.{acts, opening_of}
 use Rattle.tx_turns.proofs.OwnLemmas.{own_gates}
-use Rattle.tx_turns.specs.Asked.{Answers, HasAsked}
+use Rattle.tx_turns.specs.RequestStep.{Answers, HasAsked}
 use Rattle.tx_turns.specs.Ties.{Ties, laid_in}
-use Rattle.tx_turns.proofs.AskedLemmas.{acts_taken, no_reads, stays_tied, taken_tied}
+use Rattle.tx_turns.proofs.LoneRequestLemmas.{acts_taken, no_reads, stays_tied, taken_tied}
 use Rattle.tx_turns.specs.Bases.{AreBases, ArePreparedAt, gates_at, slots_of}
 use Rattle.tx_turns.specs.Own.{HasOwn}
 use Rattle.tx_turns.proofs.BasesLemmas.{are_none, gates_is, prepared_none}
@@ -125,7 +125,7 @@ module _ {V : Type 0} where
           (prepared_none q.copies.items q.stage (gates ∙ none))
 
   -- ---- the request
-  pub ask_tied : CallsReached V → OthersLaw V → (t : TxTable V) (s u : table.Seat V) (r q : TxActor V) (n : Told V) (x : Request V)
+  pub ask_tied : CallsReached V → OthersLaw V → (t : TxTable V) (s u : table.Seat V) (r q : TxActor V) (n : ActorNotice V) (x : Request V)
       (bs : List (Base V)) → Ties t s r → HasOwn t s r bs → HasAsked s x u
       → AsksAt (laid_in t) r q n (λ a w. ask_at w a (seat_of r) (stage_of r.stage) x) → IsRunning (laid_in t) q
       → Ties t u q × Answers (opening_of t) s x n
@@ -142,7 +142,7 @@ module _ {V : Type 0} where
         goes.1 ∙ same.1,
       )
 
-  pub ask_own : AsksKeep V → OthersLaw V → (t : TxTable V) (s u : table.Seat V) (r q : TxActor V) (n : Told V) (x : Request V)
+  pub ask_own : AsksKeep V → OthersLaw V → (t : TxTable V) (s u : table.Seat V) (r q : TxActor V) (n : ActorNotice V) (x : Request V)
       (bs : List (Base V)) → Ties t s r → HasOwn t s r bs → HasAsked s x u
       → AsksAt (laid_in t) r q n (λ a w. ask_at w a (seat_of r) (stage_of r.stage) x) → ReadsStill r.copies.items q.copies.items
       → Apart r q → IsRunning (laid_in t) q → Ties t u q → HasOwn t u q bs

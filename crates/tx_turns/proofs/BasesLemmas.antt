@@ -20,12 +20,12 @@ use Rattle.tx_machine.specs.Boosted.{is_actor, is_committing}
 use Rattle.actor_laws.specs.Bases.{ShowsBase}
 use Rattle.actor_laws.specs.Gates.{Tries, Puts}
 use Rattle.actor_laws.specs.Own.{Alike}
-use Rattle.actor_laws.specs.Spots.{Gate, Nowhere, Spot, Word}
+use Rattle.actor_laws.specs.StepTargets.{Gate, Nowhere, Spot, Word}
 use Rattle.actor_laws.proofs.Alike.{action_same, alike_same, spot_same}
-use Rattle.actor_laws.proofs.Spots.{one_spot}
-use Rattle.actor_laws.proofs.Turned.{put_turned, try_turned}
-use Rattle.actor_parts.specs.declared.copies.CopyOf.{CopyOf}
-use Rattle.tx_actor.specs.Having.{KeepsFrom, IsWholeOf}
+use Rattle.actor_laws.proofs.StepTargets.{one_spot}
+use Rattle.actor_laws.proofs.StepResult.{put_turned, try_turned}
+use Rattle.actor_parts.specs.declared.copies.CopyOfCollection.{CopyOfCollection}
+use Rattle.tx_actor.specs.CopiesByStage.{KeepsFrom, IsWholeOf}
 use Rattle.tx_actor.specs.Running.{stage_of}
 use Rattle.actor_parts.specs.Dispatch.{next_of}
 use Rattle.actor_parts.specs.declared.next.Next.TheVariants as next
@@ -156,13 +156,13 @@ module _ {V : Type 0} where
       (λ l p at. (sym (gated.parts l), sym (gated.editions l)))) shows
 
   -- ---- bases that are prepared
-  pub prepared_none : (cs : List (CopyOf V)) (s : own.Stage V) → gates_at s ≡ [] → ArePreparedAt cs s []
+  pub prepared_none : (cs : List (CopyOfCollection V)) (s : own.Stage V) → gates_at s ≡ [] → ArePreparedAt cs s []
   prepared_none cs (stage.Storing homes) e = subst (λ (ks : List ℕ). ArePrepared cs ks []) (sym e) tt
   prepared_none cs (stage.Homing homes) e = subst (λ (ks : List ℕ). ArePrepared cs ks []) (sym e) tt
   prepared_none cs s e = tt
 
   -- before the first value store, and in a transaction that ends, none has to be
-  pub prepared_no : (cs : List (CopyOf V)) (bs : List (Base V)) (t s : own.Stage V) (before now : List (CopyOf V))
+  pub prepared_no : (cs : List (CopyOfCollection V)) (bs : List (Base V)) (t s : own.Stage V) (before now : List (CopyOfCollection V))
       → KeepsFrom t s before now
       → ((ks : List ℕ) → IsWholeOf s ks → ⊥) → ArePreparedAt cs t bs
   prepared_no cs bs (stage.Storing homes) s before now h none = absurd (none homes.items h.0)
@@ -170,15 +170,15 @@ module _ {V : Type 0} where
   prepared_no cs bs t s before now h none = tt
 
   -- a step of the words leaves them prepared
-  pub prepared_from : (t s : own.Stage V) (before now : List (CopyOf V)) (bs : List (Base V)) → KeepsFrom t s before now
+  pub prepared_from : (t s : own.Stage V) (before now : List (CopyOfCollection V)) (bs : List (Base V)) → KeepsFrom t s before now
       → gates_at t ≡ gates_at s → ((ks : List ℕ) → IsWholeOf s ks → ArePrepared before (gates_at s) bs) → ArePreparedAt now t bs
   prepared_from (stage.Storing homes) s before now bs h e p =
-      subst (λ (z : List (CopyOf V) × List ℕ). ArePrepared z.0 z.1 bs) (λ i. (sym h.1 i, sym e i)) (p homes.items h.0)
+      subst (λ (z : List (CopyOfCollection V) × List ℕ). ArePrepared z.0 z.1 bs) (λ i. (sym h.1 i, sym e i)) (p homes.items h.0)
   prepared_from (stage.Homing homes) s before now bs h e p =
-      subst (λ (z : List (CopyOf V) × List ℕ). ArePrepared z.0 z.1 bs) (λ i. (sym h.1 i, sym e i)) (p homes.items h.0)
+      subst (λ (z : List (CopyOfCollection V) × List ℕ). ArePrepared z.0 z.1 bs) (λ i. (sym h.1 i, sym e i)) (p homes.items h.0)
   prepared_from t s before now bs h e p = tt
 
-  pub prepared_of : (s : own.Stage V) (cs : List (CopyOf V)) (bs : List (Base V)) → next_of (stage_of s) ≡ next.Word → ArePreparedAt cs s bs
+  pub prepared_of : (s : own.Stage V) (cs : List (CopyOfCollection V)) (bs : List (Base V)) → next_of (stage_of s) ≡ next.Word → ArePreparedAt cs s bs
       → (ks : List ℕ) → IsWholeOf s ks → ArePrepared cs (gates_at s) bs
   prepared_of (stage.Ready homes) cs bs e h ks is = let z : ⊥ = cc in absurd z
   prepared_of (stage.Storing homes) cs bs e h ks is = h

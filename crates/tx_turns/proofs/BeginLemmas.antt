@@ -18,19 +18,19 @@ use Rattle.step_core.specs.declared.answer.WordAnswer.{WordAnswer}
 use Rattle.step_core.specs.declared.answer.WordRefusal.{WordRefusal}
 use Rattle.actor_parts.specs.Dispatch.{AreSteps, is_loading, next_of, notice_told}
 use Rattle.tx_actor.specs.Dispatch.{HasRoom, IsToldWord}
-use Rattle.tx_actor.specs.Having.{KeepsCopies}
-use Rattle.tx_actor.specs.Keeping.{IsRunning}
+use Rattle.tx_actor.specs.CopiesByStage.{KeepsCopies}
+use Rattle.tx_actor.specs.ActorBounds.{IsRunning}
 use Rattle.tx_actor.specs.Running.{stage_of}
 use Rattle.tx_actor.specs.declared.actor.Stage as own
 use Rattle.tx_actor.specs.declared.actor.Stage.TheVariants as stage
-use Rattle.tx_actor.specs.declared.actor.Told.{Told}
+use Rattle.tx_actor.specs.declared.actor.ActorNotice.{ActorNotice}
 use Rattle.tx_actor.specs.declared.actor.TxActor.{TxActor}
 use Rattle.tx_actor.proofs.StepLemmas.{running_moved}
 use Rattle.tx_table.specs.declared.seat.Seat.{Seat}
 use Rattle.tx_table.specs.declared.table.TxTable.{TxTable}
 use Rattle.tx_table.specs.Seated.{Loads, Takes, acts, actor, blocks_in, opening_of, out, view}
-use Rattle.tx_turns.proofs.DueLemmas.{at_place, learns_at}
-use Rattle.tx_turns.specs.declared.due.Due.TheVariants as due
+use Rattle.tx_turns.proofs.NextStepLemmas.{at_place, learns_at}
+use Rattle.tx_turns.specs.declared.due.NextStep.TheVariants as due
 use Rattle.tx_turns.proofs.TurnLemmas.{word_is_next}
 use Rattle.tx_turns.specs.Ties.{Ties, laid_in}
 use Rattle.tx_turns.specs.Laws.{WordsKeep}
@@ -50,7 +50,7 @@ module _ {V : Type 0} where
       (h.spot, h.becomes)
 
   pub begin_heard : AreSteps V → WordsKeep V → (t : TxTable V) (s u : Seat V) (r q : TxActor V) (y : Actor)
-      (m : Result (Option WordAnswer) WordRefusal) (n : Told V) (clock : ℕ) (bs : List (Base V)) → r.stage ≡ stage.Beginning
+      (m : Result (Option WordAnswer) WordRefusal) (n : ActorNotice V) (clock : ℕ) (bs : List (Base V)) → r.stage ≡ stage.Beginning
       → r.words.place ≡ Begin → AreSmall (blocks_in t) → Ties t s r → HasOwn t s r bs → (view s).clock ≤ clock
       → Takes (opening_of t) s clock clock None (out s) u → words.actor_of y ≡ begun (words.actor_of r.words) clock
       → m ≡ result_of (begin_notice clock) → ((j : ℕ) → Fits j r.words → Fits j y)

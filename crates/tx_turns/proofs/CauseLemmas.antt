@@ -15,11 +15,11 @@ use Rattle.seq_model.specs.declared.refusal.Refusal.{Refusal}
 use Rattle.seq_model.specs.declared.refusal.Refusal.TheVariants.{Moved, Busy, Stale, GateBusy, Invalid}
 use Rattle.replay_log.proofs.MixedLemmas.{is_word_op}
 use Rattle.replay_log.proofs.SeatLemmas.{AtLocking, AtReading, AtStoring, KnownAsk, Linked, StageOk}
-use Rattle.replay_log.specs.Contents.{Asked, Block}
+use Rattle.replay_log.specs.Contents.{CollectionCall, Block}
 use Rattle.replay_log.specs.Seats.{World, Stage, Closing, Copying, Gating, Homing, Loading, Locking, Reading, Ready, Releasing, Storing}
 use Rattle.replay_log.specs.Seats.{Trying, actor_of}
 use Rattle.replay_log.specs.WorldRefusals.{IsCause, IsCopied, IsLastTry}
-use Rattle.actor_laws.specs.Phases.{Phase, Calls, Commits, Committed, phase, phase_at}
+use Rattle.actor_laws.specs.KnownStages.{KnownStage, Calls, Commits, Committed, known_stage, known_stage_at}
 use Rattle.tx_turns.specs.Driven.{IsCallCause, IsCommitCause, IsLoading, IsOnCollection}
 
 -- ---- places
@@ -46,20 +46,20 @@ module _ {V : Type 0} where
   held_kind (Write value) h = absurd (true≢false h)
   held_kind op h = (tt, tt)
 
-  known_kind : (bs : List Block) (y : Actor) (asked : Asked V) → KnownAsk bs y asked → IsLoading asked.op × IsOnCollection asked.op
+  known_kind : (bs : List Block) (y : Actor) (asked : CollectionCall V) → KnownAsk bs y asked → IsLoading asked.op × IsOnCollection asked.op
   known_kind bs y asked h = held_kind asked.op h.0
 
   -- the call that is under way
-  op_in : Phase V → Op V
+  op_in : KnownStage V → Op V
   op_in (Calls calls call) = call.op
   op_in p = Read
 
   -- ---- stages
-  abbrev IsOfCall : Phase V → Type 0
+  abbrev IsOfCall : KnownStage V → Type 0
   IsOfCall (Calls calls call) = Unit {0}
   IsOfCall p = ⊥
 
-  abbrev pub IsOfCommit : Phase V → Type 0
+  abbrev pub IsOfCommit : KnownStage V → Type 0
   IsOfCommit (Commits calls) = Unit {0}
   IsOfCommit Committed = Unit {0}
   IsOfCommit p = ⊥
@@ -72,7 +72,7 @@ module _ {V : Type 0} where
     IsOkAt st p = StageOk v.words v.blocks (v.seats a) y (v.boosted.shadows a) st p
 
     -- no lock and no check is stopped in a call
-    call_stops : (st : Stage V) → IsOfCall (phase_at cs st) → (p : Place) → IsOkAt st p → (i : ℕ) (w : LockWord)
+    call_stops : (st : Stage V) → IsOfCall (known_stage_at cs st) → (p : Place) → IsOkAt st p → (i : ℕ) (w : LockWord)
         → (StopsLock p w → ⊥) × (StopsCheck y p i w → ⊥)
     call_stops (Reading l) on p ok i w = reads_only y l i p w ok.0
     call_stops (Trying asked tries) on p ok i w =
@@ -84,7 +84,7 @@ module _ {V : Type 0} where
     call_stops st on p ok i w = absurd on
 
     -- a write is answered as it is asked
-    call_loads : (st : Stage V) → IsOfCall (phase_at cs st) → (p : Place) → IsOkAt st p → IsLoading (op_in (phase_at cs st))
+    call_loads : (st : Stage V) → IsOfCall (known_stage_at cs st) → (p : Place) → IsOkAt st p → IsLoading (op_in (known_stage_at cs st))
     unfolding op_in
     call_loads (Reading l) on p ok = tt
     call_loads (Trying asked tries) on p ok = (known_kind v.blocks y asked ok.2).0
@@ -95,22 +95,22 @@ module _ {V : Type 0} where
 
     -- a collection is copied, and its gate is tried
     call_copies : (st : Stage V) → (p : Place) → IsOkAt st p → (l edition : ℕ) → IsCopied v st l edition
-        → IsOnCollection (op_in (phase_at cs st))
+        → IsOnCollection (op_in (known_stage_at cs st))
     unfolding op_in
     call_copies (Copying asked) p ok l edition h = (known_kind v.blocks y asked ok.2).1
     call_copies (Loading o []) p ok l edition h = absurd ok
     call_copies (Loading o (d ∷ es)) p ok l edition h = (held_kind o.asked.op ok.2.kind).1
     call_copies st p ok l edition h = absurd h
 
-    call_tries : (st : Stage V) → IsOfCall (phase_at cs st) → (p : Place) → IsOkAt st p → (k : ℕ) → IsLastTry st k
-        → IsOnCollection (op_in (phase_at cs st))
+    call_tries : (st : Stage V) → IsOfCall (known_stage_at cs st) → (p : Place) → IsOkAt st p → (k : ℕ) → IsLastTry st k
+        → IsOnCollection (op_in (known_stage_at cs st))
     unfolding op_in
     call_tries (Trying asked tries) on p ok k h = (known_kind v.blocks y asked ok.2).1
     call_tries (Gating got ks tries) on p ok k h = absurd on
     call_tries st on p ok k h = absurd h
 
-    call_found : (st : Stage V) → IsOfCall (phase_at cs st) → IsOkAt st y.place → (cause : Refusal) → IsCause v a st u cause
-        → IsCallCause (op_in (phase_at cs st)) cause
+    call_found : (st : Stage V) → IsOfCall (known_stage_at cs st) → IsOkAt st y.place → (cause : Refusal) → IsCause v a st u cause
+        → IsCallCause (op_in (known_stage_at cs st)) cause
     call_found st on ok (Moved l word) h = call_loads st on y.place ok
     call_found st on ok (Stale l base word) h = call_copies st y.place ok l base h.1
     call_found st on ok (GateBusy k) h = call_tries st on y.place ok k h.0
@@ -119,7 +119,7 @@ module _ {V : Type 0} where
     call_found st on ok cause h = absurd h
 
     -- no read is stopped in a commit, and nothing is copied
-    commit_stops : (st : Stage V) → IsOfCommit (phase_at cs st) → (p : Place) → IsOkAt st p → (w : LockWord) → StopsRead y p w → ⊥
+    commit_stops : (st : Stage V) → IsOfCommit (known_stage_at cs st) → (p : Place) → IsOkAt st p → (w : LockWord) → StopsRead y p w → ⊥
     commit_stops Locking on p ok w h = locks_only y p w ok.0 h
     commit_stops (Gating got [] tries) on p ok w h = absurd ok
     commit_stops (Gating got (k ∷ ks) tries) on p ok w h = subst (λ (q : Place). StopsRead y q w) ok.0 h
@@ -131,12 +131,12 @@ module _ {V : Type 0} where
     commit_stops Releasing on p ok w h = subst (λ (q : Place). StopsRead y q w) ok.0 h
     commit_stops st on p ok w h = absurd on
 
-    commit_copies : (st : Stage V) → IsOfCommit (phase_at cs st) → (l edition : ℕ) → IsCopied v st l edition → ⊥
+    commit_copies : (st : Stage V) → IsOfCommit (known_stage_at cs st) → (l edition : ℕ) → IsCopied v st l edition → ⊥
     commit_copies (Copying asked) on l edition h = absurd on
     commit_copies (Loading o es) on l edition h = absurd on
     commit_copies st on l edition h = h
 
-    commit_found : (st : Stage V) → IsOfCommit (phase_at cs st) → IsOkAt st y.place → (cause : Refusal) → IsCause v a st u cause
+    commit_found : (st : Stage V) → IsOfCommit (known_stage_at cs st) → IsOkAt st y.place → (cause : Refusal) → IsCause v a st u cause
         → IsCommitCause cause
     commit_found st on ok (Busy l word) h = tt
     commit_found st on ok (Invalid l word) h = tt
@@ -147,12 +147,12 @@ module _ {V : Type 0} where
 
   -- ---- where events have led
   pub call_cause : (v u : World V) (a : ℕ) → Linked v → (calls : List (Call V × Reply V)) (call : Call V)
-      → phase (v.seats a) ≡ Calls calls call → (cause : Refusal) → IsCause v a (v.seats a).stage u cause → IsCallCause call.op cause
+      → known_stage (v.seats a) ≡ Calls calls call → (cause : Refusal) → IsCause v a (v.seats a).stage u cause → IsCallCause call.op cause
   unfolding op_in
   call_cause v u a k calls call on cause h =
       subst (λ (op : Op V). IsCallCause op cause) (ap op_in on)
       (call_found v u a (v.seats a).calls (v.seats a).stage (subst IsOfCall (sym on) tt) (k.seats a).stage cause h)
 
-  pub commit_cause : (v u : World V) (a : ℕ) → Linked v → IsOfCommit (phase (v.seats a)) → (cause : Refusal)
+  pub commit_cause : (v u : World V) (a : ℕ) → Linked v → IsOfCommit (known_stage (v.seats a)) → (cause : Refusal)
       → IsCause v a (v.seats a).stage u cause → IsCommitCause cause
   commit_cause v u a k on cause h = commit_found v u a (v.seats a).calls (v.seats a).stage on (k.seats a).stage cause h

@@ -27,14 +27,14 @@ use Rattle.step_core.specs.declared.actor.Place.TheVariants.{Check}
 use Rattle.step_core.specs.declared.answer.WordAnswer.{WordAnswer}
 use Rattle.step_core.specs.declared.answer.WordRefusal.{WordRefusal}
 use Rattle.actor_parts.specs.Dispatch.{AreSteps}
-use Rattle.tx_actor.specs.declared.actor.Told.TheVariants as told
+use Rattle.tx_actor.specs.declared.actor.ActorNotice.TheVariants as told
 use Rattle.tx_actor.specs.declared.actor.TxActor.{TxActor}
 use Rattle.tx_table.specs.declared.seat.Seat.{Seat}
 use Rattle.tx_table.specs.declared.table.TxTable.{TxTable}
 use Rattle.tx_table.specs.Seated.{Loads, Stepped, acts, actor, blocks_in, opening_of, view}
-use Rattle.tx_turns.proofs.DueLemmas.{check_is, learns_check}
+use Rattle.tx_turns.proofs.NextStepLemmas.{check_is, learns_check}
 use Rattle.tx_turns.specs.Touches.{StepsWords}
-use Rattle.tx_turns.specs.declared.due.Due.TheVariants as due
+use Rattle.tx_turns.specs.declared.due.NextStep.TheVariants as due
 use Rattle.tx_turns.proofs.TurnLemmas.{word_is_next}
 use Rattle.tx_turns.specs.Ties.{Ties}
 use Rattle.tx_turns.specs.Laws.{WordsKeep}

@@ -10,8 +10,8 @@ use Rattle.actor_parts.specs.declared.next.Next.{Next}
 use Rattle.tx_actor.specs.Running.{stage_of}
 use Rattle.tx_actor.specs.declared.actor.Stage as own
 use Rattle.tx_actor.specs.declared.actor.Stage.TheVariants as stage
-use Rattle.tx_actor.specs.declared.actor.Told.{Told}
-use Rattle.tx_actor.specs.declared.actor.Told.TheVariants as told
+use Rattle.tx_actor.specs.declared.actor.ActorNotice.{ActorNotice}
+use Rattle.tx_actor.specs.declared.actor.ActorNotice.TheVariants as told
 use Rattle.tx_actor.specs.declared.actor.TxActor.{TxActor}
 use Rattle.tx_table.specs.declared.seat.Seat.{Seat}
 use Rattle.tx_table.specs.declared.table.TxTable.{TxTable}
@@ -33,7 +33,7 @@ module _ {V : Type 0} where
   none_made a r stage.Closing on = absurd on
   none_made a r t on = refl
 
-  pub gate_leads : (t : TxTable V) (s u : Seat V) (r : TxActor V) (k : Next) (n : Told V) → next_of (stage_of r.stage) ≡ k → IsOnGate k
+  pub gate_leads : (t : TxTable V) (s u : Seat V) (r : TxActor V) (k : Next) (n : ActorNotice V) → next_of (stage_of r.stage) ≡ k → IsOnGate k
       → Ties t s r → Turned (opening_of t) s r u n → LeadsAll (opening_of t) s u n
   gate_leads t s u r k n due on ties turned d f was =
       driven_on t f s u r n d ties was turned None (none_made (actor s) r r.stage (subst IsOnGate (sym due) on))
@@ -43,6 +43,6 @@ module _ {V : Type 0} where
   stands o s d f was = was
 
   -- a part after those that were quiet
-  pub joins : (o : World V) (s u z : Seat V) (b c : Bool) (n : Told V) (before made now : Option (Record V)) → b ≡ c
+  pub joins : (o : World V) (s u z : Seat V) (b c : Bool) (n : ActorNotice V) (before made now : Option (Record V)) → b ≡ c
       → LeadsBy o s u told.Quiet before made → LeadsBy o u z (told_in b n) made now → LeadsBy o s z (told_in c n) before now
   joins o s u z b c n before made now e h k f was = told_so o f z b c n now e (k f (h f was))

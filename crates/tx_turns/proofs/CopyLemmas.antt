@@ -20,23 +20,23 @@ use Rattle.actor_laws.proofs.OwnEvents.{own_event}
 use Rattle.actor_parts.specs.Dispatch.{AreSteps, is_loading, next_of}
 use Rattle.actor_parts.specs.Requests.{HasNoReads}
 use Rattle.actor_parts.specs.declared.next.Next.TheVariants as next
-use Rattle.actor_parts.specs.Copied.{CopiesFor, CopiesReached}
+use Rattle.actor_parts.specs.CopyAtGate.{CopiesFor, CopiesReached}
 use Rattle.actor_parts.specs.Sizes.{SizesCopies}
 use Rattle.actor_parts.specs.Blocks.{BlocksView}
 use Rattle.tx_actor.specs.Copying.{CanCopy, CanCopyAt, HasTaken, HasTakenAt, StepsOn, StepsOnAt}
-use Rattle.tx_actor.specs.Having.{AsksNothing}
-use Rattle.tx_actor.specs.Keeping.{IsRunning, KeepsIn}
+use Rattle.tx_actor.specs.CopiesByStage.{AsksNothing}
+use Rattle.tx_actor.specs.ActorBounds.{IsRunning, KeepsIn}
 use Rattle.tx_actor.specs.Running.{Runs, at, stage_of}
-use Rattle.tx_actor.specs.Staying.{CopiesStayOwn}
+use Rattle.tx_actor.specs.CopiesAfterStep.{CopiesStayOwn}
 use Rattle.tx_actor.specs.Taking.{AreTakenAt, AreTakenFor, IsTakenCall, StarvesBehind, StarvesBehindAt}
 use Rattle.tx_actor.proofs.OwnCopyLemmas.{can_at}
 use Rattle.tx_actor.proofs.StageLemmas.{has_nothing}
-use Rattle.tx_actor.specs.declared.actor.Asked.{Asked}
-use Rattle.tx_actor.specs.declared.taking.Taken.{Taken}
+use Rattle.tx_actor.specs.declared.actor.CollectionCall.{CollectionCall}
+use Rattle.tx_actor.specs.declared.taking.KeyedCall.{KeyedCall}
 use Rattle.tx_actor.specs.declared.actor.Stage as own
 use Rattle.tx_actor.specs.declared.actor.Stage.TheVariants as stage
-use Rattle.tx_actor.specs.declared.actor.Told.{Told}
-use Rattle.tx_actor.specs.declared.actor.Told.TheVariants as told
+use Rattle.tx_actor.specs.declared.actor.ActorNotice.{ActorNotice}
+use Rattle.tx_actor.specs.declared.actor.ActorNotice.TheVariants as told
 use Rattle.tx_actor.specs.declared.actor.TxActor.{TxActor}
 use Rattle.tx_actor.proofs.CopyLemmas.{IsBaseIn as IsBaseThere, can_copy, copy_keeps, copy_runs, copy_starves, copying_is}
 use Rattle.tx_actor.proofs.CopyLemmas.{rests_to_copy}
@@ -45,15 +45,15 @@ use Rattle.tx_actor.proofs.OwnLemmas.{BlocksLaw, OthersLaw}
 use Rattle.tx_actor.proofs.SeatLemmas.{runs_stand}
 use Rattle.tx_table.specs.declared.seat.Seat as table
 use Rattle.tx_table.specs.declared.table.TxTable.{TxTable}
-use Rattle.tx_table.specs.declared.view.View.{View}
+use Rattle.tx_table.specs.declared.view.SeatKnowledge.{SeatKnowledge}
 use Rattle.tx_table.specs.Shown.{SameBases, Slot}
 use Rattle.tx_table.specs.Seated as seated
 use Rattle.tx_table.specs.Seated.{Takes, acts, opening_of, out, view}
 use Rattle.tx_table.specs.Turns.{moved}
 use Rattle.tx_table.proofs.Gates.{puts_spot}
-use Rattle.tx_turns.specs.Asked.{HasTaken as HasHeard}
+use Rattle.tx_turns.specs.RequestStep.{HasTaken as HasHeard}
 use Rattle.tx_turns.specs.Ties.{IsOnWord, Ties, Turned, commits_at, laid_in}
-use Rattle.tx_turns.proofs.AskedLemmas.{acts_taken, seat_tied}
+use Rattle.tx_turns.proofs.LoneRequestLemmas.{acts_taken, seat_tied}
 use Rattle.tx_turns.specs.Bases.{AreBases, ArePreparedAt, IsBaseIn, gates_at, slots_of}
 use Rattle.tx_turns.specs.Own.{HasOwn}
 use Rattle.tx_turns.specs.Refused.{IsGivenUp}
@@ -115,7 +115,7 @@ module _ {V : Type 0} where
   off_copy r k due on = subst IsOnWord due on
 
   pub copy_tied : AreSteps V → CopiesStayOwn V → CopiesFor V → CopiesReached V → SizesCopies V → BlocksLaw V → OthersLaw V
-      → (t : TxTable V) (s u : table.Seat V) (r q : TxActor V) (n : Told V) (k : ℕ) (bs cs : List (Base V)) (b : Base V)
+      → (t : TxTable V) (s u : table.Seat V) (r q : TxActor V) (n : ActorNotice V) (k : ℕ) (bs cs : List (Base V)) (b : Base V)
       → next_of (stage_of r.stage) ≡ next.Copy k → Ties t s r → HasOwn t s r bs → bs ≡ b ∷ cs
       → Takes (opening_of t) s (view s).clock 1 None (rest (out s)) u → StepsOnAt (laid_in t) r q n b r.stage
       → HasTakenAt (laid_in t) r q n b r.stage → IsRunning (laid_in t) q
@@ -192,7 +192,7 @@ module _ {V : Type 0} where
       let own_m : (a ≡ seated.actor m) × (x ≡ acts o m) = (sym takes.seat.1, sym takes.own) in
       let runs_m : Runs (seated.actor m) q (happens (acts o m) (Starve (seated.actor m))).0 =
       subst (λ (z : ℕ × World V). Runs z.0 q (happens z.1 (Starve z.0)).0) (λ i. (own_m.0 i, own_m.1 i)) runs_x in
-      let live : 0 < (view m).shares = subst (λ (n : ℕ). 0 < n) (sym (ap (λ (y : View V). y.shares) takes.turn)) ties.live in
+      let live : 0 < (view m).shares = subst (λ (n : ℕ). 0 < n) (sym (ap (λ (y : SeatKnowledge V). y.shares) takes.turn)) ties.live in
       let tie = seat_tied t m u q (Starve 0) (takes.seat.0 ∙ ties.owns) live takes.reached has running runs_m in
       let loads : is_loading ((acts o m).seats (seated.actor m)).stage ≡ true =
       subst (λ (z : ℕ × World V). is_loading (z.1.seats z.0).stage ≡ true) (λ i. (own_m.0 i, own_m.1 i))
@@ -214,7 +214,7 @@ module _ {V : Type 0} where
         }),
         record {
           copies = has_nothing q (acts o u) (seated.actor u) nothing;
-          out = ap (λ (y : Me (Slot V) (View V)). y.1) has.1
+          out = ap (λ (y : Me (Slot V) (SeatKnowledge V)). y.1) has.1
               ∙ (takes.held ∙ ((first_out s r k [] own.out (copy_first r.stage k due)).1 ∙ ap slots_of (sym gates)));
           bases = subst (λ (z : List ℕ × List (Base V)). AreBases o (acts o u) z.0 z.1) (λ i. (sym gates i, sym empty i)) tt;
           prepared = subst (λ (ds : List (Base V)). ArePreparedAt q.copies.items q.stage ds) (sym empty)
@@ -229,50 +229,50 @@ module _ {V : Type 0} where
       let st = (copying_is r.stage k due).1 in
       subst (AreTakenAt v r m base None) st h ∙ ap (λ (s : own.Stage V). at r s) (sym st)
 
-  pub taken_call : (v : BlocksView) (r m : TxActor V) (base : Base V) (p : Taken V) (k : ℕ) → next_of (stage_of r.stage) ≡ next.Copy k
+  pub taken_call : (v : BlocksView) (r m : TxActor V) (base : Base V) (p : KeyedCall V) (k : ℕ) → next_of (stage_of r.stage) ≡ next.Copy k
       → CanCopyAt v r base r.stage → AreTakenAt v r m base (Some p) r.stage
       → (r.stage ≡ stage.Copying p.asked) × CanCopy v (at r stage.Idle) base p.asked × IsTakenCall v (at r stage.Idle) m base p
   taken_call v r m base p k due can taken =
       let c = copying_is r.stage k due in
       let is : AreTakenFor v (at r stage.Idle) m base c.0 (Some p) = subst (AreTakenAt v r m base (Some p)) c.1 taken in
-      let at_it : r.stage ≡ stage.Copying p.asked = c.1 ∙ ap (λ (a : Asked V). stage.Copying a) (sym is.0) in
+      let at_it : r.stage ≡ stage.Copying p.asked = c.1 ∙ ap (λ (a : CollectionCall V). stage.Copying a) (sym is.0) in
       (at_it, can_at v r base p.asked stage.Idle (subst (CanCopyAt v r base) at_it can), is.1)
 
-  pub steps_at : (v : BlocksView) (r q : TxActor V) (n : Told V) (base : Base V) (asked : Asked V) → r.stage ≡ stage.Copying asked
+  pub steps_at : (v : BlocksView) (r q : TxActor V) (n : ActorNotice V) (base : Base V) (asked : CollectionCall V) → r.stage ≡ stage.Copying asked
       → StepsOn v (at r (stage.Copying asked)) q n base asked → StepsOnAt v r q n base r.stage
   steps_at v r q n base asked st h = subst (λ (s : own.Stage V). StepsOnAt v (at r s) q n base s) (sym st) h
 
-  pub taken_at : (v : BlocksView) (r q : TxActor V) (n : Told V) (base : Base V) (asked : Asked V) → r.stage ≡ stage.Copying asked
+  pub taken_at : (v : BlocksView) (r q : TxActor V) (n : ActorNotice V) (base : Base V) (asked : CollectionCall V) → r.stage ≡ stage.Copying asked
       → HasTaken v (at r stage.Idle) q n base asked → HasTakenAt v r q n base r.stage
   taken_at v r q n base asked st h = subst (HasTakenAt v r q n base) (sym st) h
 
-  pub behind_at : (v : BlocksView) (r q : TxActor V) (base : Base V) (asked : Asked V) → r.stage ≡ stage.Copying asked
+  pub behind_at : (v : BlocksView) (r q : TxActor V) (base : Base V) (asked : CollectionCall V) → r.stage ≡ stage.Copying asked
       → StarvesBehind v (at r (stage.Copying asked)) q base asked → StarvesBehindAt v r q base r.stage
   behind_at v r q base asked st h = subst (λ (s : own.Stage V). StarvesBehindAt v (at r s) q base s) (sym st) h
 
-  pub keeps_at : (v : BlocksView) (r q : TxActor V) (asked : Asked V) → r.stage ≡ stage.Copying asked
+  pub keeps_at : (v : BlocksView) (r q : TxActor V) (asked : CollectionCall V) → r.stage ≡ stage.Copying asked
       → KeepsIn v (at r (stage.Copying asked)) q → KeepsIn v r q
   keeps_at v r q asked st h = subst (λ (s : own.Stage V). KeepsIn v (at r s) q) (sym st) h
 
   -- ---- what the actor made of its call, at its table's blocks
-  abbrev pub GoesOn : BlocksView → TxActor V → Taken V → TxActor V → Told V → Type 0
+  abbrev pub GoesOn : BlocksView → TxActor V → KeyedCall V → TxActor V → ActorNotice V → Type 0
   GoesOn v u p q n =
       (r : TxActor V) (base : Base V) → CanCopy v r base p.asked → IsTakenCall v r u base p
       → StepsOn v (at r (stage.Copying p.asked)) q n base p.asked × HasTaken v r q n base p.asked
 
-  abbrev pub KeepsOn : BlocksView → TxActor V → Taken V → TxActor V → Type 0
+  abbrev pub KeepsOn : BlocksView → TxActor V → KeyedCall V → TxActor V → Type 0
   KeepsOn v u p q =
       (r : TxActor V) (base : Base V) → CanCopy v r base p.asked → IsTakenCall v r u base p → HasNoReads r.words
       → KeepsIn v (at r (stage.Copying p.asked)) q
 
-  abbrev pub StarvesOn : BlocksView → TxActor V → Taken V → TxActor V → Type 0
+  abbrev pub StarvesOn : BlocksView → TxActor V → KeyedCall V → TxActor V → Type 0
   StarvesOn v u p q =
       (r : TxActor V) (base : Base V) → CanCopy v r base p.asked → IsTakenCall v r u base p
       → StarvesBehind v (at r (stage.Copying p.asked)) q base p.asked
 
   -- The program has seen the first base in hand as d, at its blocks v. What the call touches was taken of it, and the actor is m.
   module _ (laws : CopyLaws V) (t : TxTable V) (s : table.Seat V) (r m : TxActor V) (k : ℕ) (bs : List (Base V)) (d : Base V)
-      (p : Taken V) (o : Option (Taken V)) (v : BlocksView) (laid : v ≡ laid_in t) (due : next_of (stage_of r.stage) ≡ next.Copy k)
+      (p : KeyedCall V) (o : Option (KeyedCall V)) (v : BlocksView) (laid : v ≡ laid_in t) (due : next_of (stage_of r.stage) ≡ next.Copy k)
       (ties : Ties t s r) (has : HasOwn t s r bs) (seen : d ≡ slice_index_or bs 0 d) (is : o ≡ Some p)
       (ok : AreTakenAt v r m d o r.stage) where
     front : (cs : List (Base V)) × (bs ≡ d ∷ cs)
@@ -283,7 +283,7 @@ module _ {V : Type 0} where
         taken_call v r m d p k due
         (subst (λ (z : BlocksView). CanCopyAt z r d r.stage) (sym laid)
         (copy_can laws.taken laws.on laws.sized laws.of laws.others t s r k bs front.0 d due ties has front.1))
-        (subst (λ (x : Option (Taken V)). AreTakenAt v r m d x r.stage) is ok)
+        (subst (λ (x : Option (KeyedCall V)). AreTakenAt v r m d x r.stage) is ok)
 
     -- so the program's base is the one that is put back
     abbrev IsShown : BlocksView → Base V → Type 0
@@ -299,7 +299,7 @@ module _ {V : Type 0} where
         ties.running
 
     -- the call continues once the gate is back
-    pub lifted_on : CopiesStayOwn V → (u : table.Seat V) (q : TxActor V) (n : Told V) (cs : List (Base V)) (b : Base V) → bs ≡ b ∷ cs
+    pub lifted_on : CopiesStayOwn V → (u : table.Seat V) (q : TxActor V) (n : ActorNotice V) (cs : List (Base V)) (b : Base V) → bs ≡ b ∷ cs
         → Takes (opening_of t) s (view s).clock 1 None (rest (out s)) u → GoesOn v m p q n → KeepsOn v m p q
         → Ties t u q × Turned (opening_of t) s r u n × HasOwn t u q cs
     lifted_on stay u q n cs b hand takes does keeps =

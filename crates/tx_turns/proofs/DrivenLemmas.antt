@@ -25,27 +25,27 @@ use Rattle.replay_log.specs.WorldRefusals.{IsCause, is_ending}
 use Rattle.replay_log.specs.WorldTraces.{committed_by}
 use Rattle.actor_laws.specs.Own.{Alike}
 use Rattle.tx_actor.specs.Running.{notice_of}
-use Rattle.tx_actor.specs.declared.actor.Told.{Told}
-use Rattle.tx_actor.specs.declared.actor.Told.TheVariants as told
+use Rattle.tx_actor.specs.declared.actor.ActorNotice.{ActorNotice}
+use Rattle.tx_actor.specs.declared.actor.ActorNotice.TheVariants as told
 use Rattle.tx_actor.specs.declared.actor.TxActor.{TxActor}
 use Rattle.tx_table.specs.declared.seat.Seat as table
 use Rattle.tx_table.specs.declared.table.TxTable.{TxTable}
-use Rattle.tx_table.specs.declared.view.View.{View}
+use Rattle.tx_table.specs.declared.view.SeatKnowledge.{SeatKnowledge}
 use Rattle.tx_table.specs.Opening.{blocks_at}
 use Rattle.tx_table.specs.Seated.{acts, list_of, opening_of, view}
 use Rattle.tx_table.specs.Seated as seated
 use Rattle.tx_table.specs.Turns.{asked_all, ends_of, lone, moved}
 use Rattle.tx_table.specs.declared.view.Turn.{Turn}
 use Rattle.actor_laws.proofs.CourseLemmas.{on_call, on_commit, on_done, steps_come, ends_at}
-use Rattle.actor_laws.proofs.PhaseLemmas.{steps_move}
+use Rattle.actor_laws.proofs.KnownStageLemmas.{steps_move}
 use Rattle.actor_laws.specs.Courses.{ComesTo, IsUnderWay, IsUnderWayFrom, latest}
-use Rattle.actor_laws.specs.Phases.{Phase, Rests, Begins, Stands, Calls, Commits, Committed, Ends, IsMistaken, StepMoves, phase, phase_at}
+use Rattle.actor_laws.specs.KnownStages.{KnownStage, Rests, Begins, Stands, Calls, Commits, Committed, Ends, IsMistaken, StepMoves, known_stage, known_stage_at}
 use Rattle.tx_turns.proofs.CauseLemmas.{IsOfCommit, call_cause, commit_cause}
 use Rattle.tx_turns.proofs.DeclaredLemmas.{begin_declared, reader_moved}
 use Rattle.tx_turns.proofs.EndedLemmas.{IsGoing, begin_added, done_added, ends_from, going_added, none_added, one_added}
 use Rattle.tx_turns.proofs.EndedLemmas.{quiet_going, why_told}
-use Rattle.tx_turns.proofs.KeptLemmas.{Keeps, steps_keep}
-use Rattle.tx_turns.proofs.RequestedLemmas.{turn_requests}
+use Rattle.tx_turns.proofs.SnapshotLemmas.{Keeps, steps_keep}
+use Rattle.tx_turns.proofs.RequestHistoryLemmas.{turn_requests}
 use Rattle.tx_turns.proofs.StampLemmas.{begun_clock, exhausted_clock, numbered, stamped_step}
 use Rattle.tx_turns.proofs.WritingLemmas.{commits_first, is_commit, is_one, written_on}
 use Rattle.tx_turns.specs.Driven.{AddsAborted, Driven, HasFound, IsNumberOf, IsReason, IsStamped, IsTrue, IsTurnFrom, IsWritten, KnowsNumber}
@@ -69,7 +69,7 @@ module _ {V : Type 0} where
   made_by a x st None h = refl
   made_by a x st (Some r) h = absurd (let z : ⊥ = cc in z)
 
-  fresh : (s x : Seat V) (d : Option (Record V)) (p : Phase V) → is_commit (phase x) ≡ true → IsUnderWayFrom s p x d → d ≡ None
+  fresh : (s x : Seat V) (d : Option (Record V)) (p : KnownStage V) → is_commit (known_stage x) ≡ true → IsUnderWayFrom s p x d → d ≡ None
   unfolding is_commit
   fresh s x d Begins c h = h.1
   fresh s x d (Calls calls call) c h = h.1
@@ -95,49 +95,49 @@ module _ {V : Type 0} where
   ending_told v u a (Returning ks) cause e h = absurd h
   ending_told v u a st cause e h = absurd (true≢false (sym e))
 
-  begins_at : (calls : List (_ × _)) (st : Stage V) → phase_at calls st ≡ Begins → st ≡ Beginning
+  begins_at : (calls : List (_ × _)) (st : Stage V) → known_stage_at calls st ≡ Begins → st ≡ Beginning
   begins_at calls Beginning h = refl
   begins_at calls st h = absurd (let z : ⊥ = cc in z)
 
-  call_refused : (calls : List (_ × _)) (call : _) (b : Bool) (a : ℕ) (cause : Refusal) (p : Phase V)
+  call_refused : (calls : List (_ × _)) (call : _) (b : Bool) (a : ℕ) (cause : Refusal) (p : KnownStage V)
       → StepMoves (Calls calls call) b (Refused a cause) p → (p ≡ Stands calls) × IsMistaken cause
   call_refused calls call true a cause p h = absurd h
   call_refused calls call false a cause p h = h
 
-  commit_refused : (calls : List (_ × _)) (b : Bool) (a : ℕ) (cause : Refusal) (p : Phase V)
+  commit_refused : (calls : List (_ × _)) (b : Bool) (a : ℕ) (cause : Refusal) (p : KnownStage V)
       → StepMoves (Commits calls) b (Refused a cause) p → ⊥
   commit_refused calls true a cause p h = h
   commit_refused calls false a cause p h = h
 
-  done_refused : (b : Bool) (a : ℕ) (cause : Refusal) (p : Phase V) → StepMoves Committed b (Refused a cause) p → ⊥
+  done_refused : (b : Bool) (a : ℕ) (cause : Refusal) (p : KnownStage V) → StepMoves Committed b (Refused a cause) p → ⊥
   done_refused true a cause p h = h
   done_refused false a cause p h = h
 
   -- neither beginning nor idle
-  abbrev IsBusy : Phase V → Type 0
+  abbrev IsBusy : KnownStage V → Type 0
   IsBusy Begins = ⊥
   IsBusy Rests = ⊥
   IsBusy p = Unit {0}
 
-  apart : (q p : Phase V) → q ≡ p → IsBusy p → (q ≡ Begins → ⊥) × (q ≡ Rests → ⊥)
+  apart : (q p : KnownStage V) → q ≡ p → IsBusy p → (q ≡ Begins → ⊥) × (q ≡ Rests → ⊥)
   apart q p e busy = (λ k. subst IsBusy (sym e ∙ k) busy, λ k. subst IsBusy (sym e ∙ k) busy)
 
   -- a request under way is no begin unless it was one, and not idle
-  under_goes : (s x : Seat V) (d : Option (Record V)) (p : Phase V) → IsUnderWayFrom s p x d → (p ≡ Begins → ⊥)
-      → (phase x ≡ Begins → ⊥) × (phase x ≡ Rests → ⊥)
+  under_goes : (s x : Seat V) (d : Option (Record V)) (p : KnownStage V) → IsUnderWayFrom s p x d → (p ≡ Begins → ⊥)
+      → (known_stage x ≡ Begins → ⊥) × (known_stage x ≡ Rests → ⊥)
   under_goes s x d Begins h isnt = absurd (isnt refl)
-  under_goes s x d (Calls calls call) (inl at, none) isnt = apart (phase x) (Calls calls call) at tt
-  under_goes s x d (Calls calls call) (inr up, none) isnt = apart (phase x) Ends up.0 tt
-  under_goes s x d (Commits calls) (inl (inl at, none)) isnt = apart (phase x) (Commits calls) at tt
-  under_goes s x d (Commits calls) (inl (inr up, none)) isnt = apart (phase x) Ends up.0 tt
-  under_goes s x d (Commits calls) (inr has) isnt = apart (phase x) Committed has.0 tt
-  under_goes s x d Ends h isnt = apart (phase x) Ends h.0 tt
+  under_goes s x d (Calls calls call) (inl at, none) isnt = apart (known_stage x) (Calls calls call) at tt
+  under_goes s x d (Calls calls call) (inr up, none) isnt = apart (known_stage x) Ends up.0 tt
+  under_goes s x d (Commits calls) (inl (inl at, none)) isnt = apart (known_stage x) (Commits calls) at tt
+  under_goes s x d (Commits calls) (inl (inr up, none)) isnt = apart (known_stage x) Ends up.0 tt
+  under_goes s x d (Commits calls) (inr has) isnt = apart (known_stage x) Committed has.0 tt
+  under_goes s x d Ends h isnt = apart (known_stage x) Ends h.0 tt
   under_goes s x d Rests h isnt = absurd h
   under_goes s x d (Stands calls) h isnt = absurd h
   under_goes s x d Committed h isnt = absurd h
 
   -- ---- before the first turn
-  true_first : (o : World V) (s : table.Seat V) (p : Phase V) → standing o s ≡ p → IsTrue o s s p told.Quiet
+  true_first : (o : World V) (s : table.Seat V) (p : KnownStage V) → standing o s ≡ p → IsTrue o s s p told.Quiet
   true_first o s (Calls calls call) on = λ cause ends is. absurd (let e = sym on ∙ ends in let z : ⊥ = cc in z)
   true_first o s (Commits calls) on = λ cause ends is. absurd (let e = sym on ∙ ends in let z : ⊥ = cc in z)
   true_first o s p on = tt
@@ -173,7 +173,7 @@ module _ {V : Type 0} where
   }
 
   -- ---- one turn more
-  module _ (t : TxTable V) (s u z : table.Seat V) (r : TxActor V) (n : Told V) (d : Option (Record V)) (ties : Ties t u r)
+  module _ (t : TxTable V) (s u z : table.Seat V) (r : TxActor V) (n : ActorNotice V) (d : Option (Record V)) (ties : Ties t u r)
       (D : Driven (opening_of t) s u told.Quiet d) (T : Turned (opening_of t) u r z n) where
     abbrev o : World V
     o = opening_of t
@@ -213,7 +213,7 @@ module _ {V : Type 0} where
       before = D.more;
       turn = record { asks = list_of u.asked; found = T.found; base = T.base };
       after = [];
-      turns = ap (λ (w : View V). w.turns) T.takes.turn
+      turns = ap (λ (w : SeatKnowledge V). w.turns) T.takes.turn
           ∙ ap (λ (is : List (Turn V)). is ++ record { asks = list_of u.asked; found = T.found; base = T.base } ∷ []) D.turns;
       events = T.takes.happened.events;
       reached = refl;
@@ -227,7 +227,7 @@ module _ {V : Type 0} where
       before = h.before;
       turn = h.turn;
       after = h.after ++ record { asks = list_of u.asked; found = T.found; base = T.base } ∷ [];
-      turns = ap (λ (k : View V). k.turns) T.takes.turn
+      turns = ap (λ (k : SeatKnowledge V). k.turns) T.takes.turn
           ∙ (ap (λ (is : List (Turn V)). is ++ record { asks = list_of u.asked; found = T.found; base = T.base } ∷ []) h.turns
           ∙ append_assoc ((view s).turns ++ h.before) (h.turn ∷ h.after)
           (record { asks = list_of u.asked; found = T.found; base = T.base } ∷ []));
@@ -246,7 +246,7 @@ module _ {V : Type 0} where
     found cause on ends is =
         let c = world_causes (blocks_at t.whole.shared.key) t.whole.shared.key.shape.value.clock t.whole.shared.key.state.value.words
         t.whole.shared.key.state.value.held T.takes.happened.events a ties.reached.stripes on
-        (ends_at (after.0.seats a) (ap phase y_is ∙ ends)) in
+        (ends_at (after.0.seats a) (ap known_stage y_is ∙ ends)) in
         let one : c.0 ≡ cause = (let q : Some c.0 ≡ Some cause = sym c.1 ∙ (ap (λ (k : Seat V). k.cause) y_is ∙ is) in cc) in (
           (
             v,
@@ -257,11 +257,11 @@ module _ {V : Type 0} where
         )
 
     -- one that was noted before is unchanged
-    kept : (cause : Refusal) → phase (seat_in o u) ≡ Ends → standing o z ≡ Ends → (seat_in o z).cause ≡ Some cause
+    kept : (cause : Refusal) → known_stage (seat_in o u) ≡ Ends → standing o z ≡ Ends → (seat_in o z).cause ≡ Some cause
         → (seat_in o u).cause ≡ Some cause
     kept cause up ends is =
         ap (λ (k : Seat V). k.cause) (sym x_is)
-        ∙ (sym (keeps_cause v a (ends_at x (ap phase x_is ∙ up)) (ends_at (after.0.seats a) (ap phase y_is ∙ ends)))
+        ∙ (sym (keeps_cause v a (ends_at x (ap known_stage x_is ∙ up)) (ends_at (after.0.seats a) (ap known_stage y_is ∙ ends)))
         ∙ (ap (λ (k : Seat V). k.cause) y_is ∙ is))
 
     refused : (cause : Refusal) → n ≡ told.Refused cause → IsRefusedAt v a x.stage after.0 cause
@@ -270,16 +270,16 @@ module _ {V : Type 0} where
         ∙ ap (notice_of a) e) (refused_step v a linked)).1
 
     -- it is answered
-    told_up : (cause : Refusal) → n ≡ told.Refused cause → phase (seat_in o u) ≡ Ends → (seat_in o u).cause ≡ Some cause
+    told_up : (cause : Refusal) → n ≡ told.Refused cause → known_stage (seat_in o u) ≡ Ends → (seat_in o u).cause ≡ Some cause
     told_up cause e up =
         ap (λ (k : Seat V). k.cause) (sym x_is)
-        ∙ ending_told v after.0 a x.stage cause (ends_at x (ap phase x_is ∙ up)) (refused cause e)
+        ∙ ending_told v after.0 a x.stage cause (ends_at x (ap known_stage x_is ∙ up)) (refused cause e)
 
-    moves : (p : Phase V) (cause : Refusal) → n ≡ told.Refused cause → phase (seat_in o u) ≡ p
-        → StepMoves p (is_some (committed_by x x.stage)) (Refused a cause) (phase (after.0.seats a))
+    moves : (p : KnownStage V) (cause : Refusal) → n ≡ told.Refused cause → known_stage (seat_in o u) ≡ p
+        → StepMoves p (is_some (committed_by x x.stage)) (Refused a cause) (known_stage (after.0.seats a))
     moves p cause e at =
-        subst (λ (k : Phase V × Notice V). StepMoves k.0 (is_some (committed_by x x.stage)) k.1 (phase (after.0.seats a)))
-        (λ i. ((ap phase x_is ∙ at) i, (told_is ∙ ap (notice_of a) e) i)) (steps_move v a)
+        subst (λ (k : KnownStage V × Notice V). StepMoves k.0 (is_some (committed_by x x.stage)) k.1 (known_stage (after.0.seats a)))
+        (λ i. ((ap known_stage x_is ∙ at) i, (told_is ∙ ap (notice_of a) e) i)) (steps_move v a)
 
     -- where its actor stands
     own : let w = acts o u in StageOk w.words w.blocks (w.seats a) (actor_of w a) (w.boosted.shadows a) (w.seats a).stage
@@ -292,38 +292,38 @@ module _ {V : Type 0} where
         subst (λ (st : Stage V). StageOk w.words w.blocks (w.seats a) (actor_of w a) (w.boosted.shadows a) st
         (actor_of w a).place) at own
 
-    truth : (p : Phase V) (m : Told V) → n ≡ m → IsUnderWayFrom (seat_in o s) p (seat_in o u) d → IsTrue o s u p told.Quiet
+    truth : (p : KnownStage V) (m : ActorNotice V) → n ≡ m → IsUnderWayFrom (seat_in o s) p (seat_in o u) d → IsTrue o s u p told.Quiet
         → IsTrue o s z p m
     truth Begins told.Quiet e under was = tt
     truth Begins (told.Answered (answer.Begun rv)) e under was =
         let at = begins_at (seat_in o u).calls (seat_in o u).stage under.0 in
         begun_clock (acts o u) a T.found T.base T.clock rv at (begin_place at) T.clocks (sym T.tells ∙ ap (notice_of a) e)
-        ∙ sym (ap (λ (k : View V). k.clock) T.takes.turn)
+        ∙ sym (ap (λ (k : SeatKnowledge V). k.clock) T.takes.turn)
     truth Begins (told.Answered q) e under was = tt
     truth Begins (told.Refused cause) e under was =
-        let at : x.stage ≡ Beginning = begins_at x.calls x.stage (ap phase x_is ∙ under.0) in
+        let at : x.stage ≡ Beginning = begins_at x.calls x.stage (ap known_stage x_is ∙ under.0) in
         let h = subst (λ (st : Stage V). IsRefusedAt v a st after.0 cause) at (refused cause e) in
         let on = begins_at (seat_in o u).calls (seat_in o u).stage under.0 in
         let shown : cause ≡ refusal.Exhausted T.clock =
         exhausted_clock (acts o u) a T.found T.base T.clock cause on (begin_place on) T.clocks (sym T.tells ∙ ap (notice_of a) e) in
-        (v, this, h.0, h.1, shown ∙ sym (ap (λ (k : View V). refusal.Exhausted k.clock) T.takes.turn))
+        (v, this, h.0, h.1, shown ∙ sym (ap (λ (k : SeatKnowledge V). refusal.Exhausted k.clock) T.takes.turn))
     truth (Calls calls call) told.Quiet e (inl at, none) was =
-        λ cause ends is. (let on = ap phase x_is ∙ at in let f = found cause (on_call x calls call on) ends is in
+        λ cause ends is. (let on = ap known_stage x_is ∙ at in let f = found cause (on_call x calls call on) ends is in
         (inl f.0, call_cause v after.0 a linked calls call on cause f.1))
     truth (Calls calls call) told.Quiet e (inr up, none) was =
         λ cause ends is. (let h = was cause up.0 (kept cause up.0 ends is) in (still cause h.0, h.1))
     truth (Calls calls call) (told.Answered q) e under was = tt
     truth (Calls calls call) (told.Refused cause) e (inl at, none) was =
-        let h = call_refused calls call _ a cause _ (moves (Calls calls call) cause e at) in inr (sym (ap phase y_is) ∙ h.0, h.1)
+        let h = call_refused calls call _ a cause _ (moves (Calls calls call) cause e at) in inr (sym (ap known_stage y_is) ∙ h.0, h.1)
     truth (Calls calls call) (told.Refused cause) e (inr up, none) was =
         (let h = was cause up.0 (told_up cause e up.0) in inl (still cause h.0, h.1))
     truth (Commits calls) told.Quiet e (inl (inl at, none)) was =
-        λ cause ends is. (let on = ap phase x_is ∙ at in let f = found cause (on_commit x calls on) ends is in
+        λ cause ends is. (let on = ap known_stage x_is ∙ at in let f = found cause (on_commit x calls on) ends is in
         (inl f.0, commit_cause v after.0 a linked (subst IsOfCommit (sym on) tt) cause f.1))
     truth (Commits calls) told.Quiet e (inl (inr up, none)) was =
         λ cause ends is. (let h = was cause up.0 (kept cause up.0 ends is) in (still cause h.0, h.1))
     truth (Commits calls) told.Quiet e (inr has) was =
-        λ cause ends is. (let on = ap phase x_is ∙ has.0 in let f = found cause (on_done x on) ends is in
+        λ cause ends is. (let on = ap known_stage x_is ∙ has.0 in let f = found cause (on_done x on) ends is in
         (inl f.0, commit_cause v after.0 a linked (subst IsOfCommit (sym on) tt) cause f.1))
     truth (Commits calls) (told.Answered q) e under was = tt
     truth (Commits calls) (told.Refused cause) e (inl (inl at, none)) was =
@@ -337,33 +337,33 @@ module _ {V : Type 0} where
     truth Ends m e under was = tt
 
     rises_to : (view u).clock ≤ (view z).clock
-    rises_to = (let q = T.rises in let k : (view z).clock ≡ T.clock = ap (λ (k : View V). k.clock) T.takes.turn in omega (arith, q, k))
+    rises_to = (let q = T.rises in let k : (view z).clock ≡ T.clock = ap (λ (k : SeatKnowledge V). k.clock) T.takes.turn in omega (arith, q, k))
 
     -- the number at which it has begun is unchanged
     begun_stays : (standing o s ≡ Begins → ⊥) → (standing o z ≡ Rests → ⊥) → (seat_in o z).rv ≡ (seat_in o s).rv
     begun_stays isnt rest =
-        let goes = under_goes (seat_in o s) (seat_in o u) d (phase (seat_in o s)) D.comes isnt in
-        let kept = steps_keep v a (λ e. goes.0 (ap phase (sym x_is) ∙ e)) in
+        let goes = under_goes (seat_in o s) (seat_in o u) d (known_stage (seat_in o s)) D.comes isnt in
+        let kept = steps_keep v a (λ e. goes.0 (ap known_stage (sym x_is) ∙ e)) in
         kept_by kept ∙ (ap (λ (k : Seat V). k.rv) x_is ∙ D.began isnt goes.1)
       where
         kept_by : Keeps x (after.0.seats a) → (seat_in o z).rv ≡ x.rv
         kept_by (inl e) = ap (λ (k : Seat V). k.rv) (sym y_is) ∙ e.0
         kept_by (inr (inl e)) = ap (λ (k : Seat V). k.rv) (sym y_is) ∙ e.0
-        kept_by (inr (inr e)) = absurd (rest (ap phase (sym y_is) ∙ e))
+        kept_by (inr (inr e)) = absurd (rest (ap known_stage (sym y_is) ∙ e))
 
     -- ---- its calls, and the aborted transactions
     goes : (standing o s ≡ Begins → ⊥) → (standing o u ≡ Begins → ⊥) × (standing o u ≡ Rests → ⊥)
-    goes isnt = under_goes (seat_in o s) (seat_in o u) d (phase (seat_in o s)) D.comes isnt
+    goes isnt = under_goes (seat_in o s) (seat_in o u) d (known_stage (seat_in o s)) D.comes isnt
 
     calls_stay : n ≡ told.Quiet → (standing o s ≡ Begins → ⊥) → (seat_in o z).calls ≡ (seat_in o s).calls
     calls_stay quiet isnt =
-        kept_by (steps_keep v a (λ e. (goes isnt).0 (ap phase (sym x_is) ∙ e)))
+        kept_by (steps_keep v a (λ e. (goes isnt).0 (ap known_stage (sym x_is) ∙ e)))
       where
-        going : IsGoing (phase (after.0.seats a))
+        going : IsGoing (known_stage (after.0.seats a))
         going =
-            quiet_going (standing o u) (is_some (committed_by x x.stage)) (phase (after.0.seats a))
-            (subst (λ (k : Phase V × Notice V). StepMoves k.0 (is_some (committed_by x x.stage)) k.1 (phase (after.0.seats a)))
-            (λ i. (ap phase x_is i, (told_is ∙ ap (notice_of a) quiet) i)) (steps_move v a))
+            quiet_going (standing o u) (is_some (committed_by x x.stage)) (known_stage (after.0.seats a))
+            (subst (λ (k : KnownStage V × Notice V). StepMoves k.0 (is_some (committed_by x x.stage)) k.1 (known_stage (after.0.seats a)))
+            (λ i. (ap known_stage x_is i, (told_is ∙ ap (notice_of a) quiet) i)) (steps_move v a))
             (goes isnt).0 (goes isnt).1
 
         before : (seat_in o u).calls ≡ (seat_in o s).calls
@@ -371,7 +371,7 @@ module _ {V : Type 0} where
 
         kept_by : Keeps x (after.0.seats a) → (seat_in o z).calls ≡ (seat_in o s).calls
         kept_by (inl e) = ap (λ (k : Seat V). k.calls) (sym y_is) ∙ (e.1 ∙ (ap (λ (k : Seat V). k.calls) x_is ∙ before))
-        kept_by (inr (inl e)) = absurd (subst IsGoing (ap (phase_at (after.0.seats a).calls) e.1) going)
+        kept_by (inr (inl e)) = absurd (subst IsGoing (ap (known_stage_at (after.0.seats a).calls) e.1) going)
         kept_by (inr (inr e)) = absurd (subst IsGoing e going)
 
     adds_aborted : AddsAborted o s z n
@@ -380,13 +380,13 @@ module _ {V : Type 0} where
       quiet = λ q. ap (λ (w : World V). w.aborted) T.takes.own
           ∙ (none_added v (acts o u) a T.found T.base x_is (told_is ∙ ap (notice_of a) q) ∙ D.aborted.quiet refl);
       begin = λ on.
-          (let begins : phase (seat_in o u) ≡ Begins =
-          (subst (λ (p : Phase V). IsUnderWayFrom (seat_in o s) p (seat_in o u) d) on D.comes).0 in
+          (let begins : known_stage (seat_in o u) ≡ Begins =
+          (subst (λ (p : KnownStage V). IsUnderWayFrom (seat_in o s) p (seat_in o u) d) on D.comes).0 in
           ap (λ (w : World V). w.aborted) T.takes.own
           ∙ (begin_added (acts o u) a T.found T.base (begins_at (seat_in o u).calls (seat_in o u).stage begins)
           ∙ D.aborted.begin on));
       going = λ busy. ap (λ (w : World V). w.aborted) T.takes.own
-          ∙ (going_added v (acts o u) a T.found T.base x_is (λ e. busy (ap phase (sym y_is) ∙ e)) ∙ D.aborted.quiet refl);
+          ∙ (going_added v (acts o u) a T.found T.base x_is (λ e. busy (ap known_stage (sym y_is) ∙ e)) ∙ D.aborted.quiet refl);
       committed = λ k e. ap (λ (w : World V). w.aborted) T.takes.own
           ∙ (done_added v (acts o u) a T.found T.base k x_is (told_is ∙ ap (notice_of a) e) ∙ D.aborted.quiet refl);
       ended = λ cause is rests isnt.
@@ -394,11 +394,11 @@ module _ {V : Type 0} where
           subst (λ (k : ℕ). after.1 ≡ why k cause) (sym same) (told_is ∙ (ap (λ (k : ℕ). notice_of k n) same ∙ is)) in
           let on = goes isnt in
           let ends : standing o u ≡ Ends =
-          ends_from (standing o u) (is_some (committed_by x x.stage)) a cause (phase (after.0.seats a))
-          (subst (λ (k : Phase V × Notice V). StepMoves k.0 (is_some (committed_by x x.stage)) k.1 (phase (after.0.seats a)))
-          (λ i. (ap phase x_is i, tells i)) (steps_move v a))
-          (ap phase y_is ∙ rests) on.0 on.1 in
-          let added = one_added v (acts o u) a T.found T.base cause x_is (ends_at x (ap phase x_is ∙ ends)) tells in
+          ends_from (standing o u) (is_some (committed_by x x.stage)) a cause (known_stage (after.0.seats a))
+          (subst (λ (k : KnownStage V × Notice V). StepMoves k.0 (is_some (committed_by x x.stage)) k.1 (known_stage (after.0.seats a)))
+          (λ i. (ap known_stage x_is i, tells i)) (steps_move v a))
+          (ap known_stage y_is ∙ rests) on.0 on.1 in
+          let added = one_added v (acts o u) a T.found T.base cause x_is (ends_at x (ap known_stage x_is ∙ ends)) tells in
           let began = D.began isnt on.1 in
           let calls = D.aborted.calls refl isnt in
           ap (λ (w : World V). w.aborted) T.takes.own
@@ -410,8 +410,8 @@ module _ {V : Type 0} where
     declared_stays : standing o s ≡ Begins → (standing o z ≡ Rests → ⊥) → is_declared o z ≡ is_declared o s
     declared_stays on going =
         let w = acts o u in
-        let begins : phase (seat_in o u) ≡ Begins =
-        (subst (λ (p : Phase V). IsUnderWayFrom (seat_in o s) p (seat_in o u) d) on D.comes).0 in
+        let begins : known_stage (seat_in o u) ≡ Begins =
+        (subst (λ (p : KnownStage V). IsUnderWayFrom (seat_in o s) p (seat_in o u) d) on D.comes).0 in
         let at : (w.seats a).stage ≡ Beginning = begins_at (w.seats a).calls (w.seats a).stage begins in
         let place : (actor_of w a).place ≡ machine.Begin =
         subst (λ (st : Stage V). StageOk w.words w.blocks (w.seats a) (actor_of w a) (w.boosted.shadows a) st
@@ -423,7 +423,7 @@ module _ {V : Type 0} where
     reader_stays is =
         (λ i. (actor_of (T.takes.own i) (T.takes.seat.1 i)).declared) ∙ reader_moved (acts o u) a (D.reader is) T.found T.base
 
-    known : KnowsNumber o s → is_commit (phase (seat_in o u)) ≡ true → IsStamped (view u).clock (actor_of (acts o u) a)
+    known : KnowsNumber o s → is_commit (known_stage (seat_in o u)) ≡ true → IsStamped (view u).clock (actor_of (acts o u) a)
     known knows c = D.stamped knows (seat_in o u).calls (is_one (seat_in o u).calls (seat_in o u).stage c)
 
     -- the seat knows the number of its commit
@@ -434,9 +434,9 @@ module _ {V : Type 0} where
         let after_is : acts o z ≡ (moved a w T.found T.base).0 = T.takes.own in
         let le : (view u).clock ≤ T.clock = T.rises in
         subst (λ (k : ℕ × ℕ × World V). IsStamped k.0 (actor_of k.2 k.1))
-        (λ i. (sym (ap (λ (k : View V). k.clock) T.takes.turn) i, sym T.takes.seat.1 i, sym after_is i))
+        (λ i. (sym (ap (λ (k : SeatKnowledge V). k.clock) T.takes.turn) i, sym T.takes.seat.1 i, sym after_is i))
         (stamped_step w a T.found T.base (view u).clock T.clock le T.clocks own (known knows)
-        (ap is_commit ((λ i. phase ((sym after_is i).seats (sym T.takes.seat.1 i))) ∙ e)))
+        (ap is_commit ((λ i. known_stage ((sym after_is i).seats (sym T.takes.seat.1 i))) ∙ e)))
 
     numbered_on : KnowsNumber o s → (e : Option (Record V)) (r : Record V) → e ≡ committed_by (seat_in o u) (seat_in o u).stage
         → ((q : Record V) → e ≡ Some q → d ≡ None) → latest e d ≡ Some r → IsNumberOf (seat_in o s).rv (view z).clock r
@@ -459,12 +459,12 @@ module _ {V : Type 0} where
           reader = h.reader;
         })
       where
-        begins_no : standing o s ≡ Begins → is_commit (phase (seat_in o u)) ≡ true → ⊥
+        begins_no : standing o s ≡ Begins → is_commit (known_stage (seat_in o u)) ≡ true → ⊥
         begins_no k c =
-            let h = subst (λ (p : Phase V). IsUnderWayFrom (seat_in o s) p (seat_in o u) d) k D.comes in
+            let h = subst (λ (p : KnownStage V). IsUnderWayFrom (seat_in o s) p (seat_in o u) d) k D.comes in
             true≢false (sym c ∙ ap is_commit h.0)
 
-        rests_no : standing o u ≡ Rests → is_commit (phase (seat_in o u)) ≡ true → ⊥
+        rests_no : standing o u ≡ Rests → is_commit (known_stage (seat_in o u)) ≡ true → ⊥
         rests_no k c = true≢false (sym c ∙ ap is_commit k)
 
     pub driven_on : (e : Option (Record V)) → commits a r ≡ as_receipts a e → Driven o s z n (latest e d)
@@ -476,17 +476,17 @@ module _ {V : Type 0} where
         let course = steps_come (blocks_at t.whole.shared.key) t.whole.shared.key.shape.value.clock t.whole.shared.key.state.value.words
         t.whole.shared.key.state.value.held T.takes.happened.events a (seat_in o s) d ties.reached.stripes
         (subst (λ (k : Seat V). IsUnderWay (seat_in o s) k d) (sym x_is) D.comes) in
-        let new : (q : Record V) → e ≡ Some q → d ≡ None = λ q is. fresh (seat_in o s) (seat_in o u) d (phase (seat_in o s))
+        let new : (q : Record V) → e ≡ Some q → d ≡ None = λ q is. fresh (seat_in o s) (seat_in o u) d (known_stage (seat_in o s))
         (commits_first (seat_in o u) (seat_in o u).stage q (sym made_u ∙ is)) D.comes in
         record {
           seat = (T.takes.seat.0 ∙ D.seat.0, T.takes.seat.1 ∙ D.seat.1, T.takes.seat.2 ∙ D.seat.2);
           more = D.more ++ record { asks = list_of u.asked; found = T.found; base = T.base } ∷ [];
-          turns = ap (λ (k : View V). k.turns) T.takes.turn
+          turns = ap (λ (k : SeatKnowledge V). k.turns) T.takes.turn
               ∙ (ap (λ (is : List (Turn V)). is ++ record { asks = list_of u.asked; found = T.found; base = T.base } ∷ []) D.turns
               ∙ append_assoc (view s).turns D.more (record { asks = list_of u.asked; found = T.found; base = T.base } ∷ []));
-          shares = ap (λ (k : View V). k.shares) T.takes.turn ∙ D.shares;
-          joined = ap (λ (k : View V). k.joined) T.takes.turn ∙ D.joined;
-          looks = ap (λ (k : View V). k.looks) T.takes.turn ∙ D.looks;
+          shares = ap (λ (k : SeatKnowledge V). k.shares) T.takes.turn ∙ D.shares;
+          joined = ap (λ (k : SeatKnowledge V). k.joined) T.takes.turn ∙ D.joined;
+          looks = ap (λ (k : SeatKnowledge V). k.looks) T.takes.turn ∙ D.looks;
           gains = T.gains ∙ ((λ i. D.gains i ++ (makes ∙ ap (λ (b : ℕ). as_receipts b e) same) i)
               ∙ gained (seated.actor s) e d (view s).receipts new);
           rises = (let p = D.rises in let q = rises_to in omega (arith, p, q));
@@ -503,7 +503,7 @@ module _ {V : Type 0} where
           stamped = stamped_on;
           numbered = λ knows r is. numbered_on knows e r made_u new is;
           asks = turn_requests u z (record { asks = list_of u.asked; found = T.found; base = T.base })
-              (ap (λ (k : View V). k.turns) T.takes.turn) refl T.takes.none
+              (ap (λ (k : SeatKnowledge V). k.turns) T.takes.turn) refl T.takes.none
               ∙ D.asks;
           aborted = adds_aborted;
         }

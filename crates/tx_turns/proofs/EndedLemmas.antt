@@ -17,7 +17,7 @@ use Rattle.replay_log.specs.Worlds.{Beginning, Cancelling, Leaving, Returning, a
 use Rattle.replay_log.specs.Worlds.{word_notice}
 use Rattle.replay_log.specs.declared.base.Base.{Base}
 use Rattle.actor_laws.proofs.Alike.{alike_same}
-use Rattle.actor_laws.specs.Phases.{Begins, Calls, Commits, Committed, Ends, Phase, Rests, Stands, StepMoves, phase}
+use Rattle.actor_laws.specs.KnownStages.{Begins, Calls, Commits, Committed, Ends, KnownStage, Rests, Stands, StepMoves, known_stage}
 use Rattle.tx_table.specs.Turns.{found_at, moved, spot, stage_of}
 use Rattle.tx_table.proofs.Turned.{aborted_grow, found_alike, planted_notes}
 
@@ -53,7 +53,7 @@ module _ {V : Type 0} where
   is_last v a x st cause h e = absurd (true≢false (sym h))
 
   -- a request that has ended so was being aborted
-  pub ends_from : (p : Phase V) (b : Bool) (a : ℕ) (cause : Option Refusal) (later : Phase V) → StepMoves p b (why a cause) later
+  pub ends_from : (p : KnownStage V) (b : Bool) (a : ℕ) (cause : Option Refusal) (later : KnownStage V) → StepMoves p b (why a cause) later
       → later ≡ Rests
       → (p ≡ Begins → ⊥) → (p ≡ Rests → ⊥) → p ≡ Ends
   ends_from Ends b a cause later h rests begins idle = refl
@@ -78,13 +78,13 @@ module _ {V : Type 0} where
   ends_from Committed false a (Some cause) later h rests begins idle = absurd h
 
   -- a request that is under way continues where nothing is answered
-  abbrev pub IsGoing : Phase V → Type 0
+  abbrev pub IsGoing : KnownStage V → Type 0
   IsGoing Rests = ⊥
   IsGoing Begins = ⊥
   IsGoing (Stands calls) = ⊥
   IsGoing p = Unit {0}
 
-  pub quiet_going : (p : Phase V) (b : Bool) (later : Phase V) → StepMoves p b Quiet later → (p ≡ Begins → ⊥) → (p ≡ Rests → ⊥)
+  pub quiet_going : (p : KnownStage V) (b : Bool) (later : KnownStage V) → StepMoves p b Quiet later → (p ≡ Begins → ⊥) → (p ≡ Rests → ⊥)
       → IsGoing later
   quiet_going Rests b later h begins idle = absurd (idle refl)
   quiet_going Begins b later h begins idle = absurd (begins refl)
@@ -111,9 +111,9 @@ module _ {V : Type 0} where
   done_none v a k x Leaving e = absurd (why_done a k x.cause e)
   done_none v a k x st e = refl
 
-  going_none : (v : World V) (a : ℕ) (x : Seat V) (st : Stage V) → (phase ((step_at v a x st).0.seats a) ≡ Rests → ⊥)
+  going_none : (v : World V) (a : ℕ) (x : Seat V) (st : Stage V) → (known_stage ((step_at v a x st).0.seats a) ≡ Rests → ⊥)
       → ended_by a x st ≡ []
-  going_none v a x Leaving going = absurd (going (ap phase (put-same v.seats a no_one)))
+  going_none v a x Leaving going = absurd (going (ap known_stage (put-same v.seats a no_one)))
   going_none v a x st going = refl
 
   quiet_none : (v : World V) (a : ℕ) (x : Seat V) (st : Stage V) → (step_at v a x st).1 ≡ Quiet → ended_by a x st ≡ []
@@ -149,7 +149,7 @@ module _ {V : Type 0} where
   none_added v w a found base seat quiet = none_by v w a found base seat (quiet_none v a (v.seats a) (stage_of v a) quiet)
 
   pub going_added : (v w : World V) (a : ℕ) (found : ℕ) (base : Option (Base V)) → v.seats a ≡ w.seats a
-      → (phase ((happens v (Step a)).0.seats a) ≡ Rests → ⊥) → (moved a w found base).0.aborted ≡ w.aborted
+      → (known_stage ((happens v (Step a)).0.seats a) ≡ Rests → ⊥) → (moved a w found base).0.aborted ≡ w.aborted
   going_added v w a found base seat going = none_by v w a found base seat (going_none v a (v.seats a) (stage_of v a) going)
 
   pub done_added : (v w : World V) (a : ℕ) (found : ℕ) (base : Option (Base V)) (k : ℕ) → v.seats a ≡ w.seats a

@@ -17,25 +17,25 @@ use Rattle.actor_laws.proofs.Alike.{alike_sym}
 use Rattle.actor_laws.proofs.OneStep.{one_step}
 use Rattle.actor_laws.proofs.OwnEvents.{own_event}
 use Rattle.actor_parts.specs.Dispatch.{is_loading}
-use Rattle.actor_parts.specs.declared.copies.CopyOf.{CopyOf}
-use Rattle.tx_actor.specs.Having.{HasCopies, IsWholeOf, KeepsCopies, KeepsFrom}
+use Rattle.actor_parts.specs.declared.copies.CopyOfCollection.{CopyOfCollection}
+use Rattle.tx_actor.specs.CopiesByStage.{HasCopies, IsWholeOf, KeepsCopies, KeepsFrom}
 use Rattle.tx_actor.specs.Running.{Runs, seat_of, stage_of}
 use Rattle.tx_actor.specs.declared.actor.Stage as own
 use Rattle.tx_actor.specs.declared.actor.Stage.TheVariants as stage
-use Rattle.tx_actor.specs.declared.actor.Told.{Told}
+use Rattle.tx_actor.specs.declared.actor.ActorNotice.{ActorNotice}
 use Rattle.tx_actor.specs.declared.actor.TxActor.{TxActor}
-use Rattle.tx_actor.specs.Kept.{StarvesKeep}
+use Rattle.tx_actor.specs.CopiesAfterEvent.{StarvesKeep}
 use Rattle.tx_actor.proofs.GatesLemmas.{gates_as, starved_gates}
 use Rattle.tx_actor.proofs.OwnLemmas.{OthersLaw, copies_stand}
 use Rattle.tx_actor.proofs.SeatLemmas.{runs_stand, seat_by, stage_by}
 use Rattle.tx_table.specs.declared.seat.Seat as table
 use Rattle.tx_table.specs.declared.table.TxTable.{TxTable}
-use Rattle.tx_table.specs.declared.view.View.{View}
+use Rattle.tx_table.specs.declared.view.SeatKnowledge.{SeatKnowledge}
 use Rattle.tx_table.specs.Shown.{Slot}
 use Rattle.tx_table.specs.Seated as seated
 use Rattle.tx_table.specs.Seated.{acts, opening_of, out}
 use Rattle.tx_table.proofs.Keeps.{calm_base}
-use Rattle.tx_turns.specs.Asked.{HasTaken, Starved}
+use Rattle.tx_turns.specs.RequestStep.{HasTaken, Starved}
 use Rattle.tx_turns.specs.Ties.{Ties}
 use Rattle.tx_turns.specs.Bases.{AreBases, ArePrepared, ArePreparedAt, gates_at, slots_of}
 use Rattle.tx_turns.specs.Own.{HasOwn}
@@ -57,7 +57,7 @@ module _ {V : Type 0} where
   going_as : (w : World V) (a : ℕ) (r : TxActor V) → Runs a r w → is_going (w.seats a).stage ≡ is_going (stage_of r.stage)
   going_as w a r runs = ap (λ (x : Seat V). is_going x.stage) runs.0 ∙ going_at (w.seats a) (seat_of r) r.stage
 
-  prepared_not : (cs : List (CopyOf V)) (bs : List (Base V)) (t : own.Stage V) → is_going (stage_of t) ≡ false → ArePreparedAt cs t bs
+  prepared_not : (cs : List (CopyOfCollection V)) (bs : List (Base V)) (t : own.Stage V) → is_going (stage_of t) ≡ false → ArePreparedAt cs t bs
   prepared_not cs bs (stage.Storing homes) e = absurd (true≢false e)
   prepared_not cs bs (stage.Homing homes) e = absurd (true≢false e)
   prepared_not cs bs t e = tt
@@ -101,7 +101,7 @@ module _ {V : Type 0} where
         record {
           copies = subst (λ (z : ℕ × World V). HasCopies q z.1 z.0) (λ i. (sym taken.0.1 i, sym is i))
               (copies_stand law (happens there d).0 x me q same.0 copies);
-          out = ap (λ (m : Me (Slot V) (View V)). m.1) taken.1 ∙ (own.out ∙ ap slots_of (sym gates));
+          out = ap (λ (m : Me (Slot V) (SeatKnowledge V)). m.1) taken.1 ∙ (own.out ∙ ap slots_of (sym gates));
           bases = subst (λ (z : World V × List ℕ). AreBases o z.0 z.1 bs) (λ i. (sym is i, sym gates i))
               (are_stay o w x (gates_at r.stage) bs ties.reached.shape.0 ties.reached.shape.1 (λ j _. calm_base me j w x calm) own.bases);
           prepared = prepared;
@@ -117,7 +117,7 @@ module _ {V : Type 0} where
   starve_going w a x s ks e =
       ap (λ (p : Stage V). is_going ((starve_at w a x p).0.seats a).stage) e ∙ up_going w a (because x refusal.Memory) ks
 
-  starve_prepared : (t s : own.Stage V) (before now : List (CopyOf V)) (bs : List (Base V)) → KeepsFrom t s before now
+  starve_prepared : (t s : own.Stage V) (before now : List (CopyOfCollection V)) (bs : List (Base V)) → KeepsFrom t s before now
       → gates_at t ≡ gates_at s → ArePreparedAt before s bs → ((homes : List ℕ) → stage_of s ≡ Ready homes → ⊥) → ArePreparedAt now t bs
   starve_prepared t s before now bs keeps gates prepared none =
       prepared_from t s before now bs keeps gates (whole s prepared none)
@@ -129,7 +129,7 @@ module _ {V : Type 0} where
       whole (stage.Homing homes) p other ks is = p
       whole s p other ks is = absurd is
 
-  pub starve_own : StarvesKeep V → OthersLaw V → (t : TxTable V) (s u : table.Seat V) (r q : TxActor V) (n : Told V) (bs : List (Base V))
+  pub starve_own : StarvesKeep V → OthersLaw V → (t : TxTable V) (s u : table.Seat V) (r q : TxActor V) (n : ActorNotice V) (bs : List (Base V))
       → Ties t s r → HasOwn t s r bs → Starved (opening_of t) s u n → Ties t u q → KeepsCopies r q → HasOwn t u q bs
   starve_own keep law t s u r q n bs ties own starved tie keeps =
       let a = seated.actor s in

@@ -31,17 +31,17 @@ use Rattle.actor_parts.specs.Dispatch as dispatch
 use Rattle.actor_parts.specs.declared.next.Next.TheVariants as next
 use Rattle.actor_laws.proofs.Alone.{same_actors}
 use Rattle.actor_laws.proofs.OneStep.{ask_calm}
-use Rattle.actor_laws.specs.Spots.{Spot, Word, deed_of, spot_at, spot_of}
+use Rattle.actor_laws.specs.StepTargets.{Spot, Word, deed_of, spot_at, spot_of}
 use Rattle.actor_laws.specs.Steps.{ready_at}
-use Rattle.actor_laws.specs.Tells.{tells}
+use Rattle.actor_laws.specs.StepAnswers.{tells}
 use Rattle.tx_actor.specs.Asks.{MayStore}
 use Rattle.tx_actor.specs.Dispatch.{IsToldWord, Records}
 use Rattle.tx_actor.specs.Running.{Runs, notice_of, seat_at, stage_of}
 use Rattle.tx_actor.specs.declared.actor.Stage as own
 use Rattle.tx_actor.specs.declared.actor.Stage.TheVariants as stage
-use Rattle.tx_actor.specs.declared.actor.Told.{Told}
+use Rattle.tx_actor.specs.declared.actor.ActorNotice.{ActorNotice}
 use Rattle.tx_actor.specs.declared.actor.TxActor.{TxActor}
-use Rattle.tx_actor.specs.Keeping.{IsRunning, KeepsIn}
+use Rattle.tx_actor.specs.ActorBounds.{IsRunning, KeepsIn}
 use Rattle.tx_table.specs.declared.seat.Seat as table
 use Rattle.tx_table.specs.declared.table.TxTable.{TxTable}
 use Rattle.tx_table.specs.declared.view.Opening.{Opening}
@@ -51,11 +51,11 @@ use Rattle.tx_table.specs.Seated as seated
 use Rattle.tx_table.specs.Shown.{IsReached}
 use Rattle.tx_table.specs.Turns.{found_at, spot}
 use Rattle.tx_turns.proofs.OwnLemmas.{own_writes}
-use Rattle.tx_turns.specs.Dues.{IsDeed}
+use Rattle.tx_turns.specs.NextStep.{IsDeed}
 use Rattle.tx_turns.specs.Touches.{Finds, IsNext, StepsWords}
-use Rattle.tx_turns.specs.declared.due.Due.{Due}
+use Rattle.tx_turns.specs.declared.due.NextStep.{NextStep}
 use Rattle.tx_turns.specs.Ties.{Ties, Turned, commits_at, laid_in}
-use Rattle.tx_turns.proofs.TurnDueLemmas.{becomes_is, clock_left, spot_is}
+use Rattle.tx_turns.proofs.TurnStepLemmas.{becomes_is, clock_left, spot_is}
 use Rattle.tx_turns.proofs.FoundLemmas.{found_cell, learns_found, may_release, runs_found, step_gates, step_learns_cell, step_tells_cell}
 use Rattle.tx_turns.proofs.FoundLemmas.{tells_found}
 use Rattle.tx_turns.proofs.TurnLemmas.{laid_as, own_held, own_place, own_stage, some_word, tied}
@@ -89,7 +89,7 @@ module _ {V : Type 0} where
 
   -- ---- the step of the definitions
   first_step : AreSteps V → (v : World V) (a : ℕ) (r p q : TxActor V) (y : Actor) (told : Result (Option WordAnswer) WordRefusal)
-      (n : Told V)
+      (n : ActorNotice V)
       (ks : List ℕ) → stage_of r.stage ≡ Ready ks → stage_of p.stage ≡ Ready ks → (v.seats a).stage ≡ Ready ks → Runs a p (ready_in v a)
       → ((k : ℕ) → mine (ready_in v a).boosted a k ≡ has ks k)
       → actor_of (acted (ready_in v a) (moves a ∷ [])) a ≡ words.actor_of y → told ≡ result_of (word_notice (ready_in v a) a)
@@ -114,7 +114,7 @@ module _ {V : Type 0} where
       )
 
   planted_first : AreSteps V → (w : World V) (a : ℕ) (r p q : TxActor V) (y : Actor) (told : Result (Option WordAnswer) WordRefusal)
-      (n : Told V) (d : Due) (m f : ℕ) (c : Cell) (ks : List ℕ) → let x = words.actor_of p.words in
+      (n : ActorNotice V) (d : NextStep) (m f : ℕ) (c : Cell) (ks : List ℕ) → let x = words.actor_of p.words in
       stage_of r.stage ≡ Ready ks → stage_of p.stage ≡ Ready ks → (w.seats a).stage ≡ Ready ks → Runs a r w → AreHeld w a
       → (actor_of w a).place ≡ machine.Check [] → MayStore r p → ((k : ℕ) → mine w.boosted a k ≡ has ks k)
       → IsDeed d (plan x x.place) → word_of (plan x x.place) ≡ Some c → Finds d m f
@@ -222,7 +222,7 @@ module _ {V : Type 0} where
 
   -- ---- the turn
   pub first_turned : AreSteps V → (t : TxTable V) (s u : table.Seat V) (r p q : TxActor V) (y : Actor)
-      (told : Result (Option WordAnswer) WordRefusal) (n : Told V) (ks : List ℕ) → IsAsked t s r p ks → Ties t s r → MayStore r p
+      (told : Result (Option WordAnswer) WordRefusal) (n : ActorNotice V) (ks : List ℕ) → IsAsked t s r p ks → Ties t s r → MayStore r p
       → StepsWords (opening_of t) s p.words u y told → IsToldWord (record p { words = y }) q n (notice_told told)
       → IsRunning (laid_in t) q → Ties t u q × Turned (opening_of t) s r u n
   first_turned steps t s u r p q y told n ks h ties stores step heard running =

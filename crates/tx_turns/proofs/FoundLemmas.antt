@@ -9,7 +9,7 @@ use Rattle.tx_machine.specs.Actor as machine
 use Rattle.tx_machine.specs.Actor.{Actor, Place}
 use Rattle.tx_machine.specs.Cells.{Cell, ClockCell, LockCell, ValueCell, cell, learns, word_of}
 use Rattle.tx_machine.specs.World as machine_world
-use Rattle.tx_machine.specs.World.{Deed, StoreLock, StoreValue, outcome, plan}
+use Rattle.tx_machine.specs.World.{Deed, StoreLock, StoreValue, step_end, plan}
 use Rattle.tx_machine.proofs.Cells.{step_learns}
 use Rattle.tx_machine.proofs.Sets.{put-same}
 use Rattle.tx_machine.proofs.Runs.{recorded_words}
@@ -25,18 +25,18 @@ use Rattle.replay_log.specs.Worlds.{all_of, distinct}
 use Rattle.actor_parts.specs.Dispatch.{MayGoOn, MayRelease, next_of}
 use Rattle.actor_parts.specs.declared.next.Next.TheVariants as next
 use Rattle.actor_laws.proofs.Alone.{same_actors}
-use Rattle.actor_laws.proofs.Tells.{told_by_number}
-use Rattle.actor_laws.specs.Spots.{Word, with_word}
-use Rattle.actor_laws.specs.Tells.{tells}
+use Rattle.actor_laws.proofs.StepAnswers.{told_by_number}
+use Rattle.actor_laws.specs.StepTargets.{Word, with_word}
+use Rattle.actor_laws.specs.StepAnswers.{tells}
 use Rattle.tx_actor.specs.Running.{KnowsHomes, Runs}
 use Rattle.tx_actor.specs.declared.actor.Stage as own
 use Rattle.tx_actor.specs.declared.actor.Stage.TheVariants as stage
 use Rattle.tx_actor.specs.declared.actor.TxActor.{TxActor}
 use Rattle.tx_table.specs.Turns.{found_at}
-use Rattle.tx_turns.specs.Dues.{IsDeed}
+use Rattle.tx_turns.specs.NextStep.{IsDeed}
 use Rattle.tx_turns.specs.Touches.{Finds}
-use Rattle.tx_turns.specs.declared.due.Due.{Due}
-use Rattle.tx_turns.specs.declared.due.Due.TheVariants as due
+use Rattle.tx_turns.specs.declared.due.NextStep.{NextStep}
+use Rattle.tx_turns.specs.declared.due.NextStep.TheVariants as due
 
 -- ---- what a store finds
 abbrev IsStore : Deed → Type 0
@@ -62,7 +62,7 @@ store_learns (StoreValue l v after) x m n h = refl
 store_learns (StoreLock l w after) x m n h = refl
 store_learns e x m n h = absurd h
 
-is_store : (d : Due) (e : Deed) (m n : ℕ) → IsDeed d e → Finds d m n → (P : ℕ → Type 0) → (IsStore e → P m → P n) → P m → P n
+is_store : (d : NextStep) (e : Deed) (m n : ℕ) → IsDeed d e → Finds d m n → (P : ℕ → Type 0) → (IsStore e → P m → P n) → P m → P n
 is_store (due.StoreValue l v) e m n h f P by p = by (subst IsStore (sym h.1) tt) p
 is_store (due.StoreLock l w) e m n h f P by p = by (subst IsStore (sym h.2) tt) p
 is_store due.Nothing e m n h f P by p = subst P f p
@@ -73,11 +73,11 @@ is_store (due.LoadValue l) e m n h f P by p = subst P f p
 is_store (due.Lock l old) e m n h f P by p = subst P f p
 
 -- what it answers is what is learnt and answered of the number that it found
-pub learns_found : (d : Due) (e : Deed) (x : Actor) (m n : ℕ) → IsDeed d e → Finds d m n → learns e x m ≡ learns e x n
+pub learns_found : (d : NextStep) (e : Deed) (x : Actor) (m n : ℕ) → IsDeed d e → Finds d m n → learns e x m ≡ learns e x n
 learns_found d e x m n h f =
     is_store d e m n h f (λ k. learns e x m ≡ learns e x k) (λ s _. store_learns e x m n s) refl
 
-pub tells_found : (d : Due) (x : Actor) (p : Place) (m n : ℕ) → IsDeed d (plan x p) → Finds d m n → tells x p m ≡ tells x p n
+pub tells_found : (d : NextStep) (x : Actor) (p : Place) (m n : ℕ) → IsDeed d (plan x p) → Finds d m n → tells x p m ≡ tells x p n
 tells_found d x p m n h f =
     is_store d (plan x p) m n h f (λ k. tells x p m ≡ tells x p k) (λ s _. store_tells x p m n s) refl
 
@@ -95,7 +95,7 @@ locking_reads_nothing machine.Begin h = h
 locking_reads_nothing (machine.Again l k v) h = h
 locking_reads_nothing p h = tt
 
-recorded_gates : {X Out : Type 0} (s : Boosted X Out) (os : List Out) (o : machine_world.Outcome) → (recorded s os o).gates ≡ s.gates
+recorded_gates : {X Out : Type 0} (s : Boosted X Out) (os : List Out) (o : machine_world.StepEnd) → (recorded s os o).gates ≡ s.gates
 recorded_gates s os machine_world.GoesOn = refl
 recorded_gates s os (machine_world.Commits r) = refl
 recorded_gates s os (machine_world.Aborts e) = refl
@@ -121,7 +121,7 @@ module _ {V : Type 0} where
       let y = actor_of v a in
       recorded_gates (record s { words = machine_world.step s.words a y y.place; shadows = shadows_after s a y.place })
       (s.shadows a).outcomes
-      (outcome a y y.place)
+      (step_end a y y.place)
 
   pub step_learns_cell : (v : World V) (a : ℕ) (x : Actor) (c : Cell) → actor_of v a ≡ x → word_of (plan x x.place) ≡ Some c
       → actor_of (acted v (moves a ∷ [])) a ≡ learns (plan x x.place) x (cell v.boosted.words c)
@@ -131,7 +131,7 @@ module _ {V : Type 0} where
       let there : word_of (plan y y.place) ≡ Some c = ap (λ (z : Actor). word_of (plan z z.place)) is ∙ touches in
       ap (λ (t : machine_world.World). t.actors a)
       (recorded_words (record s { words = machine_world.step s.words a y y.place; shadows = shadows_after s a y.place })
-      (s.shadows a).outcomes (outcome a y y.place))
+      (s.shadows a).outcomes (step_end a y y.place))
       ∙ (step_learns s.words a y y.place c there ∙ ap (λ (z : Actor). learns (plan z z.place) z (cell s.words c)) is)
 
   pub step_tells_cell : (v : World V) (a : ℕ) (x : Actor) (c : Cell) → actor_of v a ≡ x → word_of (plan x x.place) ≡ Some c

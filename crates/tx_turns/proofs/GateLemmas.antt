@@ -13,28 +13,28 @@ use Rattle.seq_model.specs.declared.event.Event.TheVariants.{Step}
 use Rattle.tx_machine.specs.Boosted.{is_actor, is_committing, is_none}
 use Rattle.tx_machine.specs.Content.{has}
 use Rattle.replay_log.specs.declared.base.Base.{Base}
-use Rattle.replay_log.specs.Contents.{Asked}
+use Rattle.replay_log.specs.Contents.{CollectionCall}
 use Rattle.replay_log.specs.Seats.{World, Copying, actor_of}
 use Rattle.replay_log.specs.Worlds.{happens, run}
 use Rattle.replay_log.proofs.SeatLemmas.{Differ}
 use Rattle.actor_laws.specs.Bases.{ShowsBase}
 use Rattle.actor_laws.specs.Gates.{Puts, Tries}
 use Rattle.actor_laws.specs.Own.{Alike}
-use Rattle.actor_laws.specs.Spots.{Gate, Spot, gate_word, number_at}
+use Rattle.actor_laws.specs.StepTargets.{Gate, Spot, gate_word, number_at}
 use Rattle.actor_laws.proofs.Alike.{action_same, alike_same}
 use Rattle.actor_laws.proofs.Guards.{put_allowed, try_allowed}
-use Rattle.actor_laws.proofs.Turned.{try_turned}
+use Rattle.actor_laws.proofs.StepResult.{try_turned}
 use Rattle.actor_parts.specs.Dispatch.{AreSteps, after_put, after_try, first, is_loading, next_home, next_of}
 use Rattle.actor_parts.specs.declared.next.Next.{Next}
 use Rattle.actor_parts.specs.declared.next.Next.TheVariants as next
-use Rattle.tx_actor.specs.Having.{HasCopies, IsWholeOf, KeepsCopies}
-use Rattle.tx_actor.specs.Keeping.{IsRunning}
+use Rattle.tx_actor.specs.CopiesByStage.{HasCopies, IsWholeOf, KeepsCopies}
+use Rattle.tx_actor.specs.ActorBounds.{IsRunning}
 use Rattle.tx_actor.specs.Running.{Does, Runs, notice_of, seat_of, stage_of}
 use Rattle.tx_actor.specs.declared.actor.Stage as own
 use Rattle.tx_actor.specs.declared.actor.Stage.TheVariants as stage
-use Rattle.tx_actor.specs.declared.actor.Told.{Told}
+use Rattle.tx_actor.specs.declared.actor.ActorNotice.{ActorNotice}
 use Rattle.tx_actor.specs.declared.actor.TxActor.{TxActor}
-use Rattle.tx_actor.specs.Kept.{StepsKeep}
+use Rattle.tx_actor.specs.CopiesAfterEvent.{StepsKeep}
 use Rattle.tx_actor.proofs.CopyLemmas.{due_copy}
 use Rattle.tx_actor.proofs.GatesLemmas.{gates_in, put_gates, step_put_gates, step_try_gates}
 use Rattle.tx_actor.proofs.OwnLemmas.{OthersLaw}
@@ -114,7 +114,7 @@ module _ {V : Type 0} where
       (λ l p at. (sym (gated.parts l), sym (gated.editions l)))
 
   -- what a step on the gate of k makes of the seat and its actor
-  module _ (t : TxTable V) (s u : table.Seat V) (r q : TxActor V) (n : Told V) (k found : ℕ) (base : Option (Base V))
+  module _ (t : TxTable V) (s u : table.Seat V) (r q : TxActor V) (n : ActorNotice V) (k found : ℕ) (base : Option (Base V))
       (bases : List (ℕ × Slot V)) (ties : Ties t s r) (takes : Takes (opening_of t) s (view s).clock found base bases u)
       (at : spot (seated.actor s) (acts (opening_of t) s) ≡ Gate k) (off : IsOnWord (next_of (stage_of r.stage)) → ⊥) where
     abbrev me : ℕ
@@ -141,7 +141,7 @@ module _ {V : Type 0} where
         (λ on. absurd (off on)) (tells ∙ takes.happened.same.1)
 
     pub gate_kept : StepsKeep V → OthersLaw V → (bs : List (Base V)) → HasOwn t s r bs → Ties t u q → KeepsCopies r q
-        → is_loading (stage_of r.stage) ≡ false → ((asked : Asked V) → stage_of r.stage ≡ Copying asked → ⊥)
+        → is_loading (stage_of r.stage) ≡ false → ((asked : CollectionCall V) → stage_of r.stage ≡ Copying asked → ⊥)
         → HasCopies q (happens there (Step me)).0 me
     gate_kept keep law bs own tie keeps quiet calm =
         let h = takes.happened in
@@ -158,7 +158,7 @@ module _ {V : Type 0} where
       (λ j e. let z : ⊥ = cc in z)
 
   -- the gate was taken
-  pub try_lost : AreSteps V → StepsKeep V → OthersLaw V → (t : TxTable V) (s u : table.Seat V) (r q : TxActor V) (n : Told V) (k : ℕ)
+  pub try_lost : AreSteps V → StepsKeep V → OthersLaw V → (t : TxTable V) (s u : table.Seat V) (r q : TxActor V) (n : ActorNotice V) (k : ℕ)
       (bs : List (Base V)) → next_of (stage_of r.stage) ≡ next.TryGate k → Ties t s r → HasOwn t s r bs
       → Takes (opening_of t) s (view s).clock 1 None (out s) u → Does r q n (λ a w. after_try w a (seat_of r) (stage_of r.stage) false)
       → IsRunning (laid_in t) q → KeepsCopies r q → Ties t u q × Turned (opening_of t) s r u n × HasOwn t u q bs
@@ -200,7 +200,7 @@ module _ {V : Type 0} where
       )
 
   -- the gate was free
-  pub try_won : AreSteps V → StepsKeep V → OthersLaw V → (t : TxTable V) (s u : table.Seat V) (r q : TxActor V) (n : Told V) (k : ℕ)
+  pub try_won : AreSteps V → StepsKeep V → OthersLaw V → (t : TxTable V) (s u : table.Seat V) (r q : TxActor V) (n : ActorNotice V) (k : ℕ)
       (bs : List (Base V)) (b : Base V) → next_of (stage_of r.stage) ≡ next.TryGate k → Ties t s r → HasOwn t s r bs
       → IsBaseAt (blocks_in t) k b → Takes (opening_of t) s (view s).clock 0 (Some b) (out s ++ (k, None) ∷ []) u
       → Does r q n (λ a w. after_try w a (seat_of r) (stage_of r.stage) true) → IsRunning (laid_in t) q → KeepsCopies r q
@@ -338,7 +338,7 @@ module _ {V : Type 0} where
   pub front_same : (bs : List (Base V)) (b d : Base V) (cs ds : List (Base V)) → bs ≡ b ∷ cs → bs ≡ d ∷ ds → b ≡ d
   front_same bs b d cs ds e f = (let z : b ∷ cs ≡ d ∷ ds = sym e ∙ f in cc)
 
-  pub put_tied : AreSteps V → StepsKeep V → OthersLaw V → (t : TxTable V) (s u : table.Seat V) (r q : TxActor V) (n : Told V) (k : ℕ)
+  pub put_tied : AreSteps V → StepsKeep V → OthersLaw V → (t : TxTable V) (s u : table.Seat V) (r q : TxActor V) (n : ActorNotice V) (k : ℕ)
       (bs cs : List (Base V)) (b : Base V) → next_of (stage_of r.stage) ≡ next.PutGate k → Ties t s r → HasOwn t s r bs → bs ≡ b ∷ cs
       → Takes (opening_of t) s (view s).clock 1 None (rest (out s)) u → Does r q n (λ a w. after_put w a (seat_of r) (stage_of r.stage))
       → IsRunning (laid_in t) q → KeepsCopies r q → Ties t u q × Turned (opening_of t) s r u n × HasOwn t u q cs

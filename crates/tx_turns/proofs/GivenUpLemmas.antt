@@ -22,8 +22,8 @@ use Rattle.replay_log.specs.WorldRefusals.{is_ending}
 use Rattle.actor_parts.specs.Dispatch.{next_of}
 use Rattle.tx_actor.proofs.SeatLemmas.{next_as}
 use Rattle.tx_actor.specs.Running.{notice_of, stage_of}
-use Rattle.tx_actor.specs.declared.actor.Told.{Told}
-use Rattle.tx_actor.specs.declared.actor.Told.TheVariants as told
+use Rattle.tx_actor.specs.declared.actor.ActorNotice.{ActorNotice}
+use Rattle.tx_actor.specs.declared.actor.ActorNotice.TheVariants as told
 use Rattle.actor_laws.proofs.OneStep.{one_step}
 use Rattle.tx_table.specs.declared.seat.Seat as table
 use Rattle.tx_actor.specs.declared.actor.TxActor.{TxActor}
@@ -32,37 +32,37 @@ use Rattle.tx_table.specs.declared.view.Turn.{Turn}
 use Rattle.tx_table.specs.Seated.{acts, opening_of, view}
 use Rattle.tx_table.specs.Seated as seated
 use Rattle.actor_laws.specs.Courses.{ComesTo, EndsFrom, IsUnderWay, IsUnderWayFrom}
-use Rattle.actor_laws.specs.Phases.{Phase, Rests, Begins, Stands, Calls, Commits, Committed, Ends, phase, phase_at}
-use Rattle.tx_turns.specs.Asked.{Starved}
+use Rattle.actor_laws.specs.KnownStages.{KnownStage, Rests, Begins, Stands, Calls, Commits, Committed, Ends, known_stage, known_stage_at}
+use Rattle.tx_turns.specs.RequestStep.{Starved}
 use Rattle.tx_turns.specs.Ties.{Ties}
-use Rattle.tx_turns.proofs.RequestedLemmas.{taken_requests}
+use Rattle.tx_turns.proofs.RequestHistoryLemmas.{taken_requests}
 use Rattle.tx_turns.proofs.DeclaredLemmas.{reader_starves}
 use Rattle.tx_turns.proofs.DrivenLemmas.{driven_on}
-use Rattle.tx_turns.proofs.KeptLemmas.{Keeps, Same, starves_keep}
+use Rattle.tx_turns.proofs.SnapshotLemmas.{Keeps, Same, starves_keep}
 use Rattle.tx_turns.proofs.NextLemmas.{IsHalfway, load_wants, turn_wants, wants_halfway}
 use Rattle.tx_turns.proofs.SinceLemmas.{told_back}
 use Rattle.tx_turns.specs.Refused.{IsGivenUp}
-use Rattle.tx_turns.specs.Requested.{requests_of}
+use Rattle.tx_turns.specs.RequestHistory.{requests_of}
 use Rattle.tx_turns.specs.Driven.{Driven, IsTrue, MayWant, Stops, WantsMemory, seat_in, standing}
 
 module _ {V : Type 0} where
   -- ---- a transaction that is being aborted
-  pub under_ends : (x : Seat V) → phase x ≡ Ends → IsUnderWay x x None
-  under_ends x on = subst (λ (p : Phase V). IsUnderWayFrom x p x None) (sym on) (on, refl, refl)
+  pub under_ends : (x : Seat V) → known_stage x ≡ Ends → IsUnderWay x x None
+  under_ends x on = subst (λ (p : KnownStage V). IsUnderWayFrom x p x None) (sym on) (on, refl, refl)
 
   -- it makes no record, and is answered why it was aborted
-  pub none_ends : (o : World V) (s u : table.Seat V) (n : Told V) (d : Option (Record V)) → standing o s ≡ Ends → Driven o s u n d
+  pub none_ends : (o : World V) (s u : table.Seat V) (n : ActorNotice V) (d : Option (Record V)) → standing o s ≡ Ends → Driven o s u n d
       → n ≢ told.Quiet
       → (d ≡ None) × (standing o u ≡ Rests) × (notice_of (seated.actor s) n ≡ why (seated.actor s) (seat_in o s).cause)
   none_ends o s u told.Quiet d on D ne = absurd (ne refl)
   none_ends o s u (told.Answered q) d on D ne =
       let a = seated.actor s in
-      let h = subst (λ (p : Phase V). EndsFrom a (seat_in o s) p (Answered a q) (seat_in o u) d) on D.comes in (h.2, h.0, h.1)
+      let h = subst (λ (p : KnownStage V). EndsFrom a (seat_in o s) p (Answered a q) (seat_in o u) d) on D.comes in (h.2, h.0, h.1)
   none_ends o s u (told.Refused cause) d on D ne =
       let a = seated.actor s in
-      let h = subst (λ (p : Phase V). EndsFrom a (seat_in o s) p (Refused a cause) (seat_in o u) d) on D.comes in (h.2, h.0, h.1)
+      let h = subst (λ (p : KnownStage V). EndsFrom a (seat_in o s) p (Refused a cause) (seat_in o u) d) on D.comes in (h.2, h.0, h.1)
 
-  ending_ends : (calls : List (Call V × Reply V)) (st : Stage V) → is_ending st ≡ true → phase_at calls st ≡ Ends
+  ending_ends : (calls : List (Call V × Reply V)) (st : Stage V) → is_ending st ≡ true → known_stage_at calls st ≡ Ends
   ending_ends calls Cancelling h = refl
   ending_ends calls Leaving h = refl
   ending_ends calls (Returning ks) h = refl
@@ -85,7 +85,7 @@ module _ {V : Type 0} where
   starved_up w a st r h is = absurd h
 
   -- ---- a call, or a commit without a record
-  halfway_from : (s x : Seat V) (d : Option (Record V)) (p : Phase V) → IsUnderWayFrom s p x d → IsHalfway (phase x) → IsHalfway p
+  halfway_from : (s x : Seat V) (d : Option (Record V)) (p : KnownStage V) → IsUnderWayFrom s p x d → IsHalfway (known_stage x) → IsHalfway p
   halfway_from s x d Begins h half = subst IsHalfway h.0 half
   halfway_from s x d (Calls calls call) h half = tt
   halfway_from s x d (Commits calls) h half = tt
@@ -94,7 +94,7 @@ module _ {V : Type 0} where
   halfway_from s x d (Stands calls) h half = absurd h
   halfway_from s x d Committed h half = absurd h
 
-  halfway_none : (s x : Seat V) (d : Option (Record V)) (p : Phase V) → IsUnderWayFrom s p x d → IsHalfway (phase x) → d ≡ None
+  halfway_none : (s x : Seat V) (d : Option (Record V)) (p : KnownStage V) → IsUnderWayFrom s p x d → IsHalfway (known_stage x) → d ≡ None
   halfway_none s x d Begins h half = h.1
   halfway_none s x d (Calls calls call) h half = h.1
   halfway_none s x d (Commits calls) (inl h) half = h.1
@@ -105,30 +105,30 @@ module _ {V : Type 0} where
   halfway_none s x d Committed h half = absurd h
 
   -- it has ended so as an allocation failed
-  halfway_ends : (a : ℕ) (s x : Seat V) (p : Phase V) → IsHalfway p → phase x ≡ Rests → EndsFrom a s p (Refused a OutOfMemory) x None
+  halfway_ends : (a : ℕ) (s x : Seat V) (p : KnownStage V) → IsHalfway p → known_stage x ≡ Rests → EndsFrom a s p (Refused a OutOfMemory) x None
   halfway_ends a s x (Calls calls call) half rests = (inr rests, refl)
   halfway_ends a s x (Commits calls) half rests = (rests, refl)
   halfway_ends a s x p half rests = absurd half
 
-  halfway_true : (o : World V) (s u : table.Seat V) (p : Phase V) → IsHalfway p → IsTrue o s u p (told.Refused OutOfMemory)
+  halfway_true : (o : World V) (s u : table.Seat V) (p : KnownStage V) → IsHalfway p → IsTrue o s u p (told.Refused OutOfMemory)
   halfway_true o s u (Calls calls call) half = inl (inr refl, tt)
   halfway_true o s u (Commits calls) half = (inr refl, tt)
   halfway_true o s u p half = absurd half
 
-  is_memory : (a : ℕ) (n : Told V) → notice_of a n ≡ Refused a OutOfMemory → n ≡ told.Refused OutOfMemory
+  is_memory : (a : ℕ) (n : ActorNotice V) → notice_of a n ≡ Refused a OutOfMemory → n ≡ told.Refused OutOfMemory
   is_memory a told.Quiet e = absurd (let z : ⊥ = cc in z)
   is_memory a (told.Answered q) e = absurd (let z : ⊥ = cc in z)
   is_memory a (told.Refused cause) e = (let f : cause ≡ OutOfMemory = cc in ap told.Refused f)
 
-  no_commit : (p : Phase V) (calls : List (Call V × Reply V)) → p ≡ Rests → p ≡ Commits calls → ⊥
+  no_commit : (p : KnownStage V) (calls : List (Call V × Reply V)) → p ≡ Rests → p ≡ Commits calls → ⊥
   no_commit p calls rests e = (let f : Rests ≡ Commits calls = sym rests ∙ e in cc)
 
   -- ---- one that stopped as an allocation failed
-  pub stops_by : (o : World V) (s u z : table.Seat V) (said : Told V) (d : Option (Record V)) → Driven o s u told.Quiet d
+  pub stops_by : (o : World V) (s u z : table.Seat V) (said : ActorNotice V) (d : Option (Record V)) → Driven o s u told.Quiet d
       → MayWant (seat_in o u).stage → Starved o u z said → Stops o s z
   stops_by o s u z said d D wants starved =
       let x = seat_in o u in
-      let none : d ≡ None = halfway_none (seat_in o s) x d (phase (seat_in o s)) D.comes (wants_halfway x.calls x.stage wants) in
+      let none : d ≡ None = halfway_none (seat_in o s) x d (known_stage (seat_in o s)) D.comes (wants_halfway x.calls x.stage wants) in
       record {
         before = u;
         driven = subst (λ (k : Option (Record V)). Driven o s u told.Quiet k) none D;
@@ -138,7 +138,7 @@ module _ {V : Type 0} where
       }
 
   -- at a turn, or after the store of a gate
-  pub stops_at : (t : TxTable V) (s u z : table.Seat V) (r : TxActor V) (said : Told V) (d : Option (Record V)) → Ties t u r
+  pub stops_at : (t : TxTable V) (s u z : table.Seat V) (r : TxActor V) (said : ActorNotice V) (d : Option (Record V)) → Ties t u r
       → Driven (opening_of t) s u told.Quiet d → WantsMemory (next_of (stage_of r.stage)) → IsGivenUp (opening_of t) u r z said
       → Stops (opening_of t) s z
   stops_at t s u z r said d ties D wants (inl starved) =
@@ -153,8 +153,8 @@ module _ {V : Type 0} where
     abbrev m : table.Seat V
     m = S.before
 
-    halfway : IsHalfway (phase (seat_in o s))
-    halfway = halfway_from (seat_in o s) (seat_in o m) None (phase (seat_in o s)) S.driven.comes
+    halfway : IsHalfway (known_stage (seat_in o s))
+    halfway = halfway_from (seat_in o s) (seat_in o m) None (known_stage (seat_in o s)) S.driven.comes
         (wants_halfway (seat_in o m).calls (seat_in o m).stage S.wants)
 
     up : IsUp (seat_in o u)
@@ -177,7 +177,7 @@ module _ {V : Type 0} where
     turns_to : (view u).turns ≡ (view s).turns ++ S.driven.more
     turns_to = ap (λ k. k.0.turns) S.starved.taken.1 ∙ S.driven.turns
 
-    pub given_up : (z : table.Seat V) (n : Told V) → n ≢ told.Quiet → Driven o u z n None → Driven o s z n None
+    pub given_up : (z : table.Seat V) (n : ActorNotice V) → n ≢ told.Quiet → Driven o u z n None → Driven o s z n None
     given_up z n ne D =
         let a = seated.actor s in
         let ends = none_ends o u z n None stopped_ends D ne in
@@ -194,16 +194,16 @@ module _ {V : Type 0} where
           gains = D.gains ∙ (append-nil (view u).receipts ∙ (ap (λ k. k.0.receipts) S.starved.taken.1 ∙ S.driven.gains));
           rises = (let p = S.driven.rises in let q = D.rises in
               let e : (view u).clock ≡ (view m).clock = ap (λ k. k.0.clock) S.starved.taken.1 in omega (arith, p, q, e));
-          comes = subst (λ (k : Told V). ComesTo a (seat_in o s) (notice_of a k) (seat_in o z) None) (sym memory)
-              (halfway_ends a (seat_in o s) (seat_in o z) (phase (seat_in o s)) halfway rests);
-          is_true = subst (λ (k : Told V). IsTrue o s z (standing o s) k) (sym memory) (halfway_true o s z (standing o s) halfway);
+          comes = subst (λ (k : ActorNotice V). ComesTo a (seat_in o s) (notice_of a k) (seat_in o z) None) (sym memory)
+              (halfway_ends a (seat_in o s) (seat_in o z) (known_stage (seat_in o s)) halfway rests);
+          is_true = subst (λ (k : ActorNotice V). IsTrue o s z (standing o s) k) (sym memory) (halfway_true o s z (standing o s) halfway);
           tells = λ told. told_back o s u same S.driven.more turns_to z n (D.tells told);
-          written = λ calls e. absurd (no_commit (phase (seat_in o z)) calls rests e);
+          written = λ calls e. absurd (no_commit (known_stage (seat_in o z)) calls rests e);
           began = λ _ going. absurd (going rests);
           declared = λ _ going. absurd (going rests);
           reader = λ is. D.reader ((λ i. (actor_of (S.starved.own i) (S.starved.taken.0.1 i)).declared)
               ∙ reader_starves (acts o m) (seated.actor m) (S.driven.reader is));
-          stamped = λ _ calls e. absurd (no_commit (phase (seat_in o z)) calls rests e);
+          stamped = λ _ calls e. absurd (no_commit (known_stage (seat_in o z)) calls rests e);
           numbered = λ _ r none. absurd (let f : ⊥ = cc in f);
           asks = D.asks ∙ (taken_requests m u (Starve 0) S.starved.taken ∙ (append-nil (requests_of m) ∙ S.driven.asks));
           aborted = record {

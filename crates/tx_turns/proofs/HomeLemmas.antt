@@ -26,19 +26,19 @@ use Rattle.replay_log.proofs.SeatLemmas.{Differ}
 use Rattle.actor_laws.specs.Bases.{ShowsBase}
 use Rattle.actor_parts.specs.Dispatch.{AreSteps, first, next_home, next_of}
 use Rattle.actor_parts.specs.declared.next.Next.TheVariants as next
-use Rattle.actor_parts.specs.declared.copies.CopyOf.{CopyOf}
-use Rattle.actor_parts.specs.Kept.{copy_of}
+use Rattle.actor_parts.specs.declared.copies.CopyOfCollection.{CopyOfCollection}
+use Rattle.actor_parts.specs.CopyList.{copy_of}
 use Rattle.actor_parts.specs.Logs.{OthersStand, changes_had, locations_had}
 use Rattle.actor_parts.specs.Owns.{IsOwn}
-use Rattle.actor_parts.specs.Staying.{EventsStay, StepStays, Stays}
+use Rattle.actor_parts.specs.CopiesAfterEvent.{EventsStay, StepStays, Stays}
 use Rattle.tx_actor.specs.Asks.{Stands}
 use Rattle.tx_actor.specs.Dispatch.{IsGoneHome}
-use Rattle.tx_actor.specs.Having.{HasCopies, HasCopiesAt, KeepsFrom, OwnsHomes}
-use Rattle.tx_actor.specs.Keeping.{IsRunning}
+use Rattle.tx_actor.specs.CopiesByStage.{HasCopies, HasCopiesAt, KeepsFrom, OwnsHomes}
+use Rattle.tx_actor.specs.ActorBounds.{IsRunning}
 use Rattle.tx_actor.specs.Running.{stage_of}
 use Rattle.tx_actor.specs.declared.actor.Stage.{Stage as Standing}
 use Rattle.tx_actor.specs.declared.actor.Stage.TheVariants as stage
-use Rattle.tx_actor.specs.declared.actor.Told.{Told}
+use Rattle.tx_actor.specs.declared.actor.ActorNotice.{ActorNotice}
 use Rattle.tx_actor.specs.declared.actor.TxActor.{TxActor}
 use Rattle.tx_actor.proofs.CopyLemmas.{block_here}
 use Rattle.tx_actor.proofs.GatesLemmas.{has_first, step_home_gates}
@@ -150,10 +150,10 @@ module _ {V : Type 0} where
   bases_count o u (k ∷ ks) [] h = absurd h
 
   -- those at the first i places are prepared
-  abbrev pub PreparedTo : ℕ → List (CopyOf V) → List ℕ → List (Base V) → Type 0
+  abbrev pub PreparedTo : ℕ → List (CopyOfCollection V) → List ℕ → List (Base V) → Type 0
   PreparedTo i cs ks bs = (j k : ℕ) (b : Base V) → j < i → slice_get ks j ≡ Some k → slice_get bs j ≡ Some b → IsPrepared cs k b
 
-  pub prepared_more : (cs : List (CopyOf V)) (ks : List ℕ) (k i : ℕ) (before now : List (Base V)) → slice_get ks i ≡ Some k
+  pub prepared_more : (cs : List (CopyOfCollection V)) (ks : List ℕ) (k i : ℕ) (before now : List (Base V)) → slice_get ks i ≡ Some k
       → OneIsPrepared cs k i before now → PreparedTo i cs ks before → PreparedTo (i + 1) cs ks now
   prepared_more cs ks k i before now at one so_far j m b low there is =
       elim (cases_eq j i) [
@@ -164,7 +164,7 @@ module _ {V : Type 0} where
         | inr ne ↦ so_far j m b (omega (arith, low, ne)) there (sym (one.others j ne) ∙ is)
       ]
 
-  pub prepared_all : (cs : List (CopyOf V)) (ks : List ℕ) (bs : List (Base V)) → length ks ≡ length bs → PreparedTo (length ks) cs ks bs
+  pub prepared_all : (cs : List (CopyOfCollection V)) (ks : List ℕ) (bs : List (Base V)) → length ks ≡ length bs → PreparedTo (length ks) cs ks bs
       → ArePrepared cs ks bs
   prepared_all cs [] bs e h = tt
   prepared_all cs (k ∷ ks) [] e h = let z : ⊥ = omega (arith, e) in absurd z
@@ -188,7 +188,7 @@ module _ {V : Type 0} where
         prepared = subst (λ (g : Standing V). ArePreparedAt q.copies.items g bs) (sym at) (first_prepared q.copies.items bs r.stage due);
       }
     where
-      first_prepared : (cs : List (CopyOf V)) (bs : List (Base V)) (g : Standing V) → next_of (stage_of g) ≡ next.FirstStore
+      first_prepared : (cs : List (CopyOfCollection V)) (bs : List (Base V)) (g : Standing V) → next_of (stage_of g) ≡ next.FirstStore
           → ArePreparedAt cs g bs
       first_prepared cs bs (stage.Storing homes) e = let z : ⊥ = cc in absurd z
       first_prepared cs bs (stage.Homing homes) e = absurd (no_store homes.items e)
@@ -301,7 +301,7 @@ module _ {V : Type 0} where
         )
 
   -- ---- what is left after the step
-  prepared_others : (k : ℕ) (before now : List (CopyOf V)) (ks : List ℕ) (bs : List (Base V)) → OthersStand k before now
+  prepared_others : (k : ℕ) (before now : List (CopyOfCollection V)) (ks : List ℕ) (bs : List (Base V)) → OthersStand k before now
       → has ks k ≡ false → ArePrepared before ks bs → ArePrepared now ks bs
   prepared_others k before now [] bs same apart h = tt
   prepared_others k before now (j ∷ ks) [] same apart h = absurd h
@@ -314,12 +314,12 @@ module _ {V : Type 0} where
         )
       ]
 
-  prepared_at : (cs : List (CopyOf V)) (g : Standing V) (bs : List (Base V)) → ArePrepared cs (gates_at g) bs → ArePreparedAt cs g bs
+  prepared_at : (cs : List (CopyOfCollection V)) (g : Standing V) (bs : List (Base V)) → ArePrepared cs (gates_at g) bs → ArePreparedAt cs g bs
   prepared_at cs (stage.Storing homes) bs h = h
   prepared_at cs (stage.Homing homes) bs h = h
   prepared_at cs g bs h = tt
 
-  has_left : (q : TxActor V) (v : World V) (a : ℕ) (homes : VecDeque ℕ Global) (g : Standing V) (cs : List (CopyOf V))
+  has_left : (q : TxActor V) (v : World V) (a : ℕ) (homes : VecDeque ℕ Global) (g : Standing V) (cs : List (CopyOfCollection V))
       → KeepsFrom g (stage.Homing homes) cs cs → ((j : ℕ) → Contains (gates_at g) j → IsOwn v a j (copy_of q.copies.items j))
       → HasCopiesAt q v a g
   has_left q v a homes stage.Open cs keep own = absurd keep.0
@@ -338,7 +338,7 @@ module _ {V : Type 0} where
   off_home r k due on = subst IsOnWord due on
 
   pub home_tied : AreSteps V → GoesOn V → EventsStay V → StaysLaw V → OthersLaw V → (t : TxTable V) (s u : table.Seat V) (r p q : TxActor V)
-      (n : Told V) (k : ℕ) (bs cs : List (Base V)) (b : Base V) → next_of (stage_of r.stage) ≡ next.GoHome k → Ties t s r
+      (n : ActorNotice V) (k : ℕ) (bs cs : List (Base V)) (b : Base V) → next_of (stage_of r.stage) ≡ next.GoHome k → Ties t s r
       → HasOwn t s r bs → bs ≡ b ∷ cs → Takes (opening_of t) s (view s).clock 1 None (rest (out s)) u → Stands r p → p.stage ≡ r.stage
       → IsGoneHome p q n → OthersStand k r.copies.items q.copies.items → KeepsFrom q.stage r.stage q.copies.items q.copies.items
       → IsRunning (laid_in t) q → Ties t u q × Turned (opening_of t) s r u n × HasOwn t u q cs
@@ -392,7 +392,7 @@ module _ {V : Type 0} where
       )
 
   -- ---- one base that was made ready
-  pub one_prepared : (cs : List (CopyOf V)) (k i : ℕ) (ds : List (Base V)) (now : Base V) → i < length ds → IsPrepared cs k now
+  pub one_prepared : (cs : List (CopyOfCollection V)) (k i : ℕ) (ds : List (Base V)) (now : Base V) → i < length ds → IsPrepared cs k now
       → OneIsPrepared cs k i ds (set ds i now)
   one_prepared cs k i ds now low h = record {
     here = λ b at. (let e : Some now ≡ Some b = sym (here ds i low) ∙ at in let same : now ≡ b = cc in subst (IsPrepared cs k) same h);

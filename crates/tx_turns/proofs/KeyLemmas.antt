@@ -28,34 +28,34 @@ use Rattle.actor_parts.specs.Requests.{HasNoReads}
 use Rattle.actor_parts.specs.declared.next.Next.TheVariants as next
 use Rattle.tx_actor.specs.Answers.{CanAccept}
 use Rattle.tx_actor.specs.Copying.{CanCopy, HasTaken, StepsOn}
-use Rattle.tx_actor.specs.Having.{AsksNothing, HasFound, HasLoaded, KeepsCopies}
-use Rattle.tx_actor.specs.Keeping.{HasHeard, IsRunning, KeepsHeard, KeepsIn}
-use Rattle.tx_actor.specs.Kept.{StarvesKeep, StepsKeep}
-use Rattle.tx_actor.specs.Loads.{IsLoadable, IsToldLoad}
+use Rattle.tx_actor.specs.CopiesByStage.{AsksNothing, HasFound, HasLoaded, KeepsCopies}
+use Rattle.tx_actor.specs.ActorBounds.{HasHeard, IsRunning, KeepsHeard, KeepsIn}
+use Rattle.tx_actor.specs.CopiesAfterEvent.{StarvesKeep, StepsKeep}
+use Rattle.tx_actor.specs.LoadStep.{IsLoadable, IsToldLoad}
 use Rattle.tx_actor.specs.Running.{Does, at, seat_of, stage_of}
-use Rattle.tx_actor.specs.Staying.{CopiesStayOwn}
+use Rattle.tx_actor.specs.CopiesAfterStep.{CopiesStayOwn}
 use Rattle.tx_actor.specs.Taking.{AreTakenFor, IsTakenCall, StarvesBehind, told_at, waiting_at}
 use Rattle.tx_actor.specs.Trying.{HoldsGates}
-use Rattle.tx_actor.specs.declared.actor.Answered.{Answered}
-use Rattle.tx_actor.specs.declared.actor.Asked.{Asked}
+use Rattle.tx_actor.specs.declared.actor.CallWithOutcome.{CallWithOutcome}
+use Rattle.tx_actor.specs.declared.actor.CollectionCall.{CollectionCall}
 use Rattle.tx_actor.specs.declared.actor.Stage as own
 use Rattle.tx_actor.specs.declared.actor.Stage.TheVariants as stage
-use Rattle.tx_actor.specs.declared.actor.Told.{Told}
-use Rattle.tx_actor.specs.declared.actor.Told.TheVariants as told
+use Rattle.tx_actor.specs.declared.actor.ActorNotice.{ActorNotice}
+use Rattle.tx_actor.specs.declared.actor.ActorNotice.TheVariants as told
 use Rattle.tx_actor.specs.declared.actor.TxActor.{TxActor}
-use Rattle.tx_actor.specs.declared.taking.Taken.{Taken}
-use Rattle.tx_actor.specs.declared.taking.Waiting.{Waiting}
+use Rattle.tx_actor.specs.declared.taking.KeyedCall.{KeyedCall}
+use Rattle.tx_actor.specs.declared.taking.WaitingCall.{WaitingCall}
 use Rattle.tx_actor.proofs.OwnLemmas.{OthersLaw}
 use Rattle.tx_actor.proofs.OwnCopyLemmas.{can_at}
 use Rattle.tx_table.specs.declared.seat.Seat.{Seat}
 use Rattle.tx_table.specs.declared.table.TxTable.{TxTable}
 use Rattle.tx_table.specs.Shown.{IsBaseAt}
 use Rattle.tx_table.specs.Seated.{Stepped, Takes, actor, blocks_in, opening_of, out, view}
-use Rattle.tx_turns.specs.Asked.{HasTaken as HasHeardOf, Starved}
+use Rattle.tx_turns.specs.RequestStep.{HasTaken as HasHeardOf, Starved}
 use Rattle.tx_turns.specs.Own.{HasOwn}
 use Rattle.tx_turns.specs.Straight.{HasDriven, HasLed, HasPut, HasStopped, LeadsAll, at_place}
 use Rattle.tx_turns.specs.Ties.{Ties, Turned, commits, laid_in}
-use Rattle.tx_turns.proofs.AskedLemmas.{starved}
+use Rattle.tx_turns.proofs.LoneRequestLemmas.{starved}
 use Rattle.tx_turns.proofs.CopyLemmas.{CopyLaws, GoesOn, KeepsOn, StarvesOn, copy_behind, copy_can, copy_reads, copy_tied}
 use Rattle.tx_turns.proofs.DrivenLemmas.{driven_on}
 use Rattle.tx_turns.proofs.EventLemmas.{starve_own}
@@ -84,15 +84,15 @@ on_err (Ok v) f h = tt
 on_err (Err e) f h = f h
 
 module _ {V : Type 0} where
-  turn_leads : (t : TxTable V) (s u : Seat V) (r : TxActor V) (n : Told V) → Ties t s r → Turned (opening_of t) s r u n
+  turn_leads : (t : TxTable V) (s u : Seat V) (r : TxActor V) (n : ActorNotice V) → Ties t s r → Turned (opening_of t) s r u n
       → commits (actor s) r ≡ [] → LeadsAll (opening_of t) s u n
   turn_leads t s u r n ties turned none d f h = driven_on t f s u r n d ties h turned None none
 
-  pub driven_then : (t : TxTable V) (s u z : Seat V) (r : TxActor V) (n : Told V) (bs : List (Base V))
+  pub driven_then : (t : TxTable V) (s u z : Seat V) (r : TxActor V) (n : ActorNotice V) (bs : List (Base V))
       → LeadsAll (opening_of t) s u told.Quiet → HasDriven t u z r n bs → HasDriven t s z r n bs
   driven_then t s u z r n bs h k = record { ties = k.ties; own = k.own; leads = λ d f was. k.leads d f (h d f was) }
 
-  pub led_driven : (t : TxTable V) (s u z : Seat V) (r : TxActor V) (n : Told V) (bs : List (Base V))
+  pub led_driven : (t : TxTable V) (s u z : Seat V) (r : TxActor V) (n : ActorNotice V) (bs : List (Base V))
       → LeadsAll (opening_of t) s u told.Quiet → HasLed t u z r n bs → HasDriven t s z r n bs
   led_driven t s u z r n bs h k = record { ties = k.ties; own = k.own; leads = λ d f was. k.leads.driven f d (h d f was) }
 
@@ -101,7 +101,7 @@ module _ {V : Type 0} where
   stopped_then t s u z r bs h k = record { ties = k.ties; own = k.own; wants = λ f was. k.wants f (h None f was) }
 
   -- ---- the gate
-  pub gate_won : HoldsGates V → AreSteps V → StepsKeep V → OthersLaw V → (t : TxTable V) (s u : Seat V) (p : TxActor V) (asked : Asked V)
+  pub gate_won : HoldsGates V → AreSteps V → StepsKeep V → OthersLaw V → (t : TxTable V) (s u : Seat V) (p : TxActor V) (asked : CollectionCall V)
       (tries k : ℕ) (b : Base V) → k ≡ asked.collection → Ties t s (at p (stage.Trying asked tries))
       → HasOwn t s (at p (stage.Trying asked tries)) [] → IsBaseAt (blocks_in t) k b
       → Takes (opening_of t) s (view s).clock 0 (Some b) (out s ++ (k, None) ∷ []) u
@@ -114,7 +114,7 @@ module _ {V : Type 0} where
       ((h.1 (laid_in t)).running ties.running) h.2 in
       record { ties = g.0; own = g.2; leads = turn_leads t s u r told.Quiet ties g.1 refl }
 
-  pub gate_lost : AreSteps V → StepsKeep V → OthersLaw V → (t : TxTable V) (s u : Seat V) (p q : TxActor V) (n : Told V) (asked : Asked V)
+  pub gate_lost : AreSteps V → StepsKeep V → OthersLaw V → (t : TxTable V) (s u : Seat V) (p q : TxActor V) (n : ActorNotice V) (asked : CollectionCall V)
       (tries k : ℕ) → k ≡ asked.collection → let r = at p (stage.Trying asked tries) in Ties t s r
       → HasOwn t s r [] → Takes (opening_of t) s (view s).clock 1 None (out s) u
       → Does r q n (λ a w. after_try w a (seat_of r) (stage_of r.stage) false) → KeepsIn (laid_in t) r q → KeepsCopies r q
@@ -126,7 +126,7 @@ module _ {V : Type 0} where
       record { ties = g.0; own = g.2; leads = turn_leads t s u r n ties g.1 refl }
 
   -- there was no memory before it
-  pub try_starved : StarvesKeep V → OthersLaw V → (t : TxTable V) (s u : Seat V) (p q : TxActor V) (n : Told V) (asked : Asked V)
+  pub try_starved : StarvesKeep V → OthersLaw V → (t : TxTable V) (s u : Seat V) (p q : TxActor V) (n : ActorNotice V) (asked : CollectionCall V)
       (tries : ℕ) (bs : List (Base V)) → [] ≡ bs → let r = at p (stage.Trying asked tries) in Ties t s r → HasOwn t s r []
       → Starved (opening_of t) s u n → Ties t u q → KeepsCopies r q → HasStopped t s u q bs
   try_starved keep law t s u p q n asked tries bs none ties has starved tie leaves =
@@ -138,7 +138,7 @@ module _ {V : Type 0} where
       }
 
   -- ---- what the call touches
-  pub may_take : CopyLaws V → (t : TxTable V) (s : Seat V) (p : TxActor V) (asked : Asked V) (b : Base V)
+  pub may_take : CopyLaws V → (t : TxTable V) (s : Seat V) (p : TxActor V) (asked : CollectionCall V) (b : Base V)
       → Ties t s (at p (stage.Copying asked)) → HasOwn t s (at p (stage.Copying asked)) (b ∷ []) → CanCopy (laid_in t) p b asked
   may_take laws t s p asked b ties has =
       can_at (laid_in t) (at p (stage.Copying asked)) b asked p.stage
@@ -146,7 +146,7 @@ module _ {V : Type 0} where
       has refl)
 
   -- there was no memory for it
-  pub take_starved : StarvesKeep V → OthersLaw V → (t : TxTable V) (s u : Seat V) (p q : TxActor V) (asked : Asked V) (b : Base V)
+  pub take_starved : StarvesKeep V → OthersLaw V → (t : TxTable V) (s u : Seat V) (p q : TxActor V) (asked : CollectionCall V) (b : Base V)
       (bs : List (Base V)) → b ∷ [] ≡ bs → let r = at p (stage.Copying asked) in Ties t s r → HasOwn t s r (b ∷ [])
       → (Ties t u q × Starved (opening_of t) s u told.Quiet) → KeepsCopies r q → HasStopped t s u q bs
   take_starved keep law t s u p q asked b bs hand ties has done leaves =
@@ -162,8 +162,8 @@ module _ {V : Type 0} where
   at_idle : (p : TxActor V) → p.stage ≡ stage.Idle → p ≡ at p stage.Idle
   at_idle p e i = at p (e i)
 
-  pub put_copied : CopyLaws V → CopiesStayOwn V → (t : TxTable V) (m : Seat V) (u : TxActor V) (p : Taken V) (h : HasPut t m u p)
-      (q : TxActor V) (n : Told V) → let r = at h.actor (stage.Copying p.asked) in
+  pub put_copied : CopyLaws V → CopiesStayOwn V → (t : TxTable V) (m : Seat V) (u : TxActor V) (p : KeyedCall V) (h : HasPut t m u p)
+      (q : TxActor V) (n : ActorNotice V) → let r = at h.actor (stage.Copying p.asked) in
       StepsOn (laid_in t) r q n h.base p.asked × HasTaken (laid_in t) h.actor q n h.base p.asked
       → (HasNoReads h.actor.words → KeepsIn (laid_in t) r q) → HasDriven t h.seat m q n []
   put_copied laws stay t m u p h q n does keeps =
@@ -176,7 +176,7 @@ module _ {V : Type 0} where
       record { ties = g.0; own = g.2; leads = turn_leads t h.seat m r n h.ties g.1 refl }
 
   -- an allocation fails after it
-  pub put_behind : CopyLaws V → (t : TxTable V) (m z : Seat V) (u q : TxActor V) (p : Taken V) (h : HasPut t m u p)
+  pub put_behind : CopyLaws V → (t : TxTable V) (m z : Seat V) (u q : TxActor V) (p : KeyedCall V) (h : HasPut t m u p)
       → HasHeardOf m (Starve 0) z → let r = at h.actor (stage.Copying p.asked) in
       StarvesBehind (laid_in t) r q h.base p.asked → AsksNothing q → KeepsIn (laid_in t) r q → HasStopped t h.seat z q []
   put_behind laws t m z u q p h has does nothing keeps =
@@ -187,7 +187,7 @@ module _ {V : Type 0} where
       record { ties = g.0; own = g.2; wants = λ f was. stops_at t f h.seat z r told.Quiet None h.ties was tt g.1 }
 
   -- ---- the location was read
-  pub accept_at : (r : TxActor V) (s : own.Stage V) (o : Answered V) → CanAccept (at r s) o → CanAccept r o
+  pub accept_at : (r : TxActor V) (s : own.Stage V) (o : CallWithOutcome V) → CanAccept (at r s) o → CanAccept r o
   accept_at r s o p = record {
     writes = p.writes;
     calls = p.calls;
@@ -199,10 +199,10 @@ module _ {V : Type 0} where
   }
 
   -- the actor after the step that read it
-  abbrev read_by : TxActor V → Answered V → VecDeque (ℕ × ℕ) Global → Actor → TxActor V
+  abbrev read_by : TxActor V → CallWithOutcome V → VecDeque (ℕ × ℕ) Global → Actor → TxActor V
   read_by p call left y = at (record p { words = y }) (stage.Loading call left)
 
-  module _ (laws : LoadLaws V) (t : TxTable V) (s u : Seat V) (p : TxActor V) (call : Answered V) (left : VecDeque (ℕ × ℕ) Global)
+  module _ (laws : LoadLaws V) (t : TxTable V) (s u : Seat V) (p : TxActor V) (call : CallWithOutcome V) (left : VecDeque (ℕ × ℕ) Global)
       (l k v found : ℕ) (y : Actor) (x : Option WordAnswer)
       (ties : Ties t s (at_place (at p (stage.Loading call left)) (Again l k v))) (step : Stepped (opening_of t) s found u)
       (is : words.actor_of y ≡ machine.seen_again (words.actor_of (record p.words { place = Again l k v })) l k v (unbits found))
@@ -225,7 +225,7 @@ module _ {V : Type 0} where
         accept_at (record p { words = y }) (stage.Loading call left) call
         (subst (λ (m : notice.Notice). IsLoadable z z.stage m) number hears.0)
 
-    pub found_last : (q : TxActor V) (n : Told V) → AreSmall (blocks_in t) → HasOwn t s r [] → IsToldLoad z q n (notice.Number v)
+    pub found_last : (q : TxActor V) (n : ActorNotice V) → AreSmall (blocks_in t) → HasOwn t s r [] → IsToldLoad z q n (notice.Number v)
         → KeepsHeard (laid_in t) z q (notice.Number v) → HasFound z q n call left.items v → HasLed t s u q n []
     found_last q n small has heard keeps goes =
         loading_last laws t s u r q y (Ok x) n [] refl small ties has
@@ -235,28 +235,28 @@ module _ {V : Type 0} where
         (subst (λ (m : notice.Notice). HasLoaded z q n z.stage m) (sym number) goes)
 
   -- ---- what the actor made of its call, at its table's blocks
-  pub key_copied : CopyLaws V → CopiesStayOwn V → (t : TxTable V) (m : Seat V) (u : TxActor V) (p : Taken V) (v : BlocksView)
-      → v ≡ laid_in t → (q : TxActor V) (said : Told V) (o w : Option (Waiting V)) → o ≡ w
+  pub key_copied : CopyLaws V → CopiesStayOwn V → (t : TxTable V) (m : Seat V) (u : TxActor V) (p : KeyedCall V) (v : BlocksView)
+      → v ≡ laid_in t → (q : TxActor V) (said : ActorNotice V) (o w : Option (WaitingCall V)) → o ≡ w
       → GoesOn v u p (waiting_at o q) (told_at o said) → KeepsOn v u p (waiting_at o q) → (h : HasPut t m u p)
       → HasDriven t h.seat m (waiting_at w q) (told_at w said) []
   key_copied laws stay t m u p v laid q said o w e does keeps h =
-      let d = subst (λ (z : BlocksView × Option (Waiting V)). GoesOn z.0 u p (waiting_at z.1 q) (told_at z.1 said)) (λ i. (laid i, e i))
+      let d = subst (λ (z : BlocksView × Option (WaitingCall V)). GoesOn z.0 u p (waiting_at z.1 q) (told_at z.1 said)) (λ i. (laid i, e i))
       does in
-      let k = subst (λ (z : BlocksView × Option (Waiting V)). KeepsOn z.0 u p (waiting_at z.1 q)) (λ i. (laid i, e i)) keeps in
+      let k = subst (λ (z : BlocksView × Option (WaitingCall V)). KeepsOn z.0 u p (waiting_at z.1 q)) (λ i. (laid i, e i)) keeps in
       put_copied laws stay t m u p h (waiting_at w q) (told_at w said) (d h.actor h.base h.can h.taken) (k h.actor h.base h.can h.taken)
 
-  abbrev BoundsOn : BlocksView → TxActor V → Taken V → TxActor V → Type 0
+  abbrev BoundsOn : BlocksView → TxActor V → KeyedCall V → TxActor V → Type 0
   BoundsOn v u p q =
       (r : TxActor V) (base : Base V) → CanCopy v r base p.asked → IsTakenCall v r u base p → KeepsIn v (at r (stage.Copying p.asked)) q
 
-  pub key_behind : CopyLaws V → (t : TxTable V) (m z : Seat V) (u : TxActor V) (p : Taken V) (v : BlocksView) → v ≡ laid_in t
+  pub key_behind : CopyLaws V → (t : TxTable V) (m z : Seat V) (u : TxActor V) (p : KeyedCall V) (v : BlocksView) → v ≡ laid_in t
       → (q : TxActor V) → HasHeardOf m (Starve 0) z → StarvesOn v u p q → BoundsOn v u p q → AsksNothing q → (h : HasPut t m u p)
       → HasStopped t h.seat z q []
   key_behind laws t m z u p v laid q has does bounds nothing h =
       put_behind laws t m z u q p h has (subst (λ (b : BlocksView). StarvesOn b u p q) laid does h.actor h.base h.can h.taken) nothing
       (subst (λ (b : BlocksView). BoundsOn b u p q) laid bounds h.actor h.base h.can h.taken)
 
-  pub key_put : (t : TxTable V) (s m : Seat V) (r u : TxActor V) (asked : Asked V) (b d : Base V) (p : Taken V) (v : BlocksView)
+  pub key_put : (t : TxTable V) (s m : Seat V) (r u : TxActor V) (asked : CollectionCall V) (b d : Base V) (p : KeyedCall V) (v : BlocksView)
       → v ≡ laid_in t → d ≡ b → r.stage ≡ stage.Idle → Ties t s (at r (stage.Copying asked))
       → HasOwn t s (at r (stage.Copying asked)) (b ∷ []) → Takes (opening_of t) s (view s).clock 1 None (rest (out s)) m
       → CanCopy (laid_in t) r b asked → AreTakenFor v r u d asked (Some p) → HasPut t m u p
@@ -265,10 +265,10 @@ module _ {V : Type 0} where
     actor = r;
     base = b;
     idle = idle;
-    ties = subst (λ (a : Asked V). Ties t s (at r (stage.Copying a))) (sym taken.0) ties;
-    own = subst (λ (a : Asked V). HasOwn t s (at r (stage.Copying a)) (b ∷ [])) (sym taken.0) has;
+    ties = subst (λ (a : CollectionCall V). Ties t s (at r (stage.Copying a))) (sym taken.0) ties;
+    own = subst (λ (a : CollectionCall V). HasOwn t s (at r (stage.Copying a)) (b ∷ [])) (sym taken.0) has;
     takes = takes;
-    can = subst (λ (a : Asked V). CanCopy (laid_in t) r b a) (sym taken.0) can;
+    can = subst (λ (a : CollectionCall V). CanCopy (laid_in t) r b a) (sym taken.0) can;
     taken = subst (λ (z : BlocksView × Base V). IsTakenCall z.0 r u z.1 p) (λ i. (laid i, same i)) taken.1;
   }
 
@@ -277,7 +277,7 @@ module _ {V : Type 0} where
   in_hand bs cs b more none = sym (more ∙ ap (λ (ds : List (Base V)). ds ++ b ∷ []) none)
 
   -- what holds of the seat that put the gate back so, holds of s
-  pub put_then : (t : TxTable V) (s m : Seat V) (r u : TxActor V) (asked : Asked V) (b d : Base V) (p : Taken V) (v : BlocksView)
+  pub put_then : (t : TxTable V) (s m : Seat V) (r u : TxActor V) (asked : CollectionCall V) (b d : Base V) (p : KeyedCall V) (v : BlocksView)
       → v ≡ laid_in t → d ≡ b → r.stage ≡ stage.Idle → Ties t s (at r (stage.Copying asked))
       → HasOwn t s (at r (stage.Copying asked)) (b ∷ []) → Takes (opening_of t) s (view s).clock 1 None (rest (out s)) m
       → CanCopy (laid_in t) r b asked → AreTakenFor v r u d asked (Some p) → (P : Seat V → Type 0)

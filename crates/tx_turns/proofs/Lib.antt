@@ -1,10 +1,10 @@
-pub mod DueLemmas
+pub mod NextStepLemmas
 pub mod OwnLemmas
-pub mod TurnDueLemmas
+pub mod TurnStepLemmas
 pub mod FoundLemmas
 pub mod TurnLemmas
 pub mod FirstLemmas
-pub mod AskedLemmas
+pub mod LoneRequestLemmas
 pub mod BasesLemmas
 pub mod ThereLemmas
 pub mod WordLemmas
@@ -13,9 +13,9 @@ pub mod CopyLemmas
 pub mod EventLemmas
 pub mod AskLemmas
 pub mod HomeLemmas
-pub mod RequestedLemmas
+pub mod RequestHistoryLemmas
 pub mod WritingLemmas
-pub mod KeptLemmas
+pub mod SnapshotLemmas
 pub mod StampLemmas
 pub mod DeclaredLemmas
 pub mod NextLemmas

@@ -31,22 +31,22 @@ use Rattle.step_core.specs.declared.answer.WordRefusal.TheVariants as refusal
 use Rattle.actor_parts.specs.Dispatch.{AreSteps, is_loading, next_of, notice_told}
 use Rattle.actor_parts.specs.declared.next.Next.TheVariants as next
 use Rattle.tx_actor.specs.Dispatch.{HasRoom, IsToldWord, waits_at}
-use Rattle.tx_actor.specs.Having.{KeepsCopies}
-use Rattle.tx_actor.specs.Keeping.{IsRunning}
+use Rattle.tx_actor.specs.CopiesByStage.{KeepsCopies}
+use Rattle.tx_actor.specs.ActorBounds.{IsRunning}
 use Rattle.tx_actor.specs.Running.{stage_of}
 use Rattle.tx_actor.specs.declared.actor.Stage as own
 use Rattle.tx_actor.specs.declared.actor.Stage.TheVariants as stage
-use Rattle.tx_actor.specs.declared.actor.Told.{Told}
-use Rattle.tx_actor.specs.declared.actor.Told.TheVariants as told
+use Rattle.tx_actor.specs.declared.actor.ActorNotice.{ActorNotice}
+use Rattle.tx_actor.specs.declared.actor.ActorNotice.TheVariants as told
 use Rattle.tx_actor.specs.declared.actor.TxActor.{TxActor}
 use Rattle.tx_actor.proofs.StepLemmas.{running_moved}
 use Rattle.tx_table.specs.declared.seat.Seat.{Seat}
 use Rattle.tx_table.specs.declared.table.TxTable.{TxTable}
 use Rattle.tx_table.specs.Seated.{Adds, Exchanges, Loads, Stepped, Takes, acts, actor, blocks_in, opening_of, out, view}
 use Rattle.tx_table.specs.Shown.{highest_clock}
-use Rattle.tx_turns.proofs.DueLemmas.{learns_lock, learns_lost, learns_stamp, learns_taken, lock_is, stamp_is}
+use Rattle.tx_turns.proofs.NextStepLemmas.{learns_lock, learns_lost, learns_stamp, learns_taken, lock_is, stamp_is}
 use Rattle.tx_turns.specs.Touches.{StepsWords}
-use Rattle.tx_turns.specs.declared.due.Due.TheVariants as due
+use Rattle.tx_turns.specs.declared.due.NextStep.TheVariants as due
 use Rattle.tx_turns.proofs.TurnLemmas.{word_is_next}
 use Rattle.tx_turns.specs.Ties.{Ties, laid_in}
 use Rattle.tx_turns.specs.Laws.{WordsKeep}
@@ -76,7 +76,7 @@ module _ {V : Type 0} where
 
   -- any step of it of which the actor hears
   pub locking_heard : AreSteps V → WordsKeep V → (t : TxTable V) (s u : Seat V) (r q : TxActor V) (y : Actor)
-      (m : Result (Option WordAnswer) WordRefusal) (n : Told V) (bs : List (Base V)) → is_locking r.stage ≡ true → AreSmall (blocks_in t)
+      (m : Result (Option WordAnswer) WordRefusal) (n : ActorNotice V) (bs : List (Base V)) → is_locking r.stage ≡ true → AreSmall (blocks_in t)
       → Ties t s r → HasOwn t s r bs → StepsWords (opening_of t) s r.words u y m → ((j : ℕ) → Fits j r.words → Fits j y)
       → IsToldWord (record r { words = y }) q n (notice_told m)
       → (IsRunning (laid_in t) (record r { words = y }) → IsRunning (laid_in t) q) → KeepsCopies r q → HasLed t s u q n bs
@@ -165,7 +165,7 @@ module _ {V : Type 0} where
       (take_keeps x y l k i refl refl refl items len room refl refl refl).fits
 
   -- or it has changed
-  pub take_lost : AreSteps V → WordsKeep V → (t : TxTable V) (s u : Seat V) (r q : TxActor V) (n : Told V) (l k i found : ℕ)
+  pub take_lost : AreSteps V → WordsKeep V → (t : TxTable V) (s u : Seat V) (r q : TxActor V) (n : ActorNotice V) (l k i found : ℕ)
       (bs : List (Base V)) → is_locking r.stage ≡ true → AreSmall (blocks_in t) → Ties t s (at_place r (Take l k i))
       → HasOwn t s (at_place r (Take l k i)) bs → (found ≡ 2 * k → ⊥) → Stepped (opening_of t) s found u
       → IsToldWord (at_place r Broken) q n (notice_told (Err (refusal.Busy l found)))
@@ -203,7 +203,7 @@ module _ {V : Type 0} where
       (h.spot, h.becomes)
 
   pub stamp_heard : AreSteps V → WordsKeep V → (t : TxTable V) (s u : Seat V) (r q : TxActor V) (y : Actor)
-      (m : Result (Option WordAnswer) WordRefusal) (n : Told V) (i clock : ℕ) (bs : List (Base V)) → is_locking r.stage ≡ true
+      (m : Result (Option WordAnswer) WordRefusal) (n : ActorNotice V) (i clock : ℕ) (bs : List (Base V)) → is_locking r.stage ≡ true
       → length r.words.writes.entries ≤ i → AreSmall (blocks_in t) → Ties t s (at_place r (Lock i)) → HasOwn t s (at_place r (Lock i)) bs
       → (view s).clock ≤ clock → clock ≤ highest_clock → Takes (opening_of t) s (clock + 1) clock None (out s) u
       → let a = words.actor_of (record r.words { place = Lock i }) in

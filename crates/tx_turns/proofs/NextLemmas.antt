@@ -26,7 +26,7 @@ use Rattle.tx_table.specs.declared.table.TxTable.{TxTable}
 use Rattle.tx_table.specs.Seated.{acts, opening_of}
 use Rattle.tx_table.specs.Seated as seated
 use Rattle.actor_laws.specs.Courses.{IsUnderWay, IsUnderWayFrom}
-use Rattle.actor_laws.specs.Phases.{Phase, Rests, Begins, Stands, Calls, Commits, Committed, Ends, phase, phase_at}
+use Rattle.actor_laws.specs.KnownStages.{KnownStage, Rests, Begins, Stands, Calls, Commits, Committed, Ends, known_stage, known_stage_at}
 use Rattle.tx_turns.proofs.OwnLemmas.{own_ok}
 use Rattle.tx_turns.specs.Ties.{Ties, commits_at}
 use Rattle.tx_turns.specs.Driven.{MayWant, WantsMemory, seat_in}
@@ -48,13 +48,13 @@ module _ {V : Type 0} where
   due_next n bs x y z st p ok busy e = let z : ⊥ = cc in z
 
   -- a request under way is not idle
-  busy : (p : Phase V) (calls : List (Call V × Reply V)) (st : Stage V) → phase_at calls st ≡ p → (p ≡ Rests → ⊥)
+  busy : (p : KnownStage V) (calls : List (Call V × Reply V)) (st : Stage V) → known_stage_at calls st ≡ p → (p ≡ Rests → ⊥)
       → ((cs : List (Call V × Reply V)) → p ≡ Stands cs → ⊥) → IsAtRest st → ⊥
   busy p calls worlds.Idle e rests stands at = rests (sym e)
   busy p calls worlds.Open e rests stands at = stands calls (sym e)
   busy p calls st e rests stands at = at
 
-  under_busy : (s x : Seat V) (d : Option (Record V)) (p : Phase V) → IsUnderWayFrom s p x d → IsAtRest x.stage → ⊥
+  under_busy : (s x : Seat V) (d : Option (Record V)) (p : KnownStage V) → IsUnderWayFrom s p x d → IsAtRest x.stage → ⊥
   under_busy s x d Begins h = busy Begins x.calls x.stage h.0 (λ e. cc) (λ cs e. cc)
   under_busy s x d (Calls calls call) (inl same, none) = busy (Calls calls call) x.calls x.stage same (λ e. cc) (λ cs e. cc)
   under_busy s x d (Calls calls call) (inr up, none) = busy Ends x.calls x.stage up.0 (λ e. cc) (λ cs e. cc)
@@ -72,16 +72,16 @@ module _ {V : Type 0} where
       let a = seated.actor s in
       let w = acts (opening_of t) s in
       due_next _ _ _ _ _ (w.seats a).stage _ (own_ok t.whole.shared.key a w ties.reached)
-      (under_busy from (w.seats a) d (phase from) under) (next_as w a r ties.runs ∙ none)
+      (under_busy from (w.seats a) d (known_stage from) under) (next_as w a r ties.runs ∙ none)
 
   -- ---- a turn that takes memory
   -- of a call, or of a commit without a record
-  abbrev pub IsHalfway : Phase V → Type 0
+  abbrev pub IsHalfway : KnownStage V → Type 0
   IsHalfway (Calls calls call) = Unit {0}
   IsHalfway (Commits calls) = Unit {0}
   IsHalfway p = ⊥
 
-  pub wants_halfway : (calls : List (Call V × Reply V)) (st : Stage V) → MayWant st → IsHalfway (phase_at calls st)
+  pub wants_halfway : (calls : List (Call V × Reply V)) (st : Stage V) → MayWant st → IsHalfway (known_stage_at calls st)
   wants_halfway calls (worlds.Trying asked tries) h = tt
   wants_halfway calls (worlds.Copying asked) h = tt
   wants_halfway calls (worlds.Loading o left) h = tt

@@ -12,7 +12,7 @@ use Rattle.tx_machine.specs.World as words
 use Rattle.tx_machine.specs.World.{Rests, plan, first_store, release, undo}
 use Rattle.tx_machine.specs.Notices.{NoTransaction, last_notice, notice, Stored, Released, Cancelled}
 use Rattle.tx_machine.proofs.Invariant.{IsSomeEntry, PlaceOk}
-use Rattle.replay_log.specs.Contents.{Asked, Block}
+use Rattle.replay_log.specs.Contents.{CollectionCall, Block}
 use Rattle.replay_log.specs.Guards.{IsAllowed, step_action}
 use Rattle.replay_log.specs.Seats as seats
 use Rattle.replay_log.specs.Seats.{World, Seat, Stage, actor_of, moves}
@@ -112,7 +112,7 @@ module _ {V : Type 0} where
         let action : step_action there a (there.seats a).stage ≡ Some (moves a) =
         word_action there a (there.seats a).stage (ap next_of st ∙ due) in
         let may : notice there.boosted.words (actor_of there a) (actor_of there a).place ≡ NoTransaction → ⊥ =
-        subst (λ (o : Option (Action (Asked V))). IsAllowed there (there.seats a).stage o) action
+        subst (λ (o : Option (Action (CollectionCall V))). IsAllowed there (there.seats a).stage o) action
         (world_allows (blocks_at key) key.shape.value.clock key.state.value.words key.state.value.held h.events a h.stripes) in
         may (rests_told there.boosted.words (actor_of there a) (actor_of there a).place
         (ap (λ (y : Actor). plan y y.place) own_actor ∙ e))

@@ -9,13 +9,13 @@ use Rattle.replay_log.specs.Seats.{World, After, Seat}
 use Rattle.actor_parts.specs.Blocks.{BlocksView}
 use Rattle.actor_parts.specs.Dispatch.{after_word}
 use Rattle.tx_actor.specs.Dispatch.{HasRoom, IsToldWord, waits_at}
-use Rattle.tx_actor.specs.Having.{HasLoaded}
-use Rattle.tx_actor.specs.Keeping.{HasHeard, HeardAt, IsCallAt, IsRunning, NamesAmong}
-use Rattle.tx_actor.specs.Loads.{IsToldLoad, after_load}
+use Rattle.tx_actor.specs.CopiesByStage.{HasLoaded}
+use Rattle.tx_actor.specs.ActorBounds.{HasHeard, HeardAt, IsCallAt, IsRunning, NamesAmong}
+use Rattle.tx_actor.specs.LoadStep.{IsToldLoad, after_load}
 use Rattle.tx_actor.specs.Running.{Runs, notice_of, outcome_in, seat_at, seat_of, stage_in, stage_of, with_outcome}
 use Rattle.tx_actor.specs.declared.actor.Stage.{Stage}
 use Rattle.tx_actor.specs.declared.actor.Stage.TheVariants as stage
-use Rattle.tx_actor.specs.declared.actor.Told.TheVariants as told
+use Rattle.tx_actor.specs.declared.actor.ActorNotice.TheVariants as told
 use Rattle.tx_actor.specs.declared.actor.TxActor.{TxActor}
 
 module _ {V : Type 0} where
@@ -36,7 +36,7 @@ module _ {V : Type 0} where
       (λ a w may runs. nothing_comes r a w _ (waits_on w a (seat_at (w.seats a) r) r.stage waits) runs)
 
   -- ---- while the locations of a call are read
-  load_told : (w : World V) (a : ℕ) (x : Seat V) (o : contents.Answered V) (es : Entries)
+  load_told : (w : World V) (a : ℕ) (x : Seat V) (o : contents.CallWithOutcome V) (es : Entries)
       → after_load w a x (worlds.Loading o es) notice.Quiet ≡ (w, Quiet)
   load_told w a x o [] = refl
   load_told w a x o (d ∷ es) = refl

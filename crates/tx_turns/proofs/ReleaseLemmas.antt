@@ -23,23 +23,23 @@ use Rattle.step_core.specs.declared.answer.WordAnswer.{WordAnswer}
 use Rattle.step_core.specs.declared.answer.WordRefusal.{WordRefusal}
 use Rattle.actor_parts.specs.Dispatch.{AreSteps, after_word, is_loading, next_of, notice_told}
 use Rattle.actor_parts.specs.declared.next.Next.TheVariants as next
-use Rattle.tx_actor.proofs.HavingLemmas.{copies_idle}
+use Rattle.tx_actor.proofs.CopiesByStageLemmas.{copies_idle}
 use Rattle.tx_actor.specs.Dispatch.{IsToldWord, waits_at}
-use Rattle.tx_actor.specs.Having.{KeepsCopies}
-use Rattle.tx_actor.specs.Keeping.{IsRunning}
+use Rattle.tx_actor.specs.CopiesByStage.{KeepsCopies}
+use Rattle.tx_actor.specs.ActorBounds.{IsRunning}
 use Rattle.tx_actor.specs.Running.{Reseats, Runs, at, notice_of, seat_at, seat_of, stage_of}
 use Rattle.tx_actor.specs.declared.actor.Stage as own
 use Rattle.tx_actor.specs.declared.actor.Stage.TheVariants as stage
-use Rattle.tx_actor.specs.declared.actor.Told.{Told}
-use Rattle.tx_actor.specs.declared.actor.Told.TheVariants as told
+use Rattle.tx_actor.specs.declared.actor.ActorNotice.{ActorNotice}
+use Rattle.tx_actor.specs.declared.actor.ActorNotice.TheVariants as told
 use Rattle.tx_actor.specs.declared.actor.TxActor.{TxActor}
 use Rattle.tx_actor.proofs.StepLemmas.{running_moved}
 use Rattle.tx_table.specs.declared.seat.Seat.{Seat}
 use Rattle.tx_table.specs.declared.table.TxTable.{TxTable}
 use Rattle.tx_table.specs.Seated.{Stores, StepsBlind, acts, actor, blocks_in, opening_of, view}
-use Rattle.tx_turns.proofs.DueLemmas.{at_place, learns_release, release_is}
+use Rattle.tx_turns.proofs.NextStepLemmas.{at_place, learns_release, release_is}
 use Rattle.tx_turns.specs.Touches.{StepsWords}
-use Rattle.tx_turns.specs.declared.due.Due.TheVariants as due
+use Rattle.tx_turns.specs.declared.due.NextStep.TheVariants as due
 use Rattle.tx_turns.proofs.TurnLemmas.{word_is_next}
 use Rattle.tx_turns.specs.Ties.{Ties, laid_in}
 use Rattle.tx_turns.specs.Laws.{WordsKeep}
@@ -91,12 +91,12 @@ module _ {V : Type 0} where
       (release_steps (opening_of t) s u r.words y e None step place (omega (arith, more)) is frees (told_more r.words more)) fits
 
   -- the last: the transaction has committed
-  told_at : (p q : TxActor V) (n : Told V) (s : own.Stage V) → s ≡ stage.Releasing
+  told_at : (p q : TxActor V) (n : ActorNotice V) (s : own.Stage V) → s ≡ stage.Releasing
       → Reseats p q n (λ a w. has_released w a (seat_of p) notice.Released) → IsToldWord (at p s) q n notice.Released
   told_at p q n s e does =
       subst (λ (k : own.Stage V). IsToldWord (at p k) q n notice.Released) (sym e) (λ a w may runs. does a w runs.1)
 
-  told_by : (p q : TxActor V) (n : Told V) (a : Option WordAnswer) → Ok a ≡ result_of notice.Released
+  told_by : (p q : TxActor V) (n : ActorNotice V) (a : Option WordAnswer) → Ok a ≡ result_of notice.Released
       → IsToldWord p q n notice.Released → IsToldWord p q n (notice_told (Ok a))
   told_by p q n a e h =
       subst (λ (m : Result (Option WordAnswer) WordRefusal). IsToldWord p q n (notice_told m)) (sym e) h
@@ -105,7 +105,7 @@ module _ {V : Type 0} where
   running_idle t p h = record { fits = h.fits; room = tt; names = tt; call = tt }
 
   pub release_heard : AreSteps V → WordsKeep V → (t : TxTable V) (s u : Seat V) (r q : TxActor V) (y : Actor) (a : Option WordAnswer)
-      (n : Told V) (e : ℕ × ℕ) (bs : List (Base V)) → r.stage ≡ stage.Releasing → r.words.place ≡ Release
+      (n : ActorNotice V) (e : ℕ × ℕ) (bs : List (Base V)) → r.stage ≡ stage.Releasing → r.words.place ≡ Release
       → length r.words.held.items ≡ 1 → e ≡ get_or r.words.held.items 0 e → AreSmall (blocks_in t) → Ties t s r → HasOwn t s r bs
       → StepsBlind (opening_of t) s u
       → words.actor_of y ≡ freed (words.actor_of r.words) (drop 1 r.words.held.items) (after_release (drop 1 r.words.held.items))

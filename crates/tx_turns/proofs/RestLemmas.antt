@@ -20,12 +20,12 @@ use Rattle.replay_log.specs.Seats.{World, Seat, Stage}
 use Rattle.replay_log.specs.Worlds.{happens}
 use Rattle.actor_laws.proofs.OneStep.{one_step}
 use Rattle.tx_actor.proofs.GatesLemmas.{gates_as, none_has}
-use Rattle.tx_actor.specs.Having.{HasCopiesAt}
+use Rattle.tx_actor.specs.CopiesByStage.{HasCopiesAt}
 use Rattle.tx_actor.specs.Running.{notice_of}
 use Rattle.tx_actor.specs.declared.actor.Stage as own
 use Rattle.tx_actor.specs.declared.actor.Stage.TheVariants as stage
-use Rattle.tx_actor.specs.declared.actor.Told.{Told}
-use Rattle.tx_actor.specs.declared.actor.Told.TheVariants as told
+use Rattle.tx_actor.specs.declared.actor.ActorNotice.{ActorNotice}
+use Rattle.tx_actor.specs.declared.actor.ActorNotice.TheVariants as told
 use Rattle.tx_actor.specs.declared.actor.TxActor.{TxActor}
 use Rattle.tx_table.specs.declared.seat.Seat as table
 use Rattle.tx_table.specs.declared.table.TxTable.{TxTable}
@@ -33,10 +33,10 @@ use Rattle.tx_table.specs.Seated.{acts, opening_of, out}
 use Rattle.tx_table.specs.Seated as seated
 use Rattle.tx_table.specs.Turns as turns
 use Rattle.actor_laws.specs.Courses.{ComesTo, EndsFrom}
-use Rattle.actor_laws.specs.Phases.{Phase, Rests, Begins, Stands, Calls, Commits, Ends, phase, phase_at}
+use Rattle.actor_laws.specs.KnownStages.{KnownStage, Rests, Begins, Stands, Calls, Commits, Ends, known_stage, known_stage_at}
 use Rattle.tx_turns.proofs.OwnLemmas.{own_gates}
-use Rattle.tx_turns.proofs.AskedLemmas.{acts_taken}
-use Rattle.tx_turns.specs.Asked.{HasTaken}
+use Rattle.tx_turns.proofs.LoneRequestLemmas.{acts_taken}
+use Rattle.tx_turns.specs.RequestStep.{HasTaken}
 use Rattle.tx_turns.specs.Ties.{Ties}
 use Rattle.tx_turns.proofs.BasesLemmas.{are_none, gates_is, prepared_none}
 use Rattle.tx_turns.specs.Bases.{AreBases, gates_at, slots_of}
@@ -45,32 +45,32 @@ use Rattle.tx_turns.specs.Driven.{Driven, seat_in, standing}
 
 module _ {V : Type 0} where
   -- there is no transaction, or it is open
-  abbrev pub IsCalm : Phase V → Type 0
+  abbrev pub IsCalm : KnownStage V → Type 0
   IsCalm Rests = Unit {0}
   IsCalm (Stands calls) = Unit {0}
   IsCalm p = ⊥
 
-  calm_left : (calls : List (Call V × Reply V)) (p : Phase V) (A : Type 0) → ((p ≡ Stands calls) × A) ⊎ (p ≡ Rests) → IsCalm p
+  calm_left : (calls : List (Call V × Reply V)) (p : KnownStage V) (A : Type 0) → ((p ≡ Stands calls) × A) ⊎ (p ≡ Rests) → IsCalm p
   calm_left calls p A (inl stays) = subst IsCalm (sym stays.0) tt
   calm_left calls p A (inr rests) = subst IsCalm (sym rests) tt
 
-  calm_ends : (a : ℕ) (s x : Seat V) (p : Phase V) (n : Notice V) (d : Option (Record V)) → EndsFrom a s p n x d → IsCalm (phase x)
+  calm_ends : (a : ℕ) (s x : Seat V) (p : KnownStage V) (n : Notice V) (d : Option (Record V)) → EndsFrom a s p n x d → IsCalm (known_stage x)
   calm_ends a s x Begins (Answered b (answer.Begun rv)) d h = subst IsCalm (sym h.0) tt
   calm_ends a s x Begins (Refused b cause) d h = subst IsCalm (sym h.0) tt
   calm_ends a s x (Calls calls call) (Answered b (answer.Replied r)) d h = subst IsCalm (sym h.0) tt
-  calm_ends a s x (Calls calls call) (Refused b cause) d h = calm_left calls (phase x) _ h.0
+  calm_ends a s x (Calls calls call) (Refused b cause) d h = calm_left calls (known_stage x) _ h.0
   calm_ends a s x (Commits calls) (Answered b (answer.Committed n)) d h = subst IsCalm (sym h.0) tt
   calm_ends a s x (Commits calls) (Refused b cause) d h = subst IsCalm (sym h.0) tt
   calm_ends a s x Ends n d h = subst IsCalm (sym h.0) tt
   calm_ends a s x p n d h = absurd h
 
-  calm_comes : (a : ℕ) (s x : Seat V) (n : Told V) (d : Option (Record V)) → n ≢ told.Quiet → ComesTo a s (notice_of a n) x d
-      → IsCalm (phase x)
+  calm_comes : (a : ℕ) (s x : Seat V) (n : ActorNotice V) (d : Option (Record V)) → n ≢ told.Quiet → ComesTo a s (notice_of a n) x d
+      → IsCalm (known_stage x)
   calm_comes a s x told.Quiet d ne h = absurd (ne refl)
-  calm_comes a s x (told.Answered q) d ne h = calm_ends a s x (phase s) (Answered a q) d h
-  calm_comes a s x (told.Refused cause) d ne h = calm_ends a s x (phase s) (Refused a cause) d h
+  calm_comes a s x (told.Answered q) d ne h = calm_ends a s x (known_stage s) (Answered a q) d h
+  calm_comes a s x (told.Refused cause) d ne h = calm_ends a s x (known_stage s) (Refused a cause) d h
 
-  calm_gates : (calls : List (Call V × Reply V)) (st : Stage V) → IsCalm (phase_at calls st) → gates_of st ≡ []
+  calm_gates : (calls : List (Call V × Reply V)) (st : Stage V) → IsCalm (known_stage_at calls st) → gates_of st ≡ []
   calm_gates calls worlds.Idle h = refl
   calm_gates calls worlds.Open h = refl
   calm_gates calls st h = absurd h
@@ -91,7 +91,7 @@ module _ {V : Type 0} where
   bare_own t s r bs none own =
       subst (HasOwn t s r) (are_none (opening_of t) (acts (opening_of t) s) (gates_at r.stage) bs none own.bases) own
 
-  pub answered_own : (t : TxTable V) (s u : table.Seat V) (q : TxActor V) (bs : List (Base V)) (n : Told V) (d : Option (Record V))
+  pub answered_own : (t : TxTable V) (s u : table.Seat V) (q : TxActor V) (bs : List (Base V)) (n : ActorNotice V) (d : Option (Record V))
       → n ≢ told.Quiet → Driven (opening_of t) s u n d → Ties t u q → HasOwn t u q bs → HasOwn t u q []
   answered_own t s u q bs n d ne D ties own =
       bare_own t u q bs

@@ -8,7 +8,7 @@ use Rattle.replay_log.specs.Worlds.{happens}
 use Rattle.replay_log.specs.WorldRefusals.{IsCause}
 use Rattle.actor_laws.specs.Own.{Alike}
 use Rattle.tx_actor.specs.Running.{notice_of}
-use Rattle.tx_actor.specs.declared.actor.Told.{Told}
+use Rattle.tx_actor.specs.declared.actor.ActorNotice.{ActorNotice}
 use Rattle.tx_table.specs.declared.seat.Seat as table
 use Rattle.tx_table.specs.declared.view.Turn.{Turn}
 use Rattle.tx_table.specs.Seated.{view}
@@ -42,7 +42,7 @@ module _ {V : Type 0} (o : World V) (s m : table.Seat V) (same : seated.actor m 
     subst (λ (k : ℕ). IsCause h.0 k (h.0.seats k).stage (happens h.0 (Step k)).0 cause) same h.2,
   )
 
-  pub told_back : (u : table.Seat V) (n : Told V) → HasTold o m u n → HasTold o s u n
+  pub told_back : (u : table.Seat V) (n : ActorNotice V) → HasTold o m u n → HasTold o s u n
   told_back u n h = (
     h.0,
     turn_back u h.0 h.1,

@@ -33,23 +33,23 @@ use Rattle.replay_log.proofs.EventLemmas.{opened_linked, run_linked}
 use Rattle.replay_log.proofs.SeatLemmas.{AtLocking, StageOk}
 use Rattle.replay_log.specs.declared.base.Base.{Base}
 use Rattle.replay_log.specs.Base.{Shown}
-use Rattle.replay_log.specs.Contents.{Answered as Outcomes}
+use Rattle.replay_log.specs.Contents.{CallWithOutcome as Outcomes}
 use Rattle.replay_log.specs.Worlds.{World, Seat, Stage, Beginning, Locking, Gating, Ready, Closing, Cancelling, Leaving, Returning, After}
 use Rattle.replay_log.specs.Worlds.{acted, actor_of, asks, at_stage, because, gives_up, happens, has_begun, has_locked, has_tried}
 use Rattle.replay_log.specs.Worlds.{is_leaving}
 use Rattle.replay_log.specs.Worlds.{moves, run, step_at, takes_gates, word_notice}
 use Rattle.replay_log.specs.WorldTraces.{committed_by}
 use Rattle.actor_laws.proofs.Alone.{same_actors}
-use Rattle.actor_laws.specs.Spots.{Spot, Nowhere, Word, Gate, deed_of, spot_at, spot_of}
+use Rattle.actor_laws.specs.StepTargets.{Spot, Nowhere, Word, Gate, deed_of, spot_at, spot_of}
 use Rattle.actor_laws.specs.Steps.{ready_at}
-use Rattle.actor_laws.specs.Tells.{tells}
+use Rattle.actor_laws.specs.StepAnswers.{tells}
 use Rattle.tx_table.specs.declared.view.Opening.{Opening}
 use Rattle.tx_table.specs.Opening.{blocks_at, world_at}
 use Rattle.tx_table.specs.Seated.{turned}
 use Rattle.tx_table.specs.Shown.{IsReached}
 use Rattle.tx_table.specs.Turns.{found_at, moved, spot}
-use Rattle.actor_laws.proofs.PhaseLemmas.{steps_move}
-use Rattle.actor_laws.specs.Phases.{Phase, Commits, Ends, StepMoves, phase, phase_at}
+use Rattle.actor_laws.proofs.KnownStageLemmas.{steps_move}
+use Rattle.actor_laws.specs.KnownStages.{KnownStage, Commits, Ends, StepMoves, known_stage, known_stage_at}
 use Rattle.tx_turns.proofs.WritingLemmas.{is_commit, was_commit}
 use Rattle.tx_turns.specs.Driven.{IsNumberOf, IsStamped, IsStampedAt}
 use Rattle.tx_turns.proofs.FoundLemmas.{found_cell, step_learns_cell, step_tells_cell}
@@ -100,20 +100,20 @@ locking_word y p h = absurd h
 
 module _ {V : Type 0} where
   -- ---- what the definitions make of it
-  over : (u : World V) (a : ℕ) (x : Seat V) (ks : List ℕ) → phase ((gives_up u a x ks).0.seats a) ≡ Ends
+  over : (u : World V) (a : ℕ) (x : Seat V) (ks : List ℕ) → known_stage ((gives_up u a x ks).0.seats a) ≡ Ends
   over u a x [] =
       let t = acted u (asks a word.AskCancel ∷ asks a word.AskAbort ∷ []) in
       let b = is_leaving (actor_of t a).place in
-      ap phase (put-same t.seats a (at_stage x (cond b Leaving Cancelling))) ∙ by b
+      ap known_stage (put-same t.seats a (at_stage x (cond b Leaving Cancelling))) ∙ by b
     where
-      by : (b : Bool) → phase_at x.calls (cond b Leaving Cancelling) ≡ Ends
+      by : (b : Bool) → known_stage_at x.calls (cond b Leaving Cancelling) ≡ Ends
       by true = refl
       by false = refl
-  over u a x (k ∷ ks) = ap phase (put-same u.seats a (at_stage x (Returning (k ∷ ks))))
+  over u a x (k ∷ ks) = ap known_stage (put-same u.seats a (at_stage x (Returning (k ∷ ks))))
 
   -- it is aborted, or its word actor stands
   abbrev Stays : ℕ → World V → After V → Type 0
-  Stays a u r = (phase (r.0.seats a) ≡ Ends) ⊎ (actor_of r.0 a ≡ actor_of u a)
+  Stays a u r = (known_stage (r.0.seats a) ≡ Ends) ⊎ (actor_of r.0 a ≡ actor_of u a)
 
   locked_stays : (u : World V) (a : ℕ) (x : Seat V) (n : notice.Notice) → Stays a u (has_locked u a x n)
   locked_stays u a x (notice.LockedAt wv) = inr refl
@@ -158,9 +158,9 @@ module _ {V : Type 0} where
     y = actor_of w a
 
     abbrev Later : World V → Stage V → Type 0
-    Later p st = is_commit (phase ((step_at p a x st).0.seats a)) ≡ true → IsStamped j (actor_of (step_at p a x st).0 a)
+    Later p st = is_commit (known_stage ((step_at p a x st).0.seats a)) ≡ true → IsStamped j (actor_of (step_at p a x st).0 a)
 
-    not_over : (r : After V) (z : Actor) → (phase (r.0.seats a) ≡ Ends) ⊎ (actor_of r.0 a ≡ z) → is_commit (phase (r.0.seats a)) ≡ true
+    not_over : (r : After V) (z : Actor) → (known_stage (r.0.seats a) ≡ Ends) ⊎ (actor_of r.0 a ≡ z) → is_commit (known_stage (r.0.seats a)) ≡ true
         → IsStamped j z → IsStamped j (actor_of r.0 a)
     unfolding is_commit
     not_over r z (inl ends) c h = absurd (true≢false (sym c ∙ ap is_commit ends))
@@ -191,38 +191,38 @@ module _ {V : Type 0} where
         (subst (IsStamped j) (sym (gate_stands p a i ∙ planted_actor w a n b (spot a w))) (raised k j y y.place le was))
 
     -- a record was made
-    made_over : (calls : List (Call V × Reply V)) (m : Notice V) (q : Phase V) → StepMoves (Commits calls) true m q → is_commit q ≡ true → ⊥
+    made_over : (calls : List (Call V × Reply V)) (m : Notice V) (q : KnownStage V) → StepMoves (Commits calls) true m q → is_commit q ≡ true → ⊥
     unfolding is_commit
     made_over calls Quiet q h c = true≢false (sym c ∙ ap is_commit h)
     made_over calls (Answered d (answer.Committed i)) q h c = true≢false (sym c ∙ ap is_commit h)
     made_over calls m q h c = h
 
     by_stage : (st : Stage V) → x.stage ≡ st → StageOk w.words w.blocks x y (w.boosted.shadows a) st y.place
-        → (is_commit (phase_at x.calls st) ≡ true → IsStamped k y)
+        → (is_commit (known_stage_at x.calls st) ≡ true → IsStamped k y)
         → let r = step_at (found_at a w (spot a w) n b) a x st in
-        StepMoves (phase_at x.calls st) (is_some (committed_by x st)) r.1 (phase (r.0.seats a)) → Later (found_at a w (spot a w) n b) st
+        StepMoves (known_stage_at x.calls st) (is_some (committed_by x st)) r.1 (known_stage (r.0.seats a)) → Later (found_at a w (spot a w) n b) st
     unfolding is_commit
     by_stage Locking at ok was moves = at_locking at ok.0 (was refl)
     by_stage (Gating got [] tries) at ok was moves = absurd ok
     by_stage (Gating got (i ∷ ks) tries) at ok was moves = at_gating got i ks tries (was refl)
     by_stage (Ready ks) at ok was moves = λ c.
-        let r = step_at (found_at a w (spot a w) n b) a x (Ready ks) in absurd (made_over x.calls r.1 (phase (r.0.seats a)) moves c)
+        let r = step_at (found_at a w (spot a w) n b) a x (Ready ks) in absurd (made_over x.calls r.1 (known_stage (r.0.seats a)) moves c)
     by_stage Closing at ok was moves = λ c.
-        let r = step_at (found_at a w (spot a w) n b) a x Closing in absurd (made_over x.calls r.1 (phase (r.0.seats a)) moves c)
+        let r = step_at (found_at a w (spot a w) n b) a x Closing in absurd (made_over x.calls r.1 (known_stage (r.0.seats a)) moves c)
     by_stage st at ok was moves = λ c.
         let r = step_at (found_at a w (spot a w) n b) a x st in
-        absurd (true≢false (sym (was_commit (phase_at x.calls st) (is_some (committed_by x st)) r.1 (phase (r.0.seats a)) moves c)))
+        absurd (true≢false (sym (was_commit (known_stage_at x.calls st) (is_some (committed_by x st)) r.1 (known_stage (r.0.seats a)) moves c)))
 
-    pub stamped_step : StageOk w.words w.blocks x y (w.boosted.shadows a) x.stage y.place → (is_commit (phase x) ≡ true → IsStamped k y)
-        → let r = (moved a w n b).0 in is_commit (phase (r.seats a)) ≡ true → IsStamped j (actor_of r a)
+    pub stamped_step : StageOk w.words w.blocks x y (w.boosted.shadows a) x.stage y.place → (is_commit (known_stage x) ≡ true → IsStamped k y)
+        → let r = (moved a w n b).0 in is_commit (known_stage (r.seats a)) ≡ true → IsStamped j (actor_of r a)
     stamped_step ok was =
         let p = found_at a w (spot a w) n b in
-        subst (λ (s : Seat V). is_commit (phase ((step_at p a s s.stage).0.seats a)) ≡ true
+        subst (λ (s : Seat V). is_commit (known_stage ((step_at p a s s.stage).0.seats a)) ≡ true
         → IsStamped j (actor_of (step_at p a s s.stage).0 a))
         (sym (planted_seats w a n b (spot a w)))
         (by_stage x.stage refl ok was
         (subst (λ (s : Seat V). let r = step_at p a s s.stage in
-        StepMoves (phase s) (is_some (committed_by s s.stage)) r.1 (phase (r.0.seats a))) (planted_seats w a n b (spot a w))
+        StepMoves (known_stage s) (is_some (committed_by s s.stage)) r.1 (known_stage (r.0.seats a))) (planted_seats w a n b (spot a w))
         (steps_move p a)))
 
   -- ---- its record
@@ -247,7 +247,7 @@ module _ {V : Type 0} where
 
     number_at_stage : (k : ℕ) (st : Stage V)
         → StageOk u.words u.blocks (u.seats a) (actor_of u a) (u.boosted.shadows a) st (actor_of u a).place
-        → (is_commit (phase_at (u.seats a).calls st) ≡ true → IsStamped k (actor_of u a))
+        → (is_commit (known_stage_at (u.seats a).calls st) ≡ true → IsStamped k (actor_of u a))
         → IsNumberIn (u.seats a).rv k (committed_by (u.seats a) st)
     unfolding is_commit
     number_at_stage k (Ready ks) ok was =
@@ -266,7 +266,7 @@ module _ {V : Type 0} where
 
     pub numbered : (k : ℕ) (q : Record V)
         → StageOk u.words u.blocks (u.seats a) (actor_of u a) (u.boosted.shadows a) (u.seats a).stage (actor_of u a).place
-        → (is_commit (phase (u.seats a)) ≡ true → IsStamped k (actor_of u a))
+        → (is_commit (known_stage (u.seats a)) ≡ true → IsStamped k (actor_of u a))
         → committed_by (u.seats a) (u.seats a).stage ≡ Some q → IsNumberOf (u.seats a).rv k q
     numbered k q ok was made = subst (IsNumberIn (u.seats a).rv k) made (number_at_stage k (u.seats a).stage ok was)
 

@@ -19,17 +19,17 @@ use Rattle.step_core.specs.declared.answer.WordAnswer.{WordAnswer}
 use Rattle.step_core.specs.declared.answer.WordRefusal.{WordRefusal}
 use Rattle.actor_parts.specs.Dispatch.{AreSteps, is_loading, next_of, notice_told}
 use Rattle.actor_parts.specs.declared.next.Next.TheVariants as next
-use Rattle.tx_actor.proofs.HavingLemmas.{copies_same}
+use Rattle.tx_actor.proofs.CopiesByStageLemmas.{copies_same}
 use Rattle.tx_actor.specs.Dispatch.{waits_at}
-use Rattle.tx_actor.specs.Loading.{MayHear}
+use Rattle.tx_actor.specs.LoadInWorld.{MayHear}
 use Rattle.tx_actor.specs.Reading.{LoadsKeep}
 use Rattle.tx_actor.specs.Running.{notice_of, stage_of}
 use Rattle.tx_actor.specs.Seated.{SeatsActors}
-use Rattle.tx_actor.specs.Staying.{LoadsStayOwn}
+use Rattle.tx_actor.specs.CopiesAfterStep.{LoadsStayOwn}
 use Rattle.tx_actor.specs.declared.actor.Stage as own
 use Rattle.tx_actor.specs.declared.actor.Stage.TheVariants as stage
-use Rattle.tx_actor.specs.declared.actor.Told.{Told}
-use Rattle.tx_actor.specs.declared.actor.Told.TheVariants as tells
+use Rattle.tx_actor.specs.declared.actor.ActorNotice.{ActorNotice}
+use Rattle.tx_actor.specs.declared.actor.ActorNotice.TheVariants as tells
 use Rattle.tx_actor.specs.declared.actor.TxActor.{TxActor}
 use Rattle.tx_actor.proofs.OwnLemmas.{OthersLaw}
 use Rattle.tx_actor.proofs.StepLemmas.{running_moved}
@@ -100,7 +100,7 @@ module _ {V : Type 0} where
       word_onward steps words t s u r y told bs quiet (still_by r.stage still quiet) due nothing ties own step fits
 
   -- the request is nearer to its answer
-  pub nearer : (t : TxTable V) (u z : table.Seat V) (r : TxActor V) (n : Told V) → Ties t u r → Turned (opening_of t) u r z n
+  pub nearer : (t : TxTable V) (u z : table.Seat V) (r : TxActor V) (n : ActorNotice V) → Ties t u r → Turned (opening_of t) u r z n
       → AreSmall (blocks_in t) → n ≡ tells.Quiet → left_in (opening_of t) z < left_in (opening_of t) u
   nearer t u z r n ties T small e =
       let o = opening_of t in
@@ -130,7 +130,7 @@ module _ {V : Type 0} where
   starts o s = record { driven = λ f d h. h; near = omega arith }
 
   -- one more, the last
-  pub leads_on : (t : TxTable V) (s u z : table.Seat V) (r : TxActor V) (n : Told V) → HasCome (opening_of t) s u → Ties t u r
+  pub leads_on : (t : TxTable V) (s u z : table.Seat V) (r : TxActor V) (n : ActorNotice V) → HasCome (opening_of t) s u → Ties t u r
       → Turned (opening_of t) u r z n → next_of (stage_of r.stage) ≡ next.Word → (r.stage ≡ stage.Closing → ⊥) → AreSmall (blocks_in t)
       → LeadsOn (opening_of t) s z n
   leads_on t s u z r n come ties turned due isnt small = record {

@@ -26,23 +26,23 @@ use Rattle.step_core.specs.declared.answer.WordRefusal.{WordRefusal}
 use Rattle.step_core.proofs.Lists.{get_or_same}
 use Rattle.actor_parts.specs.Dispatch.{AreSteps, is_loading, next_of, notice_told}
 use Rattle.actor_parts.specs.declared.next.Next.TheVariants as next
-use Rattle.tx_actor.proofs.HavingLemmas.{copies_same}
+use Rattle.tx_actor.proofs.CopiesByStageLemmas.{copies_same}
 use Rattle.tx_actor.specs.Dispatch.{IsToldWord}
-use Rattle.tx_actor.specs.Having.{KeepsCopies}
-use Rattle.tx_actor.specs.Keeping.{IsRunning}
+use Rattle.tx_actor.specs.CopiesByStage.{KeepsCopies}
+use Rattle.tx_actor.specs.ActorBounds.{IsRunning}
 use Rattle.tx_actor.specs.Running.{at, seat_at, stage_of}
 use Rattle.tx_actor.specs.declared.actor.Stage as own
 use Rattle.tx_actor.specs.declared.actor.Stage.TheVariants as stage
-use Rattle.tx_actor.specs.declared.actor.Told.{Told}
-use Rattle.tx_actor.specs.declared.actor.Told.TheVariants as told
+use Rattle.tx_actor.specs.declared.actor.ActorNotice.{ActorNotice}
+use Rattle.tx_actor.specs.declared.actor.ActorNotice.TheVariants as told
 use Rattle.tx_actor.specs.declared.actor.TxActor.{TxActor}
 use Rattle.tx_actor.proofs.StepLemmas.{running_moved}
 use Rattle.tx_table.specs.declared.seat.Seat.{Seat}
 use Rattle.tx_table.specs.declared.table.TxTable.{TxTable}
 use Rattle.tx_table.specs.Seated.{Stores, StepsBlind, acts, actor, blocks_in, opening_of, view}
-use Rattle.tx_turns.proofs.DueLemmas.{learns_store, next_is, store_is}
+use Rattle.tx_turns.proofs.NextStepLemmas.{learns_store, next_is, store_is}
 use Rattle.tx_turns.specs.Touches.{StepsWords}
-use Rattle.tx_turns.specs.declared.due.Due.TheVariants as due
+use Rattle.tx_turns.specs.declared.due.NextStep.TheVariants as due
 use Rattle.tx_turns.proofs.TurnLemmas.{word_is_next}
 use Rattle.tx_turns.specs.Ties.{Ties, laid_in}
 use Rattle.tx_turns.specs.Laws.{WordsKeep}
@@ -136,7 +136,7 @@ module _ {V : Type 0} where
 
   -- and the last, of which the actor hears
   pub store_heard : AreSteps V → WordsKeep V → (t : TxTable V) (s u : Seat V) (r q : TxActor V) (y : Actor) (a : Option WordAnswer)
-      (n : Told V) (i : ℕ) (e : ℕ × ℕ) (bs : List (Base V)) → is_storing r.stage ≡ true → i < length r.words.writes.entries
+      (n : ActorNotice V) (i : ℕ) (e : ℕ × ℕ) (bs : List (Base V)) → is_storing r.stage ≡ true → i < length r.words.writes.entries
       → e ≡ get_or r.words.writes.entries i e → AreSmall (blocks_in t) → Ties t s (at_place r (Store i))
       → HasOwn t s (at_place r (Store i)) bs → StepsBlind (opening_of t) s u
       → let b = words.actor_of (record r.words { place = Store i }) in

@@ -32,20 +32,20 @@ use Rattle.step_core.specs.declared.answer.WordRefusal.{WordRefusal}
 use Rattle.actor_parts.specs.Blocks.{BlocksView}
 use Rattle.actor_parts.specs.Dispatch.{AreSteps, after_word, is_loading, next_of, notice_told}
 use Rattle.actor_parts.specs.declared.next.Next.TheVariants as next
-use Rattle.actor_laws.specs.Tells.{tells}
+use Rattle.actor_laws.specs.StepAnswers.{tells}
 use Rattle.tx_actor.specs.Dispatch.{HasRoom, IsToldWord, waits_at}
-use Rattle.tx_actor.specs.Having.{HasLoaded, KeepsCopies}
-use Rattle.tx_actor.specs.Keeping.{HasHeard, IsRunning}
-use Rattle.tx_actor.specs.Loading.{MayHear}
-use Rattle.tx_actor.specs.Loads.{IsLoadable, IsToldLoad}
+use Rattle.tx_actor.specs.CopiesByStage.{HasLoaded, KeepsCopies}
+use Rattle.tx_actor.specs.ActorBounds.{HasHeard, IsRunning}
+use Rattle.tx_actor.specs.LoadInWorld.{MayHear}
+use Rattle.tx_actor.specs.LoadStep.{IsLoadable, IsToldLoad}
 use Rattle.tx_actor.specs.Reading.{LoadsKeep}
 use Rattle.tx_actor.specs.Seated.{SeatsActors}
-use Rattle.tx_actor.specs.Staying.{LoadsStayOwn}
+use Rattle.tx_actor.specs.CopiesAfterStep.{LoadsStayOwn}
 use Rattle.tx_actor.specs.Running.{Reseats, Runs, at, notice_of, seat_at, seat_of, stage_of}
 use Rattle.tx_actor.specs.declared.actor.Stage as own
 use Rattle.tx_actor.specs.declared.actor.Stage.TheVariants as stage
-use Rattle.tx_actor.specs.declared.actor.Told.{Told}
-use Rattle.tx_actor.specs.declared.actor.Told.TheVariants as told
+use Rattle.tx_actor.specs.declared.actor.ActorNotice.{ActorNotice}
+use Rattle.tx_actor.specs.declared.actor.ActorNotice.TheVariants as told
 use Rattle.tx_actor.specs.declared.actor.TxActor.{TxActor}
 use Rattle.tx_actor.proofs.LoadStepLemmas.{loads_word}
 use Rattle.tx_actor.proofs.OwnLemmas.{OthersLaw}
@@ -55,7 +55,7 @@ use Rattle.tx_table.specs.declared.table.TxTable.{TxTable}
 use Rattle.tx_table.specs.Seated.{Loads, Stepped, acts, actor, blocks_in, opening_of, view}
 use Rattle.tx_machine.specs.Cells.{LockCell, ValueCell}
 use Rattle.tx_turns.specs.Touches.{StepsWords}
-use Rattle.tx_turns.specs.declared.due.Due.TheVariants as due
+use Rattle.tx_turns.specs.declared.due.NextStep.TheVariants as due
 use Rattle.tx_turns.proofs.TurnLemmas.{word_is_next, word_turned}
 use Rattle.tx_turns.specs.Ties.{Ties, laid_in}
 use Rattle.tx_turns.proofs.WordLemmas.{load_hears, load_tied}
@@ -64,7 +64,7 @@ use Rattle.tx_turns.specs.Own.{HasOwn}
 use Rattle.tx_turns.proofs.StepsLemmas.{HasCome, leads_on, load_onward, starts, word_onward}
 use Rattle.seq_model.specs.declared.record.Record.{Record}
 use Rattle.actor_laws.specs.Courses.{IsUnderWay, IsUnderWayFrom, latest}
-use Rattle.actor_laws.specs.Phases.{Phase, Begins, Calls, Commits, Ends}
+use Rattle.actor_laws.specs.KnownStages.{KnownStage, Begins, Calls, Commits, Ends}
 use Rattle.tx_turns.proofs.GivenUpLemmas.{under_ends}
 use Rattle.tx_turns.specs.Driven.{Driven, LeadsOn, told_in}
 use Rattle.tx_turns.specs.Straight.{HasLed, at_place}
@@ -138,20 +138,20 @@ module _ {V : Type 0} where
   latest_none None = refl
 
   -- what was answered, as one knows by then whether it was quiet
-  pub told_so : (o : World V) (s u : Seat V) (b c : Bool) (n : Told V) (d : Option (Record V)) → b ≡ c
+  pub told_so : (o : World V) (s u : Seat V) (b c : Bool) (n : ActorNotice V) (d : Option (Record V)) → b ≡ c
       → Driven o s u (told_in b n) d → Driven o s u (told_in c n) d
   told_so o s u b c n d e = subst (λ (k : Bool). Driven o s u (told_in k n) d) e
 
   -- ---- any steps
   -- turns that lead on from turns
-  pub leads_then : (o : World V) (s u z : Seat V) (n : Told V) → LeadsOn o s u told.Quiet → LeadsOn o u z n → LeadsOn o s z n
+  pub leads_then : (o : World V) (s u z : Seat V) (n : ActorNotice V) → LeadsOn o s u told.Quiet → LeadsOn o u z n → LeadsOn o s z n
   leads_then o s u z n h k = record {
     driven = λ f d was. k.driven f d (h.driven f d was);
     nearer = λ e. (let p = h.nearer refl in let q = k.nearer e in omega (arith, p, q));
   }
 
   -- or from where they have come to
-  pub leads_from : (o : World V) (s u z : Seat V) (n : Told V) → HasCome o s u → LeadsOn o u z n → LeadsOn o s z n
+  pub leads_from : (o : World V) (s u z : Seat V) (n : ActorNotice V) → HasCome o s u → LeadsOn o u z n → LeadsOn o s z n
   leads_from o s u z n h k = record {
     driven = λ f d was. k.driven f d (h.driven f d was);
     nearer = λ e. (let p = h.near in let q = k.nearer e in omega (arith, p, q));
@@ -163,7 +163,7 @@ module _ {V : Type 0} where
     near = (let p = h.near in let q = k.nearer refl in omega (arith, p, q));
   }
 
-  pub led_then : (t : TxTable V) (s u z : Seat V) (r : TxActor V) (n : Told V) (bs : List (Base V)) → LeadsOn (opening_of t) s u told.Quiet
+  pub led_then : (t : TxTable V) (s u z : Seat V) (r : TxActor V) (n : ActorNotice V) (bs : List (Base V)) → LeadsOn (opening_of t) s u told.Quiet
       → HasLed t u z r n bs → HasLed t s z r n bs
   led_then t s u z r n bs h k = record { ties = k.ties; own = k.own; leads = leads_then (opening_of t) s u z n h k.leads }
 
@@ -183,7 +183,7 @@ module _ {V : Type 0} where
 
   -- the step of which the actor hears
   pub led_last : AreSteps V → WordsKeep V → (t : TxTable V) (s u : Seat V) (r q : TxActor V) (y : Actor)
-      (m : Result (Option WordAnswer) WordRefusal) (n : Told V) (bs : List (Base V)) → is_loading (stage_of r.stage) ≡ false
+      (m : Result (Option WordAnswer) WordRefusal) (n : ActorNotice V) (bs : List (Base V)) → is_loading (stage_of r.stage) ≡ false
       → next_of (stage_of r.stage) ≡ next.Word → (r.stage ≡ stage.Closing → ⊥) → AreSmall (blocks_in t) → Ties t s r → HasOwn t s r bs
       → StepsWords (opening_of t) s r.words u y m → IsToldWord (record r { words = y }) q n (notice_told m) → IsRunning (laid_in t) q
       → KeepsCopies r q → HasLed t s u q n bs
@@ -196,11 +196,11 @@ module _ {V : Type 0} where
       }
 
   -- a request that is under way is so from where it stands by then
-  pub under_self : (s x : worlds.Seat V) (p : Phase V) → IsUnderWayFrom s p x None → IsUnderWay x x None
-  under_self s x Begins h = subst (λ (p : Phase V). IsUnderWayFrom x p x None) (sym h.0) (h.0, refl)
-  under_self s x (Calls calls call) (inl at, e) = subst (λ (p : Phase V). IsUnderWayFrom x p x None) (sym at) (inl at, refl)
+  pub under_self : (s x : worlds.Seat V) (p : KnownStage V) → IsUnderWayFrom s p x None → IsUnderWay x x None
+  under_self s x Begins h = subst (λ (p : KnownStage V). IsUnderWayFrom x p x None) (sym h.0) (h.0, refl)
+  under_self s x (Calls calls call) (inl at, e) = subst (λ (p : KnownStage V). IsUnderWayFrom x p x None) (sym at) (inl at, refl)
   under_self s x (Calls calls call) (inr up, e) = under_ends x up.0
-  under_self s x (Commits calls) (inl (inl at, e)) = subst (λ (p : Phase V). IsUnderWayFrom x p x None) (sym at) (inl (inl at, refl))
+  under_self s x (Commits calls) (inl (inl at, e)) = subst (λ (p : KnownStage V). IsUnderWayFrom x p x None) (sym at) (inl (inl at, refl))
   under_self s x (Commits calls) (inl (inr up, e)) = under_ends x up.0
   under_self s x (Commits calls) (inr has) = absurd has.1
   under_self s x Ends h = under_ends x h.0
@@ -314,7 +314,7 @@ module _ {V : Type 0} where
 
   -- and what the actor hears of the first load, or of the last
   pub look_last : AreSteps V → WordsKeep V → (t : TxTable V) (s u : Seat V) (r q : TxActor V) (y : Actor)
-      (m : Result (Option WordAnswer) WordRefusal) (n : Told V) (l found : ℕ) (bs : List (Base V)) → r.stage ≡ stage.Reading l
+      (m : Result (Option WordAnswer) WordRefusal) (n : ActorNotice V) (l found : ℕ) (bs : List (Base V)) → r.stage ≡ stage.Reading l
       → AreSmall (blocks_in t) → Ties t s (at_place r (Look l)) → HasOwn t s (at_place r (Look l)) bs → Stepped (opening_of t) s found u
       → let a = words.actor_of (record r.words { place = Look l }) in
       words.actor_of y ≡ seen a l (unbits found) → m ≡ result_of (look_notice a.rv l (unbits found))
@@ -327,7 +327,7 @@ module _ {V : Type 0} where
       (running (running_moved (laid_in t) (at_place r (Look l)) y fits (quiet_reading r.stage l e) ties.running)) leaves
 
   pub again_last : AreSteps V → WordsKeep V → (t : TxTable V) (s u : Seat V) (r q : TxActor V) (y : Actor)
-      (m : Result (Option WordAnswer) WordRefusal) (n : Told V) (l k v found : ℕ) (bs : List (Base V)) → r.stage ≡ stage.Reading l
+      (m : Result (Option WordAnswer) WordRefusal) (n : ActorNotice V) (l k v found : ℕ) (bs : List (Base V)) → r.stage ≡ stage.Reading l
       → AreSmall (blocks_in t) → Ties t s (at_place r (Again l k v)) → HasOwn t s (at_place r (Again l k v)) bs
       → Stepped (opening_of t) s found u → let a = words.actor_of (record r.words { place = Again l k v }) in
       words.actor_of y ≡ machine.seen_again a l k v (unbits found) → m ≡ result_of (notice.again_notice l k v (unbits found))
@@ -346,7 +346,7 @@ module _ {V : Type 0} where
       ap (λ (s : own.Stage V). after_word w a (seat_at x (record p { stage = s })) (stage_of s) (notice.Number v)) e
       ∙ sym (ap (λ (s : own.Stage V). has_read w a (seat_of (record p { stage = s })) l (notice.Number v)) e)
 
-  pub number_heard : (p q : TxActor V) (l k v : ℕ) (word : LockWord) (x : Option WordAnswer) (n : Told V) → p.stage ≡ stage.Reading l
+  pub number_heard : (p q : TxActor V) (l k v : ℕ) (word : LockWord) (x : Option WordAnswer) (n : ActorNotice V) → p.stage ≡ stage.Reading l
       → Ok x ≡ result_of (notice.again_notice l k v word) → Reseats p q n (λ a w. has_read w a (seat_of p) l (notice.Number v))
       → IsToldWord p q n (notice_told (Ok x))
   number_heard p q l k v word x n e answer does =
@@ -389,7 +389,7 @@ module _ {V : Type 0} where
       load_hears laws.steps laws.keep t s u r y m loading ties step room fits
 
   pub loading_last : LoadLaws V → (t : TxTable V) (s u : Seat V) (r q : TxActor V) (y : Actor) (m : Result (Option WordAnswer) WordRefusal)
-      (n : Told V) (bs : List (Base V)) → is_loading (stage_of r.stage) ≡ true → AreSmall (blocks_in t) → Ties t s r → HasOwn t s r bs
+      (n : ActorNotice V) (bs : List (Base V)) → is_loading (stage_of r.stage) ≡ true → AreSmall (blocks_in t) → Ties t s r → HasOwn t s r bs
       → StepsWords (opening_of t) s r.words u y m → (IsLoad r.words.place → KeepsRoom r.words y)
       → ((j : ℕ) → Fits j r.words → Fits j y) → let p : TxActor V = record r { words = y } in
       IsToldLoad p q n (notice_told m) → (HasHeard (laid_in t) p (notice_told m) → IsRunning (laid_in t) q)

@@ -19,9 +19,9 @@ use Rattle.actor_laws.specs.Own.{Alike}
 use Rattle.actor_laws.proofs.Alike.{alike_sym}
 use Rattle.actor_parts.specs.Blocks.{IsLaid}
 use Rattle.actor_parts.specs.Dispatch.{next_of}
-use Rattle.tx_actor.specs.Having.{HasCopies}
+use Rattle.tx_actor.specs.CopiesByStage.{HasCopies}
 use Rattle.tx_actor.specs.Running.{Runs, notice_of, stage_of}
-use Rattle.tx_actor.specs.declared.actor.Told.{Told}
+use Rattle.tx_actor.specs.declared.actor.ActorNotice.{ActorNotice}
 use Rattle.tx_actor.specs.declared.actor.TxActor.{TxActor}
 use Rattle.tx_actor.specs.Reached.{IsReached}
 use Rattle.tx_actor.proofs.CopyLemmas.{IsBaseIn as IsBaseThere}
@@ -124,7 +124,7 @@ module _ {V : Type 0} where
     abbrev pub step_then : After V
     step_then = happens then (Step me)
 
-    pub turn_runs : (q : TxActor V) (n : Told V) → Runs me q step_then.0 × (notice_of me n ≡ step_then.1)
+    pub turn_runs : (q : TxActor V) (n : ActorNotice V) → Runs me q step_then.0 × (notice_of me n ≡ step_then.1)
         → Runs me q (moved me mine found base).0 × (notice_of me n ≡ (moved me mine found base).1)
     turn_runs q n h =
         let same = takes.happened.same in (runs_stand step_then.0 (moved me mine found base).0 me q same.0 h.0, h.1 ∙ same.1)

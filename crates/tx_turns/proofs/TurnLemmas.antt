@@ -31,29 +31,29 @@ use Rattle.actor_parts.specs.Blocks.{BlocksView}
 use Rattle.actor_parts.specs.Dispatch.{AreSteps, after_word, is_loading, next_of, notice_told}
 use Rattle.actor_parts.specs.declared.next.Next.TheVariants as next
 use Rattle.actor_laws.proofs.Alone.{same_actors}
-use Rattle.actor_laws.specs.Spots.{Spot, Word, spot_of}
-use Rattle.actor_laws.specs.Tells.{tells}
+use Rattle.actor_laws.specs.StepTargets.{Spot, Word, spot_of}
+use Rattle.actor_laws.specs.StepAnswers.{tells}
 use Rattle.tx_actor.specs.Dispatch.{IsToldWord}
-use Rattle.tx_actor.specs.Keeping.{IsRunning}
+use Rattle.tx_actor.specs.ActorBounds.{IsRunning}
 use Rattle.tx_actor.specs.Running.{Runs, notice_of, seat_at, seat_of, stage_of}
 use Rattle.tx_actor.specs.declared.actor.Stage as own
 use Rattle.tx_actor.specs.declared.actor.Stage.TheVariants as stage
-use Rattle.tx_actor.specs.declared.actor.Told.{Told}
+use Rattle.tx_actor.specs.declared.actor.ActorNotice.{ActorNotice}
 use Rattle.tx_actor.specs.declared.actor.TxActor.{TxActor}
 use Rattle.tx_table.specs.declared.seat.Seat as table
 use Rattle.tx_table.specs.declared.table.TxTable.{TxTable}
 use Rattle.tx_table.specs.Shown.{Slot}
-use Rattle.tx_table.specs.declared.view.View.{View}
+use Rattle.tx_table.specs.declared.view.SeatKnowledge.{SeatKnowledge}
 use Rattle.tx_table.specs.Seated.{Takes, acts, opening_of, view}
 use Rattle.tx_table.specs.Seated as seated
 use Rattle.tx_table.specs.Turns.{ends_of, found_at, moved, spot}
 use Rattle.tx_turns.proofs.OwnLemmas.{own_due, own_gates, own_ok}
-use Rattle.tx_turns.specs.Dues.{IsDeed}
+use Rattle.tx_turns.specs.NextStep.{IsDeed}
 use Rattle.tx_turns.specs.Touches.{Finds, IsNext, StepsWords}
-use Rattle.tx_turns.specs.declared.due.Due.{Due}
+use Rattle.tx_turns.specs.declared.due.NextStep.{NextStep}
 use Rattle.tx_actor.proofs.SeatLemmas.{next_as, seat_by, stage_by}
 use Rattle.tx_turns.specs.Ties.{IsOnWord, Ties, Turned, commits, commits_at, laid_in}
-use Rattle.tx_turns.proofs.TurnDueLemmas.{clock_left, next_is, word_spot}
+use Rattle.tx_turns.proofs.TurnStepLemmas.{clock_left, next_is, word_spot}
 use Rattle.tx_turns.proofs.FoundLemmas.{LocksAt, found_cell, knows_moved, learns_found, may_go_on, runs_found, step_gates, step_learns_cell}
 use Rattle.tx_turns.proofs.FoundLemmas.{step_tells_cell, tells_found}
 use Rattle.tx_actor.proofs.StepLemmas.{running_made}
@@ -88,7 +88,7 @@ module _ {V : Type 0} where
 
   -- ---- the step of the definitions
   pub word_step : AreSteps V → (v : World V) (a : ℕ) (r q : TxActor V) (y : Actor) (told : Result (Option WordAnswer) WordRefusal)
-      (n : Told V)
+      (n : ActorNotice V)
       → next_of (stage_of r.stage) ≡ next.Word → is_loading (stage_of r.stage) ≡ false → Runs a r v
       → LocksAt r.stage (actor_of v a).place → ((k : ℕ) → mine v.boosted a k ≡ has (gates_of (stage_of r.stage)) k)
       → actor_of (acted v (moves a ∷ [])) a ≡ words.actor_of y → told ≡ result_of (word_notice v a)
@@ -113,8 +113,8 @@ module _ {V : Type 0} where
       )
 
   planted_step : AreSteps V → (w : World V) (a : ℕ) (r q : TxActor V) (y : Actor) (told : Result (Option WordAnswer) WordRefusal)
-      (n : Told V)
-      (d : Due) (m f : ℕ) (c : Cell) → let x = words.actor_of r.words in
+      (n : ActorNotice V)
+      (d : NextStep) (m f : ℕ) (c : Cell) → let x = words.actor_of r.words in
       next_of (stage_of r.stage) ≡ next.Word → is_loading (stage_of r.stage) ≡ false → Runs a r w
       → LocksAt r.stage (actor_of w a).place → ((k : ℕ) → mine w.boosted a k ≡ has (gates_of (stage_of r.stage)) k)
       → IsDeed d (plan x x.place) → word_of (plan x x.place) ≡ Some c → Finds d m f
@@ -137,7 +137,7 @@ module _ {V : Type 0} where
 
   -- ---- the turn
   -- the turn of a seat whose step in the world with it alone answers this
-  pub turned_by : (t : TxTable V) (s u : table.Seat V) (r : TxActor V) (n : Told V) (clock found : ℕ) (base : Option (Base V))
+  pub turned_by : (t : TxTable V) (s u : table.Seat V) (r : TxActor V) (n : ActorNotice V) (clock found : ℕ) (base : Option (Base V))
       (bases : List (ℕ × Slot V)) → Ties t s r → Takes (opening_of t) s clock found base bases u → (view s).clock ≤ clock
       → (spot (seated.actor s) (acts (opening_of t) s) ≡ Word ClockCell
       → clock ≡ seated.turned (seated.actor s) (acts (opening_of t) s) found)
@@ -152,13 +152,13 @@ module _ {V : Type 0} where
     rises = rises;
     clocks = clocks;
     outs = λ on. takes.held ∙ outs on;
-    gains = ap (λ (v : View V). v.receipts) takes.turn
+    gains = ap (λ (v : SeatKnowledge V). v.receipts) takes.turn
         ∙ ap (λ (rs : List (ℕ × Record V)). (view s).receipts ++ rs) (ends_as (acts (opening_of t) s) (seated.actor s) r ties.runs);
     tells = tells;
   }
 
   -- what the seat and its actor are after a step that is so in the world with the seat alone
-  pub tied : (t : TxTable V) (s u : table.Seat V) (r q : TxActor V) (n : Told V) (clock found : ℕ) (base : Option (Base V))
+  pub tied : (t : TxTable V) (s u : table.Seat V) (r q : TxActor V) (n : ActorNotice V) (clock found : ℕ) (base : Option (Base V))
       (bases : List (ℕ × Slot V)) → Ties t s r → Takes (opening_of t) s clock found base bases u → (view s).clock ≤ clock
       → (spot (seated.actor s) (acts (opening_of t) s) ≡ Word ClockCell
       → clock ≡ seated.turned (seated.actor s) (acts (opening_of t) s) found)
@@ -170,7 +170,7 @@ module _ {V : Type 0} where
   tied t s u r q n clock found base bases ties takes rises clocks outs running turn = (
     record {
       owns = takes.seat.0 ∙ ties.owns;
-      live = subst (λ (k : ℕ). 0 < k) (sym (ap (λ (v : View V). v.shares) takes.turn)) ties.live;
+      live = subst (λ (k : ℕ). 0 < k) (sym (ap (λ (v : SeatKnowledge V). v.shares) takes.turn)) ties.live;
       reached = takes.reached;
       runs = subst (λ (z : ℕ × World V). Runs z.0 q z.1) (λ i. (sym takes.seat.1 i, sym takes.own i)) turn.0;
       running = running;
@@ -228,7 +228,7 @@ module _ {V : Type 0} where
       )
 
   pub word_turned : AreSteps V → (t : TxTable V) (s u : table.Seat V) (r q : TxActor V) (y : Actor)
-      (told : Result (Option WordAnswer) WordRefusal) (n : Told V)
+      (told : Result (Option WordAnswer) WordRefusal) (n : ActorNotice V)
       → next_of (stage_of r.stage) ≡ next.Word → is_loading (stage_of r.stage) ≡ false → Ties t s r
       → StepsWords (opening_of t) s r.words u y told → IsToldWord (record r { words = y }) q n (notice_told told)
       → IsRunning (laid_in t) q → Ties t u q × Turned (opening_of t) s r u n

@@ -6,12 +6,12 @@ use Rattle.std.proofs.Common.{◌≡◌, ℕ, true, false, true≢false, List, [
 use Rattle.tx_machine.specs.World.{plan}
 use Rattle.tx_machine.specs.Cells.{Cell, cell, learns, word_of}
 use Rattle.replay_log.specs.declared.base.Base.{Base}
-use Rattle.replay_log.specs.Contents.{Asked}
+use Rattle.replay_log.specs.Contents.{CollectionCall}
 use Rattle.replay_log.specs.Seats.{World, Copying, Ready, Stage}
 use Rattle.replay_log.specs.Worlds.{run}
-use Rattle.actor_laws.specs.Spots.{Gate, Spot, Word, deed_of, number_at, spot_at}
+use Rattle.actor_laws.specs.StepTargets.{Gate, Spot, Word, deed_of, number_at, spot_at}
 use Rattle.actor_laws.specs.Steps.{ready_at}
-use Rattle.actor_laws.specs.Tells.{tells}
+use Rattle.actor_laws.specs.StepAnswers.{tells}
 use Rattle.step_core.specs.Answers.{result_of}
 use Rattle.step_core.specs.Shown as words
 use Rattle.step_core.specs.Sound.{Fits, IsLoad, KeepsRoom}
@@ -21,19 +21,19 @@ use Rattle.step_core.specs.declared.answer.WordRefusal.{WordRefusal}
 use Rattle.actor_parts.specs.Dispatch.{AreSteps, is_loading, next_of, notice_told}
 use Rattle.actor_parts.specs.declared.next.Next.{Next}
 use Rattle.actor_parts.specs.declared.next.Next.TheVariants as next
-use Rattle.tx_actor.specs.Having.{HasLoaded, IsWholeOf, KeepsCopies}
-use Rattle.tx_actor.specs.Keeping.{HasHeard, IsRunning}
-use Rattle.tx_actor.specs.Loading.{MayHear}
-use Rattle.tx_actor.specs.Loads.{IsLoadable, IsToldLoad}
+use Rattle.tx_actor.specs.CopiesByStage.{HasLoaded, IsWholeOf, KeepsCopies}
+use Rattle.tx_actor.specs.ActorBounds.{HasHeard, IsRunning}
+use Rattle.tx_actor.specs.LoadInWorld.{MayHear}
+use Rattle.tx_actor.specs.LoadStep.{IsLoadable, IsToldLoad}
 use Rattle.tx_actor.specs.Reading.{LoadsKeep}
 use Rattle.tx_actor.specs.Seated.{SeatsActors}
-use Rattle.tx_actor.specs.Staying.{LoadsStayOwn}
+use Rattle.tx_actor.specs.CopiesAfterStep.{LoadsStayOwn}
 use Rattle.tx_actor.specs.Running.{stage_of}
 use Rattle.tx_actor.specs.declared.actor.Stage as own
 use Rattle.tx_actor.specs.declared.actor.Stage.TheVariants as stage
-use Rattle.tx_actor.specs.declared.actor.Told.{Told}
+use Rattle.tx_actor.specs.declared.actor.ActorNotice.{ActorNotice}
 use Rattle.tx_actor.specs.declared.actor.TxActor.{TxActor}
-use Rattle.tx_actor.specs.Kept.{StepsKeep}
+use Rattle.tx_actor.specs.CopiesAfterEvent.{StepsKeep}
 use Rattle.tx_actor.proofs.GatesLemmas.{no_word, step_first_gates, step_load_gates, step_word_gates}
 use Rattle.tx_actor.proofs.LoadStepLemmas.{HasMoved, load_heard, load_keeps, load_runs, loads_word}
 use Rattle.tx_actor.proofs.OwnLemmas.{OthersLaw}
@@ -46,7 +46,7 @@ use Rattle.tx_table.specs.Seated.{acts, opening_of, out}
 use Rattle.tx_table.specs.Turns.{moved, spot}
 use Rattle.tx_turns.specs.Touches.{StepsWords}
 use Rattle.tx_turns.specs.Ties.{IsOnWord, Ties, Turned, laid_in}
-use Rattle.tx_turns.proofs.TurnDueLemmas.{clock_left}
+use Rattle.tx_turns.proofs.TurnStepLemmas.{clock_left}
 use Rattle.tx_turns.proofs.FoundLemmas.{learns_found, step_learns_cell, step_tells_cell, tells_found}
 use Rattle.tx_turns.proofs.TurnLemmas.{spot_is_word, tied, word_is_next}
 use Rattle.tx_turns.specs.Bases.{AreBases, ArePrepared, ArePreparedAt, gates_at, slots_of}
@@ -61,9 +61,9 @@ word_gate p c k e f = (let z : Word c ≡ Gate k = sym e ∙ f in let y : ⊥ = 
 
 module _ {V : Type 0} where
   -- a step of the words leaves what the seat has out
-  calm_own : StepsKeep V → OthersLaw V → (t : TxTable V) (s u : table.Seat V) (r q : TxActor V) (n : Told V) (bs : List (Base V))
+  calm_own : StepsKeep V → OthersLaw V → (t : TxTable V) (s u : table.Seat V) (r q : TxActor V) (n : ActorNotice V) (bs : List (Base V))
       (ties : Ties t s r) → HasOwn t s r bs → (turned : Turned (opening_of t) s r u n) → Ties t u q → KeepsCopies r q
-      → is_loading (stage_of r.stage) ≡ false → ((asked : Asked V) → stage_of r.stage ≡ Copying asked → ⊥)
+      → is_loading (stage_of r.stage) ≡ false → ((asked : CollectionCall V) → stage_of r.stage ≡ Copying asked → ⊥)
       → IsOnWord (next_of (stage_of r.stage)) → ((k : ℕ) → spot (seated.actor s) (acts (opening_of t) s) ≡ Gate k → ⊥)
       → gates_at q.stage ≡ gates_at r.stage
       → ((ks : List ℕ) → IsWholeOf r.stage ks → ArePrepared r.copies.items (gates_at r.stage) bs) → HasOwn t u q bs
@@ -85,11 +85,11 @@ module _ {V : Type 0} where
       (λ j _. base_stays a w turned.found turned.base j (apart j)) own.bases))
       (prepared_from q.stage r.stage r.copies.items q.copies.items bs keeps gates prepared)
 
-  pub no_copy : (s : own.Stage V) (m : Next) → next_of (stage_of s) ≡ m → ((k : ℕ) → m ≡ next.Copy k → ⊥) → (asked : Asked V)
+  pub no_copy : (s : own.Stage V) (m : Next) → next_of (stage_of s) ≡ m → ((k : ℕ) → m ≡ next.Copy k → ⊥) → (asked : CollectionCall V)
       → stage_of s ≡ Copying asked → ⊥
   no_copy s m e other asked is = other asked.collection (sym e ∙ ap next_of is)
 
-  pub word_own : AreSteps V → StepsKeep V → OthersLaw V → (t : TxTable V) (s u : table.Seat V) (r q : TxActor V) (n : Told V)
+  pub word_own : AreSteps V → StepsKeep V → OthersLaw V → (t : TxTable V) (s u : table.Seat V) (r q : TxActor V) (n : ActorNotice V)
       (bs : List (Base V)) → Ties t s r → HasOwn t s r bs → Turned (opening_of t) s r u n → Ties t u q → KeepsCopies r q
       → next_of (stage_of r.stage) ≡ next.Word → is_loading (stage_of r.stage) ≡ false → HasOwn t u q bs
   word_own steps keep law t s u r q n bs ties own turned tied keeps due quiet =
@@ -112,7 +112,7 @@ module _ {V : Type 0} where
       no_word (word_of (deed_of (ready_at a w (Ready first.0)) a)) k (sym (ap (λ (p : Stage V). spot_at a w p) first.1) ∙ e)
 
   -- the first value store, before which the bases were prepared
-  pub first_own : AreSteps V → StepsKeep V → OthersLaw V → (t : TxTable V) (s u : table.Seat V) (r q : TxActor V) (n : Told V)
+  pub first_own : AreSteps V → StepsKeep V → OthersLaw V → (t : TxTable V) (s u : table.Seat V) (r q : TxActor V) (n : ActorNotice V)
       (bs : List (Base V)) → Ties t s r → HasOwn t s r bs → Turned (opening_of t) s r u n → Ties t u q → KeepsCopies r q
       → next_of (stage_of r.stage) ≡ next.FirstStore → ArePrepared r.copies.items (gates_at r.stage) bs → HasOwn t u q bs
   first_own steps keep law t s u r q n bs ties own turned tied keeps due prepared =
@@ -167,7 +167,7 @@ module _ {V : Type 0} where
       fits
 
   pub load_tied : AreSteps V → MayHear V → SeatsActors V → LoadsStayOwn V → OthersLaw V → (t : TxTable V) (s u : table.Seat V)
-      (r q : TxActor V) (y : running.Actor) (told : Result (Option WordAnswer) WordRefusal) (n : Told V) (bs : List (Base V))
+      (r q : TxActor V) (y : running.Actor) (told : Result (Option WordAnswer) WordRefusal) (n : ActorNotice V) (bs : List (Base V))
       → is_loading (stage_of r.stage) ≡ true → Ties t s r → HasOwn t s r bs → StepsWords (opening_of t) s r.words u y told
       → IsToldLoad (record r { words = y }) q n (notice_told told) → IsRunning (laid_in t) q
       → (let m : TxActor V = record r { words = y } in HasLoaded m q n m.stage (notice_told told))

@@ -20,7 +20,7 @@ use Rattle.replay_log.specs.Worlds.{takes_gates}
 use Rattle.replay_log.specs.Worlds.{word_notice, written_homes}
 use Rattle.replay_log.specs.WorldTraces.{committed_by}
 use Rattle.actor_laws.specs.Courses.{latest}
-use Rattle.actor_laws.specs.Phases.{Phase, Rests, Begins, Stands, Calls, Commits, Committed, Ends, StepMoves, phase, phase_at}
+use Rattle.actor_laws.specs.KnownStages.{KnownStage, Rests, Begins, Stands, Calls, Commits, Committed, Ends, StepMoves, known_stage, known_stage_at}
 use Rattle.tx_turns.specs.Driven.{IsWritten, is_closing}
 
 takes_open : (V : Type 0) (got ks : List ℕ) → is_closing {V = V} (takes_gates got ks) ≡ false
@@ -28,11 +28,11 @@ takes_open V got [] = refl
 takes_open V got (k ∷ ks) = refl
 
 module _ {V : Type 0} where
-  unfoldable pub is_commit : Phase V → Bool
+  unfoldable pub is_commit : KnownStage V → Bool
   is_commit (Commits calls) = true
   is_commit p = false
 
-  pub is_one : (calls : List (Call V × Reply V)) (st : Stage V) → is_commit (phase_at calls st) ≡ true → phase_at calls st ≡ Commits calls
+  pub is_one : (calls : List (Call V × Reply V)) (st : Stage V) → is_commit (known_stage_at calls st) ≡ true → known_stage_at calls st ≡ Commits calls
   unfolding is_commit
   is_one calls Locking c = refl
   is_one calls (Gating got ks tries) c = refl
@@ -41,7 +41,7 @@ module _ {V : Type 0} where
   is_one calls st c = absurd (true≢false (sym c))
 
   -- only a transaction that is to commit makes a record
-  pub commits_first : (x : Seat V) (st : Stage V) (r : Record V) → committed_by x st ≡ Some r → is_commit (phase_at x.calls st) ≡ true
+  pub commits_first : (x : Seat V) (st : Stage V) (r : Record V) → committed_by x st ≡ Some r → is_commit (known_stage_at x.calls st) ≡ true
   unfolding is_commit
   commits_first x (Ready ks) r h = refl
   commits_first x Closing r h = refl
@@ -52,7 +52,7 @@ module _ {V : Type 0} where
   writes_in None = true
 
   -- only a commit under way is one after the next step
-  pub was_commit : (p : Phase V) (b : Bool) (n : Notice V) (q : Phase V) → StepMoves p b n q → is_commit q ≡ true → is_commit p ≡ true
+  pub was_commit : (p : KnownStage V) (b : Bool) (n : Notice V) (q : KnownStage V) → StepMoves p b n q → is_commit q ≡ true → is_commit p ≡ true
   unfolding is_commit
   was_commit (Commits calls) b n q h e = refl
   was_commit Rests false (Refused b cause) q h e = absurd (true≢false (sym e ∙ ap is_commit h))
@@ -105,7 +105,7 @@ module _ {V : Type 0} where
   -- ---- one step
   module _ (w : World V) (a : ℕ) (x : Seat V) (from : Stage V) where
     -- by a step at this stage, which makes no record
-    stays : (st : Stage V) → w.seats a ≡ x → x.stage ≡ st → is_closing st ≡ is_closing from → is_commit (phase_at x.calls st) ≡ true
+    stays : (st : Stage V) → w.seats a ≡ x → x.stage ≡ st → is_closing st ≡ is_closing from → is_commit (known_stage_at x.calls st) ≡ true
         → committed_by x st ≡ None → is_closing ((step_at w a x st).0.seats a).stage ≡ is_closing from
     unfolding is_commit
     stays Locking seat at was c none = locked_open (acted w (moves a ∷ [])) a x (word_notice w a) seat at ∙ was
@@ -125,12 +125,12 @@ module _ {V : Type 0} where
     makes Closing r was e = ap writes_in (sym e) ∙ ap not was
     makes st r was e = absurd (let z : ⊥ = cc in z)
 
-    closing_at : (st : Stage V) → x.stage ≡ st → is_commit (phase_at x.calls st) ≡ true → IsWritten from x None
+    closing_at : (st : Stage V) → x.stage ≡ st → is_commit (known_stage_at x.calls st) ≡ true → IsWritten from x None
         → is_closing st ≡ is_closing from
-    closing_at st at c was = ap is_closing (sym at) ∙ was x.calls (ap (phase_at x.calls) at ∙ is_one x.calls st c)
+    closing_at st at c was = ap is_closing (sym at) ∙ was x.calls (ap (known_stage_at x.calls) at ∙ is_one x.calls st c)
 
     pub written_on : (st : Stage V) (e d : Option (Record V)) → w.seats a ≡ x → x.stage ≡ st
-        → StepMoves (phase_at x.calls st) (is_some (committed_by x st)) (step_at w a x st).1 (phase ((step_at w a x st).0.seats a))
+        → StepMoves (known_stage_at x.calls st) (is_some (committed_by x st)) (step_at w a x st).1 (known_stage ((step_at w a x st).0.seats a))
         → committed_by x st ≡ e → ((r : Record V) → e ≡ Some r → d ≡ None) → IsWritten from x d
         → IsWritten from ((step_at w a x st).0.seats a) (latest e d)
     unfolding is_commit
@@ -138,7 +138,7 @@ module _ {V : Type 0} where
     written_on st (Some r) (Some q) seat at moves made new was = absurd (let f = new r refl in let z : ⊥ = cc in z)
     written_on st None (Some q) seat at moves made new was = was
     written_on st None None seat at moves made new was = λ calls e.
-        let c = was_commit (phase_at x.calls st) (is_some (committed_by x st)) (step_at w a x st).1
-        (phase ((step_at w a x st).0.seats a)) moves
+        let c = was_commit (known_stage_at x.calls st) (is_some (committed_by x st)) (step_at w a x st).1
+        (known_stage ((step_at w a x st).0.seats a)) moves
         (ap is_commit e) in
         stays st seat at (closing_at st at c was) c made

@@ -4,8 +4,8 @@ use Rattle.replay_log.specs.declared.base.Base.{Base}
 use Rattle.replay_log.specs.Base.{IsPreparedFor, editions_of, shown_of, stripes_of}
 use Rattle.replay_log.specs.Seats.{World}
 use Rattle.actor_laws.specs.Bases.{ShowsBase}
-use Rattle.actor_parts.specs.declared.copies.CopyOf.{CopyOf}
-use Rattle.actor_parts.specs.Kept.{copy_of}
+use Rattle.actor_parts.specs.declared.copies.CopyOfCollection.{CopyOfCollection}
+use Rattle.actor_parts.specs.CopyList.{copy_of}
 use Rattle.actor_parts.specs.Logs.{changes_had}
 use Rattle.tx_actor.specs.declared.actor.Stage.{Stage}
 use Rattle.tx_actor.specs.declared.actor.Stage.TheVariants as stage
@@ -39,16 +39,16 @@ module _ {V : Type 0} where
   AreBases o u ks bs = ⊥
 
   -- the base of k takes the log of the calls on it, among what there is of collections, without memory
-  abbrev pub IsPrepared : List (CopyOf V) → ℕ → Base V → Type 0
+  abbrev pub IsPrepared : List (CopyOfCollection V) → ℕ → Base V → Type 0
   IsPrepared cs k b = IsPreparedFor (changes_had (copy_of cs k)) b
 
-  abbrev pub ArePrepared : List (CopyOf V) → List ℕ → List (Base V) → Type 0
+  abbrev pub ArePrepared : List (CopyOfCollection V) → List ℕ → List (Base V) → Type 0
   ArePrepared cs [] bs = Unit {0}
   ArePrepared cs (k ∷ ks) [] = ⊥
   ArePrepared cs (k ∷ ks) (b ∷ bs) = IsPrepared cs k b × ArePrepared cs ks bs
 
   -- from the first value store on they are prepared, as they are put back
-  abbrev pub ArePreparedAt : List (CopyOf V) → Stage V → List (Base V) → Type 0
+  abbrev pub ArePreparedAt : List (CopyOfCollection V) → Stage V → List (Base V) → Type 0
   ArePreparedAt cs (stage.Storing homes) bs = ArePrepared cs homes.items bs
   ArePreparedAt cs (stage.Homing homes) bs = ArePrepared cs homes.items bs
   ArePreparedAt cs s bs = Unit {0}
@@ -66,6 +66,6 @@ module _ {V : Type 0} where
   AreAlike ds bs = ⊥
 
   -- the base at place i is prepared as that of collection k, and the others are as they were
-  pub record OneIsPrepared (cs : List (CopyOf V)) (k i : ℕ) (before now : List (Base V)) : Type 0 where
+  pub record OneIsPrepared (cs : List (CopyOfCollection V)) (k i : ℕ) (before now : List (Base V)) : Type 0 where
     pub here : (b : Base V) → slice_get now i ≡ Some b → IsPrepared cs k b
     pub others : (j : ℕ) → j ≢ i → slice_get now j ≡ slice_get before j

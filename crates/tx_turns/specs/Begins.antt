@@ -5,7 +5,7 @@ use Rattle.seq_model.specs.declared.event.Request.{Request}
 use Rattle.seq_model.specs.declared.event.Request.TheVariants.{Begin, BeginRead}
 use Rattle.tx_table.specs.declared.seat.Seat.{Seat}
 use Rattle.tx_table.specs.declared.view.Turn.{Turn}
-use Rattle.tx_turns.specs.Requested.{requests_asked, requests_of, requests_taken}
+use Rattle.tx_turns.specs.RequestHistory.{requests_asked, requests_of, requests_taken}
 
 module _ {V : Type 0} where
   -- how many of these requests are begins

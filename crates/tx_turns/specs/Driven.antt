@@ -23,18 +23,18 @@ use Rattle.actor_parts.specs.declared.next.Next.TheVariants as next
 use Rattle.tx_actor.specs.Running.{notice_of}
 use Rattle.tx_actor.specs.declared.actor.Stage as own
 use Rattle.tx_actor.specs.declared.actor.Stage.TheVariants as stage
-use Rattle.tx_actor.specs.declared.actor.Told.{Told}
-use Rattle.tx_actor.specs.declared.actor.Told.TheVariants as told
+use Rattle.tx_actor.specs.declared.actor.ActorNotice.{ActorNotice}
+use Rattle.tx_actor.specs.declared.actor.ActorNotice.TheVariants as told
 use Rattle.tx_table.specs.declared.seat.Seat.{Seat}
 use Rattle.tx_table.specs.Seated.{IsSameSeat, actor, acts, view}
 use Rattle.tx_table.specs.Turns.{asked_all, lone}
 use Rattle.tx_table.specs.declared.view.Turn.{Turn}
-use Rattle.tx_turns.specs.Asked.{Starved}
+use Rattle.tx_turns.specs.RequestStep.{Starved}
 use Rattle.tx_turns.specs.Ties.{commits}
 use Rattle.tx_actor.specs.declared.actor.TxActor.{TxActor}
 use Rattle.actor_laws.specs.Courses.{ComesTo, latest}
-use Rattle.actor_laws.specs.Phases.{Phase, Rests, Begins, Stands, Calls, Commits, Ends, IsMistaken, phase}
-use Rattle.tx_turns.specs.Requested.{requests_of}
+use Rattle.actor_laws.specs.KnownStages.{KnownStage, Rests, Begins, Stands, Calls, Commits, Ends, IsMistaken, known_stage}
+use Rattle.tx_turns.specs.RequestHistory.{requests_of}
 
 -- a commit that has its number checks what it has read, or has done so: the number is no higher than this clock
 abbrev pub IsStampedAt : ℕ → Actor → Place → Type 0
@@ -68,7 +68,7 @@ is_still stage.Cancelling = true
 is_still s = false
 
 -- what was answered: nothing where it was quiet, else what was said
-abbrev pub told_in : {V : Type 0} → Bool → Told V → Told V
+abbrev pub told_in : {V : Type 0} → Bool → ActorNotice V → ActorNotice V
 told_in true n = told.Quiet
 told_in false n = n
 
@@ -115,8 +115,8 @@ module _ {V : Type 0} where
   seat_in o s = (acts o s).seats (actor s)
 
   -- and so where its transaction stands
-  abbrev pub standing : World V → Seat V → Phase V
-  standing o s = phase (seat_in o s)
+  abbrev pub standing : World V → Seat V → KnownStage V
+  standing o s = known_stage (seat_in o s)
 
   -- whether its transaction is a declared reader's
   abbrev pub is_declared : World V → Seat V → Bool
@@ -138,7 +138,7 @@ module _ {V : Type 0} where
     pub alike : Alike (actor s) v (asked_all (actor s) (lone (actor s) o ((view s).turns ++ before)) turn.asks)
 
   -- one of these turns, from such a world, answered this there
-  abbrev pub HasTold : World V → Seat V → Seat V → Told V → Type 0
+  abbrev pub HasTold : World V → Seat V → Seat V → ActorNotice V → Type 0
   HasTold o s u n = (v : World V) × IsTurnFrom o s u v × ((happens v (Step (actor s))).1 ≡ notice_of (actor s) n)
 
   -- one of these turns found this cause
@@ -163,7 +163,7 @@ module _ {V : Type 0} where
   -- What is answered to a request that stood so is true: a begin answers the clock that its seat knows by then, and a cause was found by
   -- one of its own turns, or is a failed allocation, and is one for which such a request is aborted. While nothing is answered, a
   -- transaction that is being aborted has noted such a cause. One that was aborted before is answered the cause that it had.
-  abbrev pub IsTrue : World V → Seat V → Seat V → Phase V → Told V → Type 0
+  abbrev pub IsTrue : World V → Seat V → Seat V → KnownStage V → ActorNotice V → Type 0
   IsTrue o s u Begins (told.Answered (answer.Begun rv)) = rv ≡ (view u).clock
   IsTrue o s u Begins (told.Refused cause) = IsExhausted o s u cause
   IsTrue o s u (Calls calls call) told.Quiet =
@@ -183,7 +183,7 @@ module _ {V : Type 0} where
   -- The record that was made says whether there were writes, and a commit without a record continues as it stood at this stage.
   abbrev pub IsWritten : Stage V → worlds.Seat V → Option (Record V) → Type 0
   IsWritten at x (Some r) = r.writes ≡ not (is_closing at)
-  IsWritten at x None = (calls : List (Call V × Reply V)) → phase x ≡ Commits calls → is_closing x.stage ≡ is_closing at
+  IsWritten at x None = (calls : List (Call V × Reply V)) → known_stage x ≡ Commits calls → is_closing x.stage ≡ is_closing at
 
   -- the seat of a commit under way knows its number, where it has one
   abbrev pub KnowsNumber : World V → Seat V → Type 0
@@ -197,7 +197,7 @@ module _ {V : Type 0} where
   -- The turns of a request from s on to u, the last of which answers n, leave the calls of its transaction while nothing is answered, and
   -- add no aborted transaction to those of the world with its actor alone; nor does a begin, nor turns after which there is a transaction,
   -- or one has committed. Where the last one answers why the transaction has ended, they add this one.
-  pub record AddsAborted (o : World V) (s u : Seat V) (n : Told V) : Type 0 where
+  pub record AddsAborted (o : World V) (s u : Seat V) (n : ActorNotice V) : Type 0 where
     pub calls : n ≡ told.Quiet → (standing o s ≡ Begins → ⊥) → (seat_in o u).calls ≡ (seat_in o s).calls
     pub quiet : n ≡ told.Quiet → (acts o u).aborted ≡ (acts o s).aborted
     pub begin : standing o s ≡ Begins → (acts o u).aborted ≡ (acts o s).aborted
@@ -210,7 +210,7 @@ module _ {V : Type 0} where
   -- The seat s took turns and is u, each but the last of which answered nothing; the last answers n. It has these turns more, and the
   -- receipt that they made, if any, and has loaded the clock at none but its turns, and its actor was asked nothing more; the definitions
   -- say what the request results in, and what is answered is true.
-  pub record Driven (o : World V) (s u : Seat V) (n : Told V) (d : Option (Record V)) : Type 0 where
+  pub record Driven (o : World V) (s u : Seat V) (n : ActorNotice V) (d : Option (Record V)) : Type 0 where
     pub seat : IsSameSeat s u
     pub more : List (Turn V)
     pub turns : (view u).turns ≡ (view s).turns ++ more
@@ -237,7 +237,7 @@ module _ {V : Type 0} where
 
   -- The seat u took turns that made no record, each but the last of which answered nothing, and is z; the last answers n. Those that led to
   -- u lead on to z so. Where the last answered nothing either the request is nearer to its answer.
-  pub record LeadsOn (o : World V) (u z : Seat V) (n : Told V) : Type 0 where
+  pub record LeadsOn (o : World V) (u z : Seat V) (n : ActorNotice V) : Type 0 where
     pub driven : (s : Seat V) (d : Option (Record V)) → Driven o s u told.Quiet d → Driven o s z n d
     pub nearer : n ≡ told.Quiet → left_in o z < left_in o u
 
@@ -247,5 +247,5 @@ module _ {V : Type 0} where
     pub before : Seat V
     pub driven : Driven o s before told.Quiet None
     pub wants : MayWant (seat_in o before).stage
-    pub said : Told V
+    pub said : ActorNotice V
     pub starved : Starved o before u said

@@ -1,12 +1,12 @@
-pub mod Dues
+pub mod NextStep
 pub mod Touches
 pub mod Ties
-pub mod Asked
+pub mod RequestStep
 pub mod Bases
 pub mod Own
 pub mod Laws
 pub mod Refused
-pub mod Requested
+pub mod RequestHistory
 pub mod Begins
 pub mod Driven
 pub mod Straight

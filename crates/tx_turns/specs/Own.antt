@@ -1,7 +1,7 @@
 -- What a seat has out of the table, and its actor of collections.
 use Rattle.std.specs.Prelude.{◌≡◌, List}
 use Rattle.replay_log.specs.declared.base.Base.{Base}
-use Rattle.tx_actor.specs.Having.{HasCopies}
+use Rattle.tx_actor.specs.CopiesByStage.{HasCopies}
 use Rattle.tx_actor.specs.declared.actor.TxActor.{TxActor}
 use Rattle.tx_table.specs.declared.seat.Seat.{Seat}
 use Rattle.tx_table.specs.declared.table.TxTable.{TxTable}

@@ -7,9 +7,9 @@ use Rattle.vlock_word.specs.declared.lock_word.LockWord.TheVariants.{Free, Locke
 use Rattle.step_core.specs.declared.actor.Place.{Place}
 use Rattle.tx_actor.specs.declared.actor.Stage as own
 use Rattle.tx_actor.specs.declared.actor.Stage.TheVariants as stage
-use Rattle.tx_actor.specs.declared.actor.Told.{Told}
+use Rattle.tx_actor.specs.declared.actor.ActorNotice.{ActorNotice}
 use Rattle.tx_actor.specs.declared.actor.TxActor.{TxActor}
-use Rattle.tx_actor.specs.declared.taking.Taken.{Taken}
+use Rattle.tx_actor.specs.declared.taking.KeyedCall.{KeyedCall}
 use Rattle.tx_actor.specs.Copying.{CanCopy}
 use Rattle.tx_actor.specs.Running.{at}
 use Rattle.tx_actor.specs.Taking.{IsTakenCall}
@@ -21,7 +21,7 @@ use Rattle.tx_turns.specs.Own.{HasOwn}
 use Rattle.tx_turns.specs.Driven.{Driven, LeadsOn, Stops}
 use Rattle.seq_model.specs.declared.record.Record.{Record}
 use Rattle.replay_log.specs.Seats.{World}
-use Rattle.tx_actor.specs.declared.actor.Told.TheVariants as told
+use Rattle.tx_actor.specs.declared.actor.ActorNotice.TheVariants as told
 
 -- A location that was read passes the check of a transaction that began at rv: its lock word is no newer, and it is free, or locked by the
 -- transaction itself, which has it in its write set.
@@ -46,24 +46,24 @@ module _ {V : Type 0} where
   at_place r p = record r { words = record r.words { place = p } }
 
   -- The seat s took turns that made no record, and is u now, which runs r; the last answered n, and none before it answered anything.
-  pub record HasLed (t : TxTable V) (s u : Seat V) (r : TxActor V) (n : Told V) (bs : List (Base V)) : Type 0 where
+  pub record HasLed (t : TxTable V) (s u : Seat V) (r : TxActor V) (n : ActorNotice V) (bs : List (Base V)) : Type 0 where
     pub ties : Ties t u r
     pub own : HasOwn t u r bs
     pub leads : LeadsOn (opening_of t) s u n
 
   -- Turns that led to the seat u, answered m and made this record, if any, lead on to z so.
-  abbrev pub LeadsFrom : World V → Seat V → Seat V → (m n : Told V) → (before now : Option (Record V)) → Type 0
+  abbrev pub LeadsFrom : World V → Seat V → Seat V → (m n : ActorNotice V) → (before now : Option (Record V)) → Type 0
   LeadsFrom o u z m n before now = (s : Seat V) → Driven o s u m before → Driven o s z n now
 
   -- and those that answered nothing
-  abbrev pub LeadsBy : World V → Seat V → Seat V → Told V → (before now : Option (Record V)) → Type 0
+  abbrev pub LeadsBy : World V → Seat V → Seat V → ActorNotice V → (before now : Option (Record V)) → Type 0
   LeadsBy o u z n before now = LeadsFrom o u z told.Quiet n before now
 
   -- and so whatever record they made, which is unchanged
-  abbrev pub LeadsAllFrom : World V → Seat V → Seat V → (m n : Told V) → Type 0
+  abbrev pub LeadsAllFrom : World V → Seat V → Seat V → (m n : ActorNotice V) → Type 0
   LeadsAllFrom o u z m n = (d : Option (Record V)) → LeadsFrom o u z m n d d
 
-  abbrev pub LeadsAll : World V → Seat V → Seat V → Told V → Type 0
+  abbrev pub LeadsAll : World V → Seat V → Seat V → ActorNotice V → Type 0
   LeadsAll o u z n = LeadsAllFrom o u z told.Quiet n
 
   -- or they stop there as an allocation fails
@@ -71,12 +71,12 @@ module _ {V : Type 0} where
   WantsBy o u z before = (s : Seat V) → Driven o s u told.Quiet before → Stops o s z
 
   -- Turns have led to the seat u that answered n and made this record.
-  abbrev pub IsLedTo : World V → Seat V → Told V → Option (Record V) → Type 0
+  abbrev pub IsLedTo : World V → Seat V → ActorNotice V → Option (Record V) → Type 0
   IsLedTo o u n d = (s : Seat V) × Driven o s u n d
 
   -- ---- a call whose gate is tried
   -- The seat s took turns that made no record, and is u now, which runs r; the last answered n, and none before it answered anything.
-  pub record HasDriven (t : TxTable V) (s u : Seat V) (r : TxActor V) (n : Told V) (bs : List (Base V)) : Type 0 where
+  pub record HasDriven (t : TxTable V) (s u : Seat V) (r : TxActor V) (n : ActorNotice V) (bs : List (Base V)) : Type 0 where
     pub ties : Ties t u r
     pub own : HasOwn t u r bs
     pub leads : LeadsAll (opening_of t) s u n
@@ -89,7 +89,7 @@ module _ {V : Type 0} where
 
   -- A seat whose actor held the gate of a call has put it back, and is m now. What the call touches was taken of the base before, so the
   -- actor is u.
-  pub record HasPut (t : TxTable V) (m : Seat V) (u : TxActor V) (p : Taken V) : Type 0 where
+  pub record HasPut (t : TxTable V) (m : Seat V) (u : TxActor V) (p : KeyedCall V) : Type 0 where
     pub seat : Seat V
     pub actor : TxActor V
     pub base : Base V

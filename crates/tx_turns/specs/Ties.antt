@@ -4,18 +4,18 @@ use Rattle.seq_model.specs.declared.record.Record.{Record}
 use Rattle.replay_log.specs.declared.base.Base.{Base}
 use Rattle.replay_log.specs.Seats.{World}
 use Rattle.actor_parts.specs.Blocks.{BlocksView}
-use Rattle.tx_actor.specs.Keeping.{IsRunning}
+use Rattle.tx_actor.specs.ActorBounds.{IsRunning}
 use Rattle.tx_actor.specs.Running.{Runs, notice_of, stage_of}
 use Rattle.tx_actor.specs.declared.actor.Stage.{Stage}
 use Rattle.tx_actor.specs.declared.actor.Stage.TheVariants as stage
-use Rattle.tx_actor.specs.declared.actor.Told.{Told}
+use Rattle.tx_actor.specs.declared.actor.ActorNotice.{ActorNotice}
 use Rattle.tx_actor.specs.declared.actor.TxActor.{TxActor}
 use Rattle.tx_table.specs.declared.seat.Seat.{Seat}
 use Rattle.tx_table.specs.declared.table.TxTable.{TxTable}
 use Rattle.tx_table.specs.Turns.{moved, spot}
 use Rattle.tx_table.specs.Shown.{IsReached, Slot}
 use Rattle.tx_table.specs.Seated.{Owns, Takes, actor, acts, blocks_in, opening_of, out, turned, view, words_in}
-use Rattle.actor_laws.specs.Spots.{Word}
+use Rattle.actor_laws.specs.StepTargets.{Word}
 use Rattle.tx_machine.specs.Cells.{ClockCell}
 use Rattle.actor_parts.specs.Dispatch.{next_of}
 use Rattle.actor_parts.specs.declared.next.Next.{Next}
@@ -53,7 +53,7 @@ module _ {V : Type 0} where
   -- The seat s, which runs r, took the turn that was next in the world with it alone, and became u: it found this, knows this clock, which
   -- is what a step on the clock left there, and has gained what the step commits. A step on a word leaves the bases that it has out. The
   -- definitions' step answers n.
-  pub record Turned (o : World V) (s : Seat V) (r : TxActor V) (u : Seat V) (n : Told V) : Type 0 where
+  pub record Turned (o : World V) (s : Seat V) (r : TxActor V) (u : Seat V) (n : ActorNotice V) : Type 0 where
     pub clock : ℕ
     pub found : ℕ
     pub base : Option (Base V)

@@ -1,12 +1,12 @@
 //! What the actor of a seat is asked. The seat keeps it until its next step takes it in.
 ghost use Rattle.std.specs.Prelude.{◌≡◌};
-ghost use Rattle.tx_actor.specs.Having.{KeepsCopies};
+ghost use Rattle.tx_actor.specs.CopiesByStage.{KeepsCopies};
 ghost use Rattle.tx_table.specs.Seated.{opening_of};
-ghost use Rattle.tx_turns.specs.Asked.{HasAsked, Starved};
+ghost use Rattle.tx_turns.specs.RequestStep.{HasAsked, Starved};
 ghost use Rattle.tx_turns.specs.Ties.{Ties};
 
 use seq_model::{Event, Request, Value};
-use tx_actor::{Stage, Told, TxActor};
+use tx_actor::{ActorNotice, Stage, TxActor};
 use tx_table::{Seat, TxTable};
 
 /// A transaction is to begin.
@@ -19,7 +19,7 @@ pub fn ask_begin<V: Value>(table: &TxTable<V>, seat: &mut Seat<V>, actor: &mut T
 {
     let _ = table;
     seat.ask(&Event::Ask(0, Request::Begin));
-    let _ = actor.begins();
+    let _ = actor.start();
 }
 
 /// A transaction that writes nothing is to begin.
@@ -32,7 +32,7 @@ pub fn ask_begin_read<V: Value>(table: &TxTable<V>, seat: &mut Seat<V>, actor: &
 {
     let _ = table;
     seat.ask(&Event::Ask(0, Request::BeginRead));
-    let _ = actor.begins_to_read();
+    let _ = actor.start_reader();
 }
 
 /// The transaction is to end without a commit.
@@ -45,7 +45,7 @@ pub fn ask_abort<V: Value>(table: &TxTable<V>, seat: &mut Seat<V>, actor: &mut T
 {
     let _ = table;
     seat.ask(&Event::Ask(0, Request::Abort));
-    let _ = actor.asks_to_abort();
+    let _ = actor.request_abort();
 }
 
 /// An allocation fails for the request under way. A begin is refused at once; any other is aborted for it, up to its first value store.
@@ -53,7 +53,7 @@ pub(crate) fn starve<V: Value>(
     table: &TxTable<V>,
     seat: &mut Seat<V>,
     actor: &mut TxActor<V>,
-) -> Told<V>
+) -> ActorNotice<V>
     requires ties { Ties table.now seat.old actor.old }
     ensures starved { Starved (opening_of table.now) seat.old seat.new result }
     ensures ties { Ties table.now seat.new actor.new }
@@ -61,5 +61,5 @@ pub(crate) fn starve<V: Value>(
 {
     let _ = table;
     seat.ask(&Event::Starve(0));
-    actor.starves()
+    actor.on_starve()
 }

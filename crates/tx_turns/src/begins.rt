@@ -15,7 +15,7 @@ use actor_parts::word_laws::steps_as_worlds;
 use replay_log::Base;
 use seq_model::Value;
 use step_core::Place;
-use tx_actor::{Stage, Told, TxActor};
+use tx_actor::{ActorNotice, Stage, TxActor};
 use tx_table::{Seat, TxTable};
 
 /// Whether a transaction is to begin.
@@ -37,7 +37,7 @@ fn begin_on<V: Value>(
     seat: &mut Seat<V>,
     actor: &mut TxActor<V>,
     bases: &[Boxed<Base<V>>],
-) -> Told<V>
+) -> ActorNotice<V>
     requires ties { Ties table.now seat.old actor.old }
     requires own { HasOwn table.now seat.old actor.old bases.now }
     requires small { AreSmall (blocks_in table.now) }
@@ -50,23 +50,23 @@ fn begin_on<V: Value>(
     let _ = bases;
     let clock = table.load_clock(seat);
     let told = actor.words.begin(clock);
-    actor.stepped(told)
+    actor.on_step(told)
 }
 
 /// The step by which a transaction begins, where one is to begin. It always answers something, so the result is false then.
 #[inline(always)]
-pub(crate) fn begun_on<V: Value>(
+pub(crate) fn begin_next<V: Value>(
     table: &TxTable<V>,
     seat: &mut Seat<V>,
     actor: &mut TxActor<V>,
     bases: &[Boxed<Base<V>>],
-    said: &mut Told<V>,
+    said: &mut ActorNotice<V>,
 ) -> bool
     requires ties { Ties table.now seat.old actor.old }
     requires own { HasOwn table.now seat.old actor.old bases.now }
     requires small { AreSmall (blocks_in table.now) }
     ensures leads { LeadsAll (opening_of table.now) seat.old seat.new (told_in result said.new) }
-    ensures answered { result ≡ false → said.new ≢ Told.Quiet }
+    ensures answered { result ≡ false → said.new ≢ ActorNotice.Quiet }
     ensures ties { Ties table.now seat.new actor.new }
     ensures own { HasOwn table.now seat.new actor.new bases.now }
 {

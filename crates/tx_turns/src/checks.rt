@@ -17,7 +17,7 @@ use actor_parts::word_laws::steps_as_worlds;
 use replay_log::Base;
 use seq_model::Value;
 use step_core::{Actor, Place};
-use tx_actor::{Stage, Told, TxActor};
+use tx_actor::{ActorNotice, Stage, TxActor};
 use tx_table::{Seat, TxTable};
 use vlock_word::LockWord;
 
@@ -64,13 +64,13 @@ fn check_on<V: Value>(
     actor: &mut TxActor<V>,
     bases: &[Boxed<Base<V>>],
     i: usize,
-) -> Result<(), Told<V>>
+) -> Result<(), ActorNotice<V>>
     requires ties { Ties table.now seat.old (at_place actor.old (Check i)) }
     requires own { HasOwn table.now seat.old (at_place actor.old (Check i)) bases.now }
     requires small { AreSmall (blocks_in table.now) }
     requires stage { is_locking actor.old.stage ≡ true }
     requires left { i + 1 < length actor.old.words.reads.entries }
-    ensures led { OnOk result (HasLed table.now seat.old seat.new (at_place actor.new (Check (i + 1))) Told.Quiet bases.now) }
+    ensures led { OnOk result (HasLed table.now seat.old seat.new (at_place actor.new (Check (i + 1))) ActorNotice.Quiet bases.now) }
     ensures stage { OnOk result (actor.new.stage ≡ actor.old.stage) }
     ensures reads { OnOk result (actor.new.words.reads ≡ actor.old.words.reads) }
     ensures invalid { IfErr result (λ told. HasLed table.now seat.old seat.new actor.new told bases.now) }
@@ -85,7 +85,7 @@ fn check_on<V: Value>(
     }
     actor.words.place = Place::Check(i);
     let told = actor.words.check(location, i, found);
-    Err(actor.stepped(told))
+    Err(actor.on_step(told))
 }
 
 /// The check of the last location, and what the actor makes of it.
@@ -96,7 +96,7 @@ fn check_last<V: Value>(
     actor: &mut TxActor<V>,
     bases: &[Boxed<Base<V>>],
     i: usize,
-) -> Told<V>
+) -> ActorNotice<V>
     requires ties { Ties table.now seat.old (at_place actor.old (Check i)) }
     requires own { HasOwn table.now seat.old (at_place actor.old (Check i)) bases.now }
     requires small { AreSmall (blocks_in table.now) }
@@ -111,18 +111,18 @@ fn check_last<V: Value>(
     let found = table.load_lock(seat, location);
     actor.words.place = Place::Check(i);
     let told = actor.words.check(location, i, found);
-    actor.stepped(told)
+    actor.on_step(told)
 }
 
 /// The checks that are left, from the one at `first` on. Between them the actor is unchanged.
 #[inline(always)]
-fn checks_on<V: Value>(
+fn check_each<V: Value>(
     table: &TxTable<V>,
     seat: &mut Seat<V>,
     actor: &mut TxActor<V>,
     bases: &[Boxed<Base<V>>],
     first: usize,
-    said: &mut Told<V>,
+    said: &mut ActorNotice<V>,
 ) -> bool
     requires ties { Ties table.now seat.old actor.old }
     requires own { HasOwn table.now seat.old actor.old bases.now }
@@ -131,7 +131,7 @@ fn checks_on<V: Value>(
     requires place { actor.old.words.place ≡ Check first }
     requires inside { first < length actor.old.words.reads.entries }
     ensures leads { LeadsOn (opening_of table.now) seat.old seat.new (told_in result said.new) }
-    ensures answered { result ≡ false → said.new ≢ Told.Quiet }
+    ensures answered { result ≡ false → said.new ≢ ActorNotice.Quiet }
     ensures ties { Ties table.now seat.new actor.new }
     ensures own { HasOwn table.now seat.new actor.new bases.now }
 {
@@ -149,23 +149,23 @@ fn checks_on<V: Value>(
 
 /// The checks that are left, where there are some.
 #[inline(always)]
-pub(crate) fn checked_on<V: Value>(
+pub(crate) fn check_left<V: Value>(
     table: &TxTable<V>,
     seat: &mut Seat<V>,
     actor: &mut TxActor<V>,
     bases: &[Boxed<Base<V>>],
-    said: &mut Told<V>,
+    said: &mut ActorNotice<V>,
 ) -> bool
     requires ties { Ties table.now seat.old actor.old }
     requires own { HasOwn table.now seat.old actor.old bases.now }
     requires small { AreSmall (blocks_in table.now) }
     ensures leads { LeadsAll (opening_of table.now) seat.old seat.new (told_in result said.new) }
-    ensures answered { result ≡ false → said.new ≢ Told.Quiet }
+    ensures answered { result ≡ false → said.new ≢ ActorNotice.Quiet }
     ensures ties { Ties table.now seat.new actor.new }
     ensures own { HasOwn table.now seat.new actor.new bases.now }
 {
     match check_to_make(actor) {
-        Some(i) => checks_on(table, seat, actor, bases, i, said),
+        Some(i) => check_each(table, seat, actor, bases, i, said),
         None => true,
     }
 }

@@ -14,16 +14,16 @@ ghost use Rattle.tx_turns.specs.Own.{HasOwn};
 ghost use Rattle.tx_turns.specs.Driven.{told_in};
 ghost use Rattle.tx_turns.specs.Straight.{LeadsAll, LeadsBy, WantsBy};
 
-use crate::checks::checked_on;
-use crate::locks::locked_on;
-use crate::releases::released_on;
-use crate::stores::stored_on;
+use crate::checks::check_left;
+use crate::locks::lock_left;
+use crate::releases::release_left;
+use crate::stores::store_left;
 use crate::turns::{home_next, keep, report, store_next, try_next};
 use actor_parts::{Boxed, Next, at_place};
 use replay_log::Base;
 use seq_model::{Memory, Record, Value};
 use std::alloc::Global;
-use tx_actor::{Stage, Told, TxActor};
+use tx_actor::{ActorNotice, Stage, TxActor};
 use tx_table::{Seat, TxTable};
 
 /// The gate that a commit is to try.
@@ -45,13 +45,13 @@ fn gates_on<V: Value>(
     seat: &mut Seat<V>,
     actor: &mut TxActor<V>,
     bases: &mut Vec<Boxed<Base<V>>>,
-    said: &mut Told<V>,
+    said: &mut ActorNotice<V>,
 ) -> Result<bool, Memory>
     requires ties { Ties table.now seat.old actor.old }
     requires own { HasOwn table.now seat.old actor.old bases.old.items }
     requires small { AreSmall (blocks_in table.now) }
     ensures leads { IfOk result (λ quiet. LeadsAll (opening_of table.now) seat.old seat.new (told_in quiet said.new)) }
-    ensures answered { IfOk result (λ quiet. quiet ≡ false → said.new ≢ Told.Quiet) }
+    ensures answered { IfOk result (λ quiet. quiet ≡ false → said.new ≢ ActorNotice.Quiet) }
     ensures ties { Ties table.now seat.new actor.new }
     ensures own { HasOwn table.now seat.new actor.new bases.new.items }
     ensures wants { OnErr result ((d : Option (Made V)) → WantsBy (opening_of table.now) seat.old seat.new d) }
@@ -81,13 +81,13 @@ fn first_stored_on<V: Value>(
     seat: &mut Seat<V>,
     actor: &mut TxActor<V>,
     bases: &mut Vec<Boxed<Base<V>>>,
-    said: &mut Told<V>,
+    said: &mut ActorNotice<V>,
     made: &mut Option<Record<V>>,
 ) -> Result<bool, Memory>
     requires ties { Ties table.now seat.old actor.old }
     requires own { HasOwn table.now seat.old actor.old bases.old.items }
     ensures leads { IfOk result (λ quiet. LeadsBy (opening_of table.now) seat.old seat.new (told_in quiet said.new) made.old made.new) }
-    ensures answered { IfOk result (λ quiet. quiet ≡ false → said.new ≢ Told.Quiet) }
+    ensures answered { IfOk result (λ quiet. quiet ≡ false → said.new ≢ ActorNotice.Quiet) }
     ensures ties { Ties table.now seat.new actor.new }
     ensures own { HasOwn table.now seat.new actor.new bases.new.items }
     ensures wants { OnErr result (WantsBy (opening_of table.now) seat.old seat.new made.old) }
@@ -122,13 +122,13 @@ fn homes_on<V: Value>(
     seat: &mut Seat<V>,
     actor: &mut TxActor<V>,
     bases: &mut Vec<Boxed<Base<V>>>,
-    said: &mut Told<V>,
+    said: &mut ActorNotice<V>,
 ) -> bool
     requires ties { Ties table.now seat.old actor.old }
     requires own { HasOwn table.now seat.old actor.old bases.old.items }
     requires small { AreSmall (blocks_in table.now) }
     ensures leads { LeadsAll (opening_of table.now) seat.old seat.new (told_in result said.new) }
-    ensures answered { result ≡ false → said.new ≢ Told.Quiet }
+    ensures answered { result ≡ false → said.new ≢ ActorNotice.Quiet }
     ensures ties { Ties table.now seat.new actor.new }
     ensures own { HasOwn table.now seat.new actor.new bases.new.items }
 {
@@ -149,23 +149,23 @@ pub(crate) fn commit_on<V: Value>(
     seat: &mut Seat<V>,
     actor: &mut TxActor<V>,
     bases: &mut Vec<Boxed<Base<V>>>,
-    said: &mut Told<V>,
+    said: &mut ActorNotice<V>,
     made: &mut Option<Record<V>>,
 ) -> Result<bool, Memory>
     requires ties { Ties table.now seat.old actor.old }
     requires own { HasOwn table.now seat.old actor.old bases.old.items }
     requires small { AreSmall (blocks_in table.now) }
     ensures leads { IfOk result (λ quiet. LeadsBy (opening_of table.now) seat.old seat.new (told_in quiet said.new) made.old made.new) }
-    ensures answered { IfOk result (λ quiet. quiet ≡ false → said.new ≢ Told.Quiet) }
+    ensures answered { IfOk result (λ quiet. quiet ≡ false → said.new ≢ ActorNotice.Quiet) }
     ensures ties { Ties table.now seat.new actor.new }
     ensures own { HasOwn table.now seat.new actor.new bases.new.items }
     ensures wants { OnErr result (WantsBy (opening_of table.now) seat.old seat.new made.old) }
 {
     // the locks of what was written, and the number of the commit
-    if !locked_on(table, seat, actor, bases.as_slice(), said) {
+    if !lock_left(table, seat, actor, bases.as_slice(), said) {
         return Ok(false);
     }
-    if !checked_on(table, seat, actor, bases.as_slice(), said) {
+    if !check_left(table, seat, actor, bases.as_slice(), said) {
         return Ok(false);
     }
     if !gates_on(table, seat, actor, bases, said)? {
@@ -174,11 +174,11 @@ pub(crate) fn commit_on<V: Value>(
     if !first_stored_on(alloc, table, seat, actor, bases, said, made)? {
         return Ok(false);
     }
-    if !stored_on(table, seat, actor, bases.as_slice(), said) {
+    if !store_left(table, seat, actor, bases.as_slice(), said) {
         return Ok(false);
     }
     if !homes_on(table, seat, actor, bases, said) {
         return Ok(false);
     }
-    Ok(released_on(table, seat, actor, bases.as_slice(), said))
+    Ok(release_left(table, seat, actor, bases.as_slice(), said))
 }

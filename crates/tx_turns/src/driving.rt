@@ -5,13 +5,13 @@ ghost use Rattle.replay_log.specs.WorldProgress.{AreSmall};
 ghost use Rattle.tx_table.specs.Seated.{blocks_in, opening_of};
 ghost use Rattle.actor_laws.specs.Courses.{IsUnderWay};
 ghost use Rattle.tx_actor.specs.Running.{stage_of};
-ghost use Rattle.actor_laws.specs.Phases.{Ends};
+ghost use Rattle.actor_laws.specs.KnownStages.{Ends};
 ghost use Rattle.tx_turns.specs.Ties.{Ties};
 ghost use Rattle.tx_turns.specs.Own.{HasOwn};
 ghost use Rattle.tx_turns.specs.Driven.{Driven, IsOnGate, seat_in, standing, told_in};
 ghost use Rattle.tx_turns.specs.Straight.{IsLedTo, LeadsBy, LeadsFrom, WantsBy};
 
-use crate::begins::begun_on;
+use crate::begins::begin_next;
 use crate::commits::commit_on;
 use crate::reads::steps_on;
 use crate::turns::{report, step, turn_apart, turn_on_gate};
@@ -19,7 +19,7 @@ use actor_parts::{Boxed, Next};
 use replay_log::Base;
 use seq_model::{Memory, Record, Value};
 use std::alloc::Global;
-use tx_actor::{Stage, Told, TxActor};
+use tx_actor::{ActorNotice, Stage, TxActor};
 use tx_table::{Seat, TxTable};
 
 /// Whether the next turn is a step on the words that makes no receipt.
@@ -52,15 +52,15 @@ fn advance<V: Value>(
     seat: &mut Seat<V>,
     actor: &mut TxActor<V>,
     bases: &mut Vec<Boxed<Base<V>>>,
-    said: &mut Told<V>,
+    said: &mut ActorNotice<V>,
     kept: &mut Option<Record<V>>,
 ) -> Result<(), Memory>
     requires ties { Ties table.now seat.old actor.old }
     requires own { HasOwn table.now seat.old actor.old bases.old.items }
     requires small { AreSmall (blocks_in table.now) }
-    requires come { IsLedTo (opening_of table.now) seat.old Told.Quiet kept.old }
+    requires come { IsLedTo (opening_of table.now) seat.old ActorNotice.Quiet kept.old }
     ensures leads { OnOk result (LeadsBy (opening_of table.now) seat.old seat.new said.new kept.old kept.new) }
-    ensures answered { OnOk result (said.new ≢ Told.Quiet) }
+    ensures answered { OnOk result (said.new ≢ ActorNotice.Quiet) }
     ensures ties { Ties table.now seat.new actor.new }
     ensures own { HasOwn table.now seat.new actor.new bases.new.items }
     ensures wants { OnErr result (WantsBy (opening_of table.now) seat.old seat.new kept.old) }
@@ -101,17 +101,17 @@ pub(crate) fn give_up<V: Value>(
     seat: &mut Seat<V>,
     actor: &mut TxActor<V>,
     bases: &mut Vec<Boxed<Base<V>>>,
-) -> Told<V>
+) -> ActorNotice<V>
     requires ties { Ties table.now seat.old actor.old }
     requires own { HasOwn table.now seat.old actor.old bases.old.items }
     requires small { AreSmall (blocks_in table.now) }
     requires ends { standing (opening_of table.now) seat.old ≡ Ends }
     ensures driven { Driven (opening_of table.now) seat.old seat.new result None }
-    ensures answered { result ≢ Told.Quiet }
+    ensures answered { result ≢ ActorNotice.Quiet }
     ensures ties { Ties table.now seat.new actor.new }
     ensures own { HasOwn table.now seat.new actor.new bases.new.items }
 {
-    let mut said = Told::Quiet;
+    let mut said = ActorNotice::Quiet;
     let mut kept = None;
     match advance(alloc, table, seat, actor, bases, &mut said, &mut kept) {
         Ok(()) => said,
@@ -128,17 +128,17 @@ fn finish_from<V: Value>(
     actor: &mut TxActor<V>,
     bases: &mut Vec<Boxed<Base<V>>>,
     made: Option<Record<V>>,
-) -> (Told<V>, Option<Record<V>>)
+) -> (ActorNotice<V>, Option<Record<V>>)
     requires ties { Ties table.now seat.old actor.old }
     requires own { HasOwn table.now seat.old actor.old bases.old.items }
     requires small { AreSmall (blocks_in table.now) }
-    requires come { IsLedTo (opening_of table.now) seat.old Told.Quiet made }
+    requires come { IsLedTo (opening_of table.now) seat.old ActorNotice.Quiet made }
     ensures leads { LeadsBy (opening_of table.now) seat.old seat.new result.0 made result.1 }
-    ensures answered { result.0 ≢ Told.Quiet }
+    ensures answered { result.0 ≢ ActorNotice.Quiet }
     ensures ties { Ties table.now seat.new actor.new }
     ensures own { HasOwn table.now seat.new actor.new [] }
 {
-    let mut said = Told::Quiet;
+    let mut said = ActorNotice::Quiet;
     let mut kept = made;
     match advance(alloc, table, seat, actor, bases, &mut said, &mut kept) {
         Ok(()) => (said, kept),
@@ -155,16 +155,16 @@ pub(crate) fn finish_after<V: Value>(
     actor: &mut TxActor<V>,
     bases: &mut Vec<Boxed<Base<V>>>,
     quiet: bool,
-    said: Told<V>,
+    said: ActorNotice<V>,
     made: Option<Record<V>>,
-) -> (Told<V>, Option<Record<V>>)
+) -> (ActorNotice<V>, Option<Record<V>>)
     requires ties { Ties table.now seat.old actor.old }
     requires own { HasOwn table.now seat.old actor.old bases.old.items }
     requires small { AreSmall (blocks_in table.now) }
     requires come { IsLedTo (opening_of table.now) seat.old (told_in quiet said) made }
-    requires answered { quiet ≡ false → said ≢ Told.Quiet }
+    requires answered { quiet ≡ false → said ≢ ActorNotice.Quiet }
     ensures leads { LeadsFrom (opening_of table.now) seat.old seat.new (told_in quiet said) result.0 made result.1 }
-    ensures answered { result.0 ≢ Told.Quiet }
+    ensures answered { result.0 ≢ ActorNotice.Quiet }
     ensures ties { Ties table.now seat.new actor.new }
     ensures own { HasOwn table.now seat.new actor.new [] }
 {
@@ -182,17 +182,17 @@ fn commit_through<V: Value>(
     seat: &mut Seat<V>,
     actor: &mut TxActor<V>,
     bases: &mut Vec<Boxed<Base<V>>>,
-) -> (Told<V>, Option<Record<V>>)
+) -> (ActorNotice<V>, Option<Record<V>>)
     requires ties { Ties table.now seat.old actor.old }
     requires own { HasOwn table.now seat.old actor.old bases.old.items }
     requires small { AreSmall (blocks_in table.now) }
     requires under { IsUnderWay (seat_in (opening_of table.now) seat.old) (seat_in (opening_of table.now) seat.old) None }
     ensures driven { Driven (opening_of table.now) seat.old seat.new result.0 result.1 }
-    ensures answered { result.0 ≢ Told.Quiet }
+    ensures answered { result.0 ≢ ActorNotice.Quiet }
     ensures ties { Ties table.now seat.new actor.new }
     ensures own { HasOwn table.now seat.new actor.new [] }
 {
-    let mut said = Told::Quiet;
+    let mut said = ActorNotice::Quiet;
     let mut made = None;
     match commit_on(alloc, table, seat, actor, bases, &mut said, &mut made) {
         Ok(quiet) => finish_after(alloc, table, seat, actor, bases, quiet, said, made),
@@ -216,19 +216,19 @@ fn close_through<V: Value>(
     seat: &mut Seat<V>,
     actor: &mut TxActor<V>,
     bases: &mut Vec<Boxed<Base<V>>>,
-) -> (Told<V>, Option<Record<V>>)
+) -> (ActorNotice<V>, Option<Record<V>>)
     requires ties { Ties table.now seat.old actor.old }
     requires own { HasOwn table.now seat.old actor.old bases.old.items }
     requires small { AreSmall (blocks_in table.now) }
     requires under { IsUnderWay (seat_in (opening_of table.now) seat.old) (seat_in (opening_of table.now) seat.old) None }
     requires due { next_of (stage_of actor.old.stage) ≡ Next.Word }
     ensures driven { Driven (opening_of table.now) seat.old seat.new result.0 result.1 }
-    ensures answered { result.0 ≢ Told.Quiet }
+    ensures answered { result.0 ≢ ActorNotice.Quiet }
     ensures ties { Ties table.now seat.new actor.new }
     ensures own { HasOwn table.now seat.new actor.new [] }
 {
     let (told, made) = step(alloc, table, seat, actor, bases.as_slice());
-    let mut said = Told::Quiet;
+    let mut said = ActorNotice::Quiet;
     let quiet = report(told, &mut said);
     finish_after(alloc, table, seat, actor, bases, quiet, said, made)
 }
@@ -243,13 +243,13 @@ pub fn drive<V: Value>(
     seat: &mut Seat<V>,
     actor: &mut TxActor<V>,
     bases: &mut Vec<Boxed<Base<V>>>,
-) -> (Told<V>, Option<Record<V>>)
+) -> (ActorNotice<V>, Option<Record<V>>)
     requires ties { Ties table.now seat.old actor.old }
     requires own { HasOwn table.now seat.old actor.old [] }
     requires small { AreSmall (blocks_in table.now) }
     requires under { IsUnderWay (seat_in (opening_of table.now) seat.old) (seat_in (opening_of table.now) seat.old) None }
     ensures driven { Driven (opening_of table.now) seat.old seat.new result.0 result.1 }
-    ensures answered { result.0 ≢ Told.Quiet }
+    ensures answered { result.0 ≢ ActorNotice.Quiet }
     ensures ties { Ties table.now seat.new actor.new }
     ensures own { HasOwn table.now seat.new actor.new [] }
 {
@@ -265,19 +265,19 @@ pub(crate) fn finish_told<V: Value>(
     seat: &mut Seat<V>,
     actor: &mut TxActor<V>,
     bases: &mut Vec<Boxed<Base<V>>>,
-    told: Told<V>,
-) -> (Told<V>, Option<Record<V>>)
+    told: ActorNotice<V>,
+) -> (ActorNotice<V>, Option<Record<V>>)
     requires ties { Ties table.now seat.old actor.old }
     requires own { HasOwn table.now seat.old actor.old bases.old.items }
     requires small { AreSmall (blocks_in table.now) }
     requires come { IsLedTo (opening_of table.now) seat.old told None }
     ensures leads { LeadsFrom (opening_of table.now) seat.old seat.new told result.0 None result.1 }
-    ensures answered { result.0 ≢ Told.Quiet }
+    ensures answered { result.0 ≢ ActorNotice.Quiet }
     ensures ties { Ties table.now seat.new actor.new }
     ensures own { HasOwn table.now seat.new actor.new [] }
 {
     match told {
-        Told::Quiet => finish_from(alloc, table, seat, actor, bases, None),
+        ActorNotice::Quiet => finish_from(alloc, table, seat, actor, bases, None),
         told => (told, None),
     }
 }
@@ -290,13 +290,13 @@ pub fn drive_commit<V: Value>(
     seat: &mut Seat<V>,
     actor: &mut TxActor<V>,
     bases: &mut Vec<Boxed<Base<V>>>,
-) -> (Told<V>, Option<Record<V>>)
+) -> (ActorNotice<V>, Option<Record<V>>)
     requires ties { Ties table.now seat.old actor.old }
     requires own { HasOwn table.now seat.old actor.old [] }
     requires small { AreSmall (blocks_in table.now) }
     requires under { IsUnderWay (seat_in (opening_of table.now) seat.old) (seat_in (opening_of table.now) seat.old) None }
     ensures driven { Driven (opening_of table.now) seat.old seat.new result.0 result.1 }
-    ensures answered { result.0 ≢ Told.Quiet }
+    ensures answered { result.0 ≢ ActorNotice.Quiet }
     ensures ties { Ties table.now seat.new actor.new }
     ensures own { HasOwn table.now seat.new actor.new [] }
 {
@@ -315,18 +315,18 @@ pub fn drive_begin<V: Value>(
     seat: &mut Seat<V>,
     actor: &mut TxActor<V>,
     bases: &mut Vec<Boxed<Base<V>>>,
-) -> (Told<V>, Option<Record<V>>)
+) -> (ActorNotice<V>, Option<Record<V>>)
     requires ties { Ties table.now seat.old actor.old }
     requires own { HasOwn table.now seat.old actor.old [] }
     requires small { AreSmall (blocks_in table.now) }
     requires under { IsUnderWay (seat_in (opening_of table.now) seat.old) (seat_in (opening_of table.now) seat.old) None }
     ensures driven { Driven (opening_of table.now) seat.old seat.new result.0 result.1 }
-    ensures answered { result.0 ≢ Told.Quiet }
+    ensures answered { result.0 ≢ ActorNotice.Quiet }
     ensures ties { Ties table.now seat.new actor.new }
     ensures own { HasOwn table.now seat.new actor.new [] }
 {
     bases.clear();
-    let mut said = Told::Quiet;
-    let quiet = begun_on(table, seat, actor, bases.as_slice(), &mut said);
+    let mut said = ActorNotice::Quiet;
+    let quiet = begin_next(table, seat, actor, bases.as_slice(), &mut said);
     finish_after(alloc, table, seat, actor, bases, quiet, said, None)
 }

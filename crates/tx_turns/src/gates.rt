@@ -3,23 +3,23 @@ ghost use Rattle.std.specs.Prelude.{◌≡◌, ◌<◌, ◌∷◌, IfOk, OnErr, 
 ghost use Rattle.seq_model.specs.declared.event.Event.TheVariants.{Starve};
 ghost use Rattle.actor_parts.specs.Dispatch.{next_of};
 ghost use Rattle.tx_actor.specs.Running.{stage_of};
-ghost use Rattle.tx_actor.specs.declared.actor.Told.TheVariants as told;
+ghost use Rattle.tx_actor.specs.declared.actor.ActorNotice.TheVariants as told;
 ghost use Rattle.tx_table.specs.Seated.{blocks_in, opening_of};
-ghost use Rattle.tx_turns.specs.Asked.{HasTaken, Starved};
+ghost use Rattle.tx_turns.specs.RequestStep.{HasTaken, Starved};
 ghost use Rattle.tx_turns.specs.Ties.{Ties, Turned};
 ghost use Rattle.tx_turns.specs.Own.{HasOwn};
 ghost use Rattle.tx_turns.specs.Refused.{IsGivenUp};
 
 use actor_parts::word_laws::steps_as_worlds;
-use actor_parts::{Boxed, Next, copied_as_worlds, copies_go_on, copies_stay, sizes_copies};
+use actor_parts::{Boxed, Next, copies_go_on, copies_stay, excerpts_as_worlds, sizes_copies};
 use replay_log::Base;
 use seq_model::{Event, Memory, Value};
 use std::alloc::Global;
 use std::hint::spin_loop;
 use std::thread::yield_now;
-use tx_actor::laws::{copied_stay_own, copies_by_stage, copies_stay_own};
+use tx_actor::laws::{copies_by_stage, copies_stay_own, taken_parts_are_own};
 use tx_actor::turn_laws::events_keep_copies;
-use tx_actor::{Stage, Told, TxActor};
+use tx_actor::{ActorNotice, Stage, TxActor};
 use tx_table::{Seat, TxTable};
 
 /// The first base in hand.
@@ -93,7 +93,7 @@ pub fn try_gate<V: Value>(
     actor: &mut TxActor<V>,
     bases: &mut Vec<Boxed<Base<V>>>,
     k: u32,
-) -> Result<Told<V>, Memory>
+) -> Result<ActorNotice<V>, Memory>
     requires ties { Ties table.now seat.old actor.old }
     requires own { HasOwn table.now seat.old actor.old bases.old.items }
     requires due { next_of (stage_of actor.old.stage) ≡ Next.TryGate k }
@@ -112,11 +112,11 @@ pub fn try_gate<V: Value>(
     match table.take_gate(seat, k) {
         Some(base) => {
             bases.push_reserved(base);
-            Ok(actor.tried_gate(true))
+            Ok(actor.on_gate_tried(true))
         }
         None => {
             wait(table, &actor.stage, k);
-            Ok(actor.tried_gate(false))
+            Ok(actor.on_gate_tried(false))
         }
     }
 }
@@ -129,7 +129,7 @@ pub fn put_gate<V: Value>(
     actor: &mut TxActor<V>,
     bases: &mut Vec<Boxed<Base<V>>>,
     k: u32,
-) -> Told<V>
+) -> ActorNotice<V>
     requires ties { Ties table.now seat.old actor.old }
     requires own { HasOwn table.now seat.old actor.old bases.old.items }
     requires due { next_of (stage_of actor.old.stage) ≡ Next.PutGate k }
@@ -142,7 +142,7 @@ pub fn put_gate<V: Value>(
     copies_by_stage::<V>();
     let base = first(bases);
     table.put_gate(seat, k, base);
-    actor.put_gate()
+    actor.on_gate_put()
 }
 
 /// Like [`copy_base`], of a call for which all is made ready before the gate is put back: where there is no memory for it no step is taken.
@@ -154,7 +154,7 @@ fn copy_here<V: Value>(
     actor: &mut TxActor<V>,
     bases: &mut Vec<Boxed<Base<V>>>,
     k: u32,
-) -> Result<Told<V>, Memory>
+) -> Result<ActorNotice<V>, Memory>
     requires ties { Ties table.now seat.old actor.old }
     requires own { HasOwn table.now seat.old actor.old bases.old.items }
     requires due { next_of (stage_of actor.old.stage) ≡ Next.Copy k }
@@ -164,15 +164,15 @@ fn copy_here<V: Value>(
     ensures starved { OnErr result (Starved (opening_of table.now) seat.old seat.new told.Quiet) }
 {
     steps_as_worlds::<V>();
-    copied_as_worlds::<V>();
+    excerpts_as_worlds::<V>();
     copies_go_on::<V>();
     sizes_copies::<V>();
     copies_stay::<V>();
     copies_by_stage::<V>();
     copies_stay_own::<V>();
-    copied_stay_own::<V>();
+    taken_parts_are_own::<V>();
     events_keep_copies::<V>();
-    match actor.copied(alloc, table.blocks(), front(bases)) {
+    match actor.copy_at_gate(alloc, table.blocks(), front(bases)) {
         Ok(told) => {
             let base = first(bases);
             table.put_gate(seat, k, base);
@@ -198,7 +198,7 @@ pub fn copy_base<V: Value>(
     actor: &mut TxActor<V>,
     bases: &mut Vec<Boxed<Base<V>>>,
     k: u32,
-) -> Result<Told<V>, Memory>
+) -> Result<ActorNotice<V>, Memory>
     requires ties { Ties table.now seat.old actor.old }
     requires own { HasOwn table.now seat.old actor.old bases.old.items }
     requires due { next_of (stage_of actor.old.stage) ≡ Next.Copy k }
@@ -208,20 +208,20 @@ pub fn copy_base<V: Value>(
     ensures starved { OnErr result (IsGivenUp (opening_of table.now) seat.old actor.old seat.new told.Quiet) }
 {
     steps_as_worlds::<V>();
-    copied_as_worlds::<V>();
+    excerpts_as_worlds::<V>();
     copies_go_on::<V>();
     sizes_copies::<V>();
     copies_stay::<V>();
     copies_by_stage::<V>();
     copies_stay_own::<V>();
-    copied_stay_own::<V>();
+    taken_parts_are_own::<V>();
     events_keep_copies::<V>();
     let blocks = table.blocks();
     match actor.takes(alloc, blocks, front(bases)) {
         Ok(Some(taken)) => {
             let base = first(bases);
             table.put_gate(seat, k, base);
-            match actor.goes_on_taken(alloc, blocks, taken) {
+            match actor.continue_or_wait(alloc, blocks, taken) {
                 Ok(told) => Ok(told),
                 Err(_) => {
                     refuse(seat);

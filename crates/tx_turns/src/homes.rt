@@ -17,7 +17,7 @@ use std::alloc::Global;
 use std::collections::VecDeque;
 use tx_actor::laws::copies_by_stage;
 use tx_actor::turn_laws::events_keep_copies;
-use tx_actor::{Stage, Told, TxActor};
+use tx_actor::{ActorNotice, Stage, TxActor};
 use tx_table::{Seat, TxTable};
 
 fn prepare_base<V: Value>(
@@ -70,7 +70,7 @@ pub fn commit<V: Value>(
     seat: &mut Seat<V>,
     actor: &mut TxActor<V>,
     bases: &mut Vec<Boxed<Base<V>>>,
-) -> Result<(Told<V>, Record<V>), Memory>
+) -> Result<(ActorNotice<V>, Record<V>), Memory>
     requires ties { Ties table.now seat.old actor.old }
     requires own { HasOwn table.now seat.old actor.old bases.old.items }
     requires due { next_of (stage_of actor.old.stage) ≡ Next.FirstStore }
@@ -101,7 +101,7 @@ pub fn go_home<V: Value>(
     actor: &mut TxActor<V>,
     bases: &mut Vec<Boxed<Base<V>>>,
     k: u32,
-) -> Told<V>
+) -> ActorNotice<V>
     requires ties { Ties table.now seat.old actor.old }
     requires own { HasOwn table.now seat.old actor.old bases.old.items }
     requires due { next_of (stage_of actor.old.stage) ≡ Next.GoHome k }
@@ -117,5 +117,5 @@ pub fn go_home<V: Value>(
     let mut base = first(bases);
     actor.folds(k, base.get_mut());
     table.put_gate(seat, k, base);
-    actor.went_home()
+    actor.on_base_returned()
 }

@@ -8,7 +8,7 @@ ghost use Rattle.std.specs.Vec.{vec_capacity, vec_len};
 ghost use Rattle.replay_log.specs.WorldProgress.{AreSmall};
 ghost use Rattle.step_core.specs.declared.actor.Place.TheVariants.{Again, Fetch, Look};
 ghost use Rattle.tx_actor.specs.Running.{at};
-ghost use Rattle.tx_actor.specs.declared.actor.Told.TheVariants as told;
+ghost use Rattle.tx_actor.specs.declared.actor.ActorNotice.TheVariants as told;
 ghost use Rattle.tx_table.specs.Seated.{blocks_in, opening_of};
 ghost use Rattle.actor_laws.specs.Courses.{IsUnderWay};
 ghost use Rattle.tx_turns.specs.Ties.{Ties};
@@ -21,7 +21,7 @@ use crate::driving::{finish_after, finish_told, give_up};
 use crate::gates::{refuse, wait};
 use crate::reads::word_read_on;
 use actor_parts::word_laws::steps_as_worlds;
-use actor_parts::{Boxed, copied_as_worlds, copies_go_on, copies_stay, sizes_copies};
+use actor_parts::{Boxed, copies_go_on, copies_stay, excerpts_as_worlds, sizes_copies};
 use replay_log::Base;
 use seq_model::{Memory, Record, Value};
 use std::alloc::Global;
@@ -29,11 +29,11 @@ use std::collections::VecDeque;
 use std::mem;
 use step_core::Place;
 use tx_actor::laws::{
-    copied_stay_own, copies_by_stage, copies_stay_own, free_gates_are_held, loads_as_worlds,
-    loads_keep_running, loads_stay_own, seats_as_actors,
+    copies_by_stage, copies_stay_own, free_gates_are_held, loads_as_worlds, loads_keep_running,
+    loads_stay_own, seats_as_actors, taken_parts_are_own,
 };
 use tx_actor::turn_laws::events_keep_copies;
-use tx_actor::{Answered, Asking, Stage, Taken, Told, TxActor, Waiting};
+use tx_actor::{ActorNotice, CallInHand, CallWithOutcome, KeyedCall, Stage, TxActor, WaitingCall};
 use tx_table::{Seat, TxTable};
 use vlock_word::LockWord;
 
@@ -45,7 +45,7 @@ fn is_trying<V>(stage: &Stage<V>) -> bool {
 
 /// The call whose gate is to be tried, with the tries that are left after this one, taken out of its actor.
 #[inline(always)]
-pub(crate) fn call_to_try<V: Value>(actor: &mut TxActor<V>) -> Option<(Asking<V>, u32)>
+pub(crate) fn call_to_try<V: Value>(actor: &mut TxActor<V>) -> Option<(CallInHand<V>, u32)>
     ensures some { IfSome result (λ x. actor.old ≡ at actor.new (Stage.Trying x.0 x.1)) }
     ensures idle { IfSome result (λ x. actor.new.stage ≡ Stage.Idle) }
     ensures none { IfNone result (actor.new ≡ actor.old) }
@@ -69,12 +69,12 @@ fn again_key<V: Value>(
     table: &TxTable<V>,
     seat: &mut Seat<V>,
     actor: &mut TxActor<V>,
-    call: Boxed<Answered<V>>,
+    call: Boxed<CallWithOutcome<V>>,
     left: VecDeque<(u32, u64)>,
     location: u32,
     version: u64,
     value: u64,
-) -> Told<V>
+) -> ActorNotice<V>
     requires ties { Ties table.now seat.old (at_place (at actor.old (Stage.Loading call left)) (Again location version value)) }
     requires own { HasOwn table.now seat.old (at_place (at actor.old (Stage.Loading call left)) (Again location version value)) [] }
     requires small { AreSmall (blocks_in table.now) }
@@ -91,11 +91,11 @@ fn again_key<V: Value>(
     match actor.words.again(location, version, value, found) {
         Ok(told) => {
             let _ = told;
-            actor.has_found(call, left, value)
+            actor.on_found(call, left, value)
         }
         Err(cause) => {
             actor.stage = Stage::Loading(call, left);
-            actor.loaded(Err(cause))
+            actor.on_load_step(Err(cause))
         }
     }
 }
@@ -106,11 +106,11 @@ fn fetch_key<V: Value>(
     table: &TxTable<V>,
     seat: &mut Seat<V>,
     actor: &mut TxActor<V>,
-    call: Boxed<Answered<V>>,
+    call: Boxed<CallWithOutcome<V>>,
     left: VecDeque<(u32, u64)>,
     location: u32,
     version: u64,
-) -> Told<V>
+) -> ActorNotice<V>
     requires ties { Ties table.now seat.old (at_place (at actor.old (Stage.Loading call left)) (Fetch location version)) }
     requires own { HasOwn table.now seat.old (at_place (at actor.old (Stage.Loading call left)) (Fetch location version)) [] }
     requires small { AreSmall (blocks_in table.now) }
@@ -133,10 +133,10 @@ fn look_key<V: Value>(
     table: &TxTable<V>,
     seat: &mut Seat<V>,
     actor: &mut TxActor<V>,
-    call: Boxed<Answered<V>>,
+    call: Boxed<CallWithOutcome<V>>,
     left: VecDeque<(u32, u64)>,
     location: u32,
-) -> Told<V>
+) -> ActorNotice<V>
     requires ties { Ties table.now seat.old (at_place (at actor.old (Stage.Loading call left)) (Look location)) }
     requires own { HasOwn table.now seat.old (at_place (at actor.old (Stage.Loading call left)) (Look location)) [] }
     requires small { AreSmall (blocks_in table.now) }
@@ -157,7 +157,7 @@ fn look_key<V: Value>(
     actor.words.place = Place::Look(location);
     actor.stage = Stage::Loading(call, left);
     let told = actor.words.look(location, found);
-    actor.loaded(told)
+    actor.on_load_step(told)
 }
 
 /// The gate of a call whose key was taken has been put back: the call is made ready, and continues.
@@ -167,8 +167,8 @@ fn go_key<V: Value>(
     table: &TxTable<V>,
     seat: &mut Seat<V>,
     actor: &mut TxActor<V>,
-    taken: Taken<V>,
-) -> Result<Told<V>, Memory>
+    taken: KeyedCall<V>,
+) -> Result<ActorNotice<V>, Memory>
     requires put { HasPut table.now seat.old actor.old taken }
     requires small { AreSmall (blocks_in table.now) }
     ensures led { IfOk result (λ told. (h : HasPut table.now seat.old actor.old taken) →
@@ -177,17 +177,17 @@ fn go_key<V: Value>(
         HasStopped table.now h.seat seat.new actor.new []) }
 {
     steps_as_worlds::<V>();
-    copied_as_worlds::<V>();
+    excerpts_as_worlds::<V>();
     copies_go_on::<V>();
     sizes_copies::<V>();
     copies_stay::<V>();
     copies_by_stage::<V>();
     copies_stay_own::<V>();
-    copied_stay_own::<V>();
-    let mut said = Told::Quiet;
-    match actor.goes_on_key(alloc, table.blocks(), taken, &mut said) {
+    taken_parts_are_own::<V>();
+    let mut said = ActorNotice::Quiet;
+    match actor.continue_keyed(alloc, table.blocks(), taken, &mut said) {
         Ok(Some(waiting)) => {
-            let Waiting {
+            let WaitingCall {
                 call,
                 left,
                 location,
@@ -211,9 +211,9 @@ fn take_key<V: Value>(
     seat: &mut Seat<V>,
     actor: &mut TxActor<V>,
     bases: &mut Vec<Boxed<Base<V>>>,
-    asked: Asking<V>,
+    asked: CallInHand<V>,
     base: Boxed<Base<V>>,
-) -> Result<Told<V>, Memory>
+) -> Result<ActorNotice<V>, Memory>
     requires ties { Ties table.now seat.old (at actor.old (Stage.Copying asked)) }
     requires own { HasOwn table.now seat.old (at actor.old (Stage.Copying asked)) (base ∷ []) }
     requires small { AreSmall (blocks_in table.now) }
@@ -224,7 +224,7 @@ fn take_key<V: Value>(
     ensures stopped { OnErr result (HasStopped table.now seat.old seat.new actor.new bases.new.items) }
 {
     steps_as_worlds::<V>();
-    copied_as_worlds::<V>();
+    excerpts_as_worlds::<V>();
     copies_go_on::<V>();
     sizes_copies::<V>();
     copies_stay::<V>();
@@ -240,7 +240,7 @@ fn take_key<V: Value>(
         }
         Ok(None) => {
             bases.push_reserved(base);
-            Ok(Told::Quiet)
+            Ok(ActorNotice::Quiet)
         }
         Err(_) => {
             bases.push_reserved(base);
@@ -258,9 +258,9 @@ fn gate_key<V: Value>(
     seat: &mut Seat<V>,
     actor: &mut TxActor<V>,
     bases: &mut Vec<Boxed<Base<V>>>,
-    asked: Asking<V>,
+    asked: CallInHand<V>,
     tries: u32,
-) -> Result<Told<V>, Memory>
+) -> Result<ActorNotice<V>, Memory>
     requires ties { Ties table.now seat.old (at actor.old (Stage.Trying asked tries)) }
     requires own { HasOwn table.now seat.old (at actor.old (Stage.Trying asked tries)) [] }
     requires small { AreSmall (blocks_in table.now) }
@@ -280,7 +280,7 @@ fn gate_key<V: Value>(
         None => {
             actor.stage = Stage::Trying(asked, tries);
             wait(table, &actor.stage, k);
-            Ok(actor.tried_gate(false))
+            Ok(actor.on_gate_tried(false))
         }
     }
 }
@@ -294,9 +294,9 @@ pub(crate) fn key_on<V: Value>(
     seat: &mut Seat<V>,
     actor: &mut TxActor<V>,
     bases: &mut Vec<Boxed<Base<V>>>,
-    asked: Asking<V>,
+    asked: CallInHand<V>,
     tries: u32,
-) -> Result<Told<V>, Memory>
+) -> Result<ActorNotice<V>, Memory>
     requires ties { Ties table.now seat.old (at actor.old (Stage.Trying asked tries)) }
     requires own { HasOwn table.now seat.old (at actor.old (Stage.Trying asked tries)) [] }
     requires small { AreSmall (blocks_in table.now) }
@@ -325,9 +325,9 @@ fn key_through<V: Value>(
     seat: &mut Seat<V>,
     actor: &mut TxActor<V>,
     bases: &mut Vec<Boxed<Base<V>>>,
-    asked: Asking<V>,
+    asked: CallInHand<V>,
     tries: u32,
-) -> (Told<V>, Option<Record<V>>)
+) -> (ActorNotice<V>, Option<Record<V>>)
     requires ties { Ties table.now seat.old (at actor.old (Stage.Trying asked tries)) }
     requires own { HasOwn table.now seat.old (at actor.old (Stage.Trying asked tries)) [] }
     requires small { AreSmall (blocks_in table.now) }
@@ -335,7 +335,7 @@ fn key_through<V: Value>(
     requires none { bases.old.items ≡ [] }
     requires under { IsUnderWay (seat_in (opening_of table.now) seat.old) (seat_in (opening_of table.now) seat.old) None }
     ensures driven { Driven (opening_of table.now) seat.old seat.new result.0 result.1 }
-    ensures answered { result.0 ≢ Told.Quiet }
+    ensures answered { result.0 ≢ ActorNotice.Quiet }
     ensures ties { Ties table.now seat.new actor.new }
     ensures own { HasOwn table.now seat.new actor.new [] }
 {
@@ -353,17 +353,17 @@ fn word_through<V: Value>(
     seat: &mut Seat<V>,
     actor: &mut TxActor<V>,
     bases: &mut Vec<Boxed<Base<V>>>,
-) -> (Told<V>, Option<Record<V>>)
+) -> (ActorNotice<V>, Option<Record<V>>)
     requires ties { Ties table.now seat.old actor.old }
     requires own { HasOwn table.now seat.old actor.old bases.old.items }
     requires small { AreSmall (blocks_in table.now) }
     requires under { IsUnderWay (seat_in (opening_of table.now) seat.old) (seat_in (opening_of table.now) seat.old) None }
     ensures driven { Driven (opening_of table.now) seat.old seat.new result.0 result.1 }
-    ensures answered { result.0 ≢ Told.Quiet }
+    ensures answered { result.0 ≢ ActorNotice.Quiet }
     ensures ties { Ties table.now seat.new actor.new }
     ensures own { HasOwn table.now seat.new actor.new [] }
 {
-    let mut said = Told::Quiet;
+    let mut said = ActorNotice::Quiet;
     let quiet = word_read_on(table, seat, actor, bases.as_slice(), &mut said);
     finish_after(alloc, table, seat, actor, bases, quiet, said, None)
 }
@@ -376,13 +376,13 @@ pub fn drive_call<V: Value>(
     seat: &mut Seat<V>,
     actor: &mut TxActor<V>,
     bases: &mut Vec<Boxed<Base<V>>>,
-) -> (Told<V>, Option<Record<V>>)
+) -> (ActorNotice<V>, Option<Record<V>>)
     requires ties { Ties table.now seat.old actor.old }
     requires own { HasOwn table.now seat.old actor.old [] }
     requires small { AreSmall (blocks_in table.now) }
     requires under { IsUnderWay (seat_in (opening_of table.now) seat.old) (seat_in (opening_of table.now) seat.old) None }
     ensures driven { Driven (opening_of table.now) seat.old seat.new result.0 result.1 }
-    ensures answered { result.0 ≢ Told.Quiet }
+    ensures answered { result.0 ≢ ActorNotice.Quiet }
     ensures ties { Ties table.now seat.new actor.new }
     ensures own { HasOwn table.now seat.new actor.new [] }
 {

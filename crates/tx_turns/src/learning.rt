@@ -2,7 +2,7 @@
 ghost use Rattle.std.specs.Prelude.{◌≡◌, ℕ, ◌+◌, ◌<◌, ◌≤◌, ◌^◌, length};
 ghost use Rattle.step_core.specs.Sound.{Fits, IsLoad, KeepsRoom};
 ghost use Rattle.step_core.specs.declared.actor.Place.TheVariants.{Check, First, Lock, Release, Store, Take, Undo};
-ghost use Rattle.tx_turns.specs.Dues.{HasClock, Learns};
+ghost use Rattle.tx_turns.specs.NextStep.{HasClock, Learns};
 
 use step_core::{Actor, Place, WordAnswer, WordRefusal};
 

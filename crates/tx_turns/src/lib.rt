@@ -5,7 +5,7 @@
 //! one, and what the actor makes of what was found there: it keeps the tie, answers what the definitions answer, and the seat gains what
 //! the step commits. No lock stands round the table, and no step waits.
 //!
-//! - **Words.** The place at which the word actor stands says which load, store, compare_exchange or fetch_add is next (`next_due`). What
+//! - **Words.** The place at which the word actor stands says which load, store, compare_exchange or fetch_add is next (`next_step`). What
 //!   it makes of itself depends on the number that the step found, and on nothing else (`learn`).
 //! - **Gates.** While its actor holds a gate, a seat has the base of that collection out, and its thread has it in hand: one after the other,
 //!   in the order in which their gates were taken (`specs/Own.antt`). The try of a gate takes its base out; the store of the gate puts it

@@ -14,7 +14,7 @@ use seq_model::Value;
 use tx_actor::laws::{
     copies_by_stage, loads_as_worlds, loads_keep_running, loads_stay_own, seats_as_actors,
 };
-use tx_actor::{Told, TxActor};
+use tx_actor::{ActorNotice, TxActor};
 use tx_table::{Seat, TxTable};
 
 /// The next step of an actor's words while the locations of its call are read: with the copied edition the call continues, and is accepted
@@ -24,7 +24,7 @@ pub fn load_word<V: Value>(
     seat: &mut Seat<V>,
     actor: &mut TxActor<V>,
     bases: &[Boxed<Base<V>>],
-) -> Told<V>
+) -> ActorNotice<V>
     requires ties { Ties table.now seat.old actor.old }
     requires own { HasOwn table.now seat.old actor.old bases.now }
     requires loading { is_loading (stage_of actor.old.stage) ≡ true }
@@ -41,5 +41,5 @@ pub fn load_word<V: Value>(
     copies_by_stage::<V>();
     let _ = bases;
     let told = step_words(table, seat, &mut actor.words);
-    actor.loaded(told)
+    actor.on_load_step(told)
 }

@@ -19,7 +19,7 @@ use step_core::Place;
 use tx_actor::laws::{
     copies_by_stage, loads_as_worlds, loads_keep_running, loads_stay_own, seats_as_actors,
 };
-use tx_actor::{Stage, Told, TxActor};
+use tx_actor::{ActorNotice, Stage, TxActor};
 use tx_table::{Seat, TxTable};
 use vlock_word::LockWord;
 
@@ -47,13 +47,13 @@ fn look_for<V: Value>(
     actor: &mut TxActor<V>,
     bases: &[Boxed<Base<V>>],
     location: u32,
-) -> Result<u64, Told<V>>
+) -> Result<u64, ActorNotice<V>>
     requires ties { Ties table.now seat.old (at_place actor.old (Look location)) }
     requires own { HasOwn table.now seat.old (at_place actor.old (Look location)) bases.now }
     requires small { AreSmall (blocks_in table.now) }
     requires loading { is_loading (stage_of actor.old.stage) ≡ true }
     ensures actor { IfOk result (λ version. actor.new ≡ actor.old) }
-    ensures led { IfOk result (λ version. HasLed table.now seat.old seat.new (at_place actor.old (Fetch location version)) Told.Quiet bases.now) }
+    ensures led { IfOk result (λ version. HasLed table.now seat.old seat.new (at_place actor.old (Fetch location version)) ActorNotice.Quiet bases.now) }
     ensures moved { IfErr result (λ told. HasLed table.now seat.old seat.new actor.new told bases.now) }
 {
     steps_as_worlds::<V>();
@@ -71,7 +71,7 @@ fn look_for<V: Value>(
     }
     actor.words.place = Place::Look(location);
     let told = actor.words.look(location, found);
-    Err(actor.loaded(told))
+    Err(actor.on_load_step(told))
 }
 
 /// The load of its value.
@@ -88,7 +88,7 @@ fn fetch_for<V: Value>(
     requires own { HasOwn table.now seat.old (at_place actor.now (Fetch location version)) bases.now }
     requires small { AreSmall (blocks_in table.now) }
     requires loading { is_loading (stage_of actor.now.stage) ≡ true }
-    ensures { HasLed table.now seat.old seat.new (at_place actor.now (Again location version result)) Told.Quiet bases.now }
+    ensures { HasLed table.now seat.old seat.new (at_place actor.now (Again location version result)) ActorNotice.Quiet bases.now }
 {
     steps_as_worlds::<V>();
     seats_as_actors::<V>();
@@ -112,7 +112,7 @@ fn again_for<V: Value>(
     location: u32,
     version: u64,
     value: u64,
-) -> Told<V>
+) -> ActorNotice<V>
     requires ties { Ties table.now seat.old (at_place actor.old (Again location version value)) }
     requires own { HasOwn table.now seat.old (at_place actor.old (Again location version value)) bases.now }
     requires small { AreSmall (blocks_in table.now) }
@@ -129,7 +129,7 @@ fn again_for<V: Value>(
     let found = table.load_lock(seat, location);
     actor.words.place = Place::Again(location, version, value);
     let told = actor.words.again(location, version, value, found);
-    actor.loaded(told)
+    actor.on_load_step(told)
 }
 
 /// The three loads of a location that a call reads, one atomic step each. They answer nothing where others have changed the location, so
@@ -142,7 +142,7 @@ pub(crate) fn load_on<V: Value>(
     actor: &mut TxActor<V>,
     bases: &[Boxed<Base<V>>],
     location: u32,
-    said: &mut Told<V>,
+    said: &mut ActorNotice<V>,
 ) -> bool
     requires ties { Ties table.now seat.old actor.old }
     requires own { HasOwn table.now seat.old actor.old bases.now }
@@ -150,7 +150,7 @@ pub(crate) fn load_on<V: Value>(
     requires loading { is_loading (stage_of actor.old.stage) ≡ true }
     requires place { actor.old.words.place ≡ Look location }
     ensures leads { LeadsOn (opening_of table.now) seat.old seat.new (told_in result said.new) }
-    ensures answered { result ≡ false → said.new ≢ Told.Quiet }
+    ensures answered { result ≡ false → said.new ≢ ActorNotice.Quiet }
     ensures ties { Ties table.now seat.new actor.new }
     ensures own { HasOwn table.now seat.new actor.new bases.now }
 {

@@ -15,7 +15,7 @@ use actor_parts::word_laws::steps_as_worlds;
 use replay_log::Base;
 use seq_model::Value;
 use step_core::{Place, WordRefusal};
-use tx_actor::{Stage, Told, TxActor};
+use tx_actor::{ActorNotice, Stage, TxActor};
 use tx_table::{Seat, TxTable};
 use vlock_word::LockWord;
 
@@ -42,14 +42,14 @@ fn seek_on<V: Value>(
     actor: &mut TxActor<V>,
     bases: &[Boxed<Base<V>>],
     i: usize,
-) -> Result<(u32, u64), Told<V>>
+) -> Result<(u32, u64), ActorNotice<V>>
     requires ties { Ties table.now seat.old (at_place actor.old (Lock i)) }
     requires own { HasOwn table.now seat.old (at_place actor.old (Lock i)) bases.now }
     requires small { AreSmall (blocks_in table.now) }
     requires stage { is_locking actor.old.stage ≡ true }
     requires inside { i < length actor.old.words.writes.entries }
     ensures actor { IfOk result (λ e. actor.new ≡ actor.old) }
-    ensures led { IfOk result (λ e. HasLed table.now seat.old seat.new (at_place actor.old (Take e.0 e.1 (i + 1))) Told.Quiet bases.now) }
+    ensures led { IfOk result (λ e. HasLed table.now seat.old seat.new (at_place actor.old (Take e.0 e.1 (i + 1))) ActorNotice.Quiet bases.now) }
     ensures busy { IfErr result (λ told. HasLed table.now seat.old seat.new actor.new told bases.now) }
 {
     steps_as_worlds::<V>();
@@ -62,7 +62,7 @@ fn seek_on<V: Value>(
     }
     actor.words.place = Place::Lock(i);
     let told = actor.words.to_lock(location, i, found);
-    Err(actor.stepped(told))
+    Err(actor.on_step(told))
 }
 
 /// The lock is taken, where its word is as it was found.
@@ -75,12 +75,12 @@ fn take_on<V: Value>(
     location: u32,
     version: u64,
     i: usize,
-) -> Result<(), Told<V>>
+) -> Result<(), ActorNotice<V>>
     requires ties { Ties table.now seat.old (at_place actor.old (Take location version i)) }
     requires own { HasOwn table.now seat.old (at_place actor.old (Take location version i)) bases.now }
     requires small { AreSmall (blocks_in table.now) }
     requires stage { is_locking actor.old.stage ≡ true }
-    ensures led { OnOk result (HasLed table.now seat.old seat.new (at_place actor.new (Lock i)) Told.Quiet bases.now) }
+    ensures led { OnOk result (HasLed table.now seat.old seat.new (at_place actor.new (Lock i)) ActorNotice.Quiet bases.now) }
     ensures stage { OnOk result (actor.new.stage ≡ actor.old.stage) }
     ensures writes { OnOk result (actor.new.words.writes ≡ actor.old.words.writes) }
     ensures busy { IfErr result (λ told. HasLed table.now seat.old seat.new actor.new told bases.now) }
@@ -96,7 +96,7 @@ fn take_on<V: Value>(
         }
         Some(word) => {
             actor.words.place = Place::Broken;
-            Err(actor.stepped(Err(WordRefusal::Busy { location, word })))
+            Err(actor.on_step(Err(WordRefusal::Busy { location, word })))
         }
     }
 }
@@ -109,13 +109,13 @@ fn lock_on<V: Value>(
     actor: &mut TxActor<V>,
     bases: &[Boxed<Base<V>>],
     i: usize,
-) -> Result<(), Told<V>>
+) -> Result<(), ActorNotice<V>>
     requires ties { Ties table.now seat.old (at_place actor.old (Lock i)) }
     requires own { HasOwn table.now seat.old (at_place actor.old (Lock i)) bases.now }
     requires small { AreSmall (blocks_in table.now) }
     requires stage { is_locking actor.old.stage ≡ true }
     requires inside { i < length actor.old.words.writes.entries }
-    ensures led { OnOk result (HasLed table.now seat.old seat.new (at_place actor.new (Lock (i + 1))) Told.Quiet bases.now) }
+    ensures led { OnOk result (HasLed table.now seat.old seat.new (at_place actor.new (Lock (i + 1))) ActorNotice.Quiet bases.now) }
     ensures stage { OnOk result (actor.new.stage ≡ actor.old.stage) }
     ensures writes { OnOk result (actor.new.words.writes ≡ actor.old.words.writes) }
     ensures busy { IfErr result (λ told. HasLed table.now seat.old seat.new actor.new told bases.now) }
@@ -134,7 +134,7 @@ fn stamp_on<V: Value>(
     actor: &mut TxActor<V>,
     bases: &[Boxed<Base<V>>],
     i: usize,
-) -> Told<V>
+) -> ActorNotice<V>
     requires ties { Ties table.now seat.old (at_place actor.old (Lock i)) }
     requires own { HasOwn table.now seat.old (at_place actor.old (Lock i)) bases.now }
     requires small { AreSmall (blocks_in table.now) }
@@ -148,19 +148,19 @@ fn stamp_on<V: Value>(
     let clock = table.stamp(seat);
     actor.words.place = Place::Lock(i);
     let told = actor.words.stamp(clock + 1);
-    actor.stepped(told)
+    actor.on_step(told)
 }
 
 /// The locks that are left to take, from the one at `first` on, and then the number of the commit. Between the steps the actor only gets
 /// the locks that it holds.
 #[inline(always)]
-fn locks_on<V: Value>(
+fn lock_each<V: Value>(
     table: &TxTable<V>,
     seat: &mut Seat<V>,
     actor: &mut TxActor<V>,
     bases: &[Boxed<Base<V>>],
     first: usize,
-    said: &mut Told<V>,
+    said: &mut ActorNotice<V>,
 ) -> bool
     requires ties { Ties table.now seat.old actor.old }
     requires own { HasOwn table.now seat.old actor.old bases.now }
@@ -168,7 +168,7 @@ fn locks_on<V: Value>(
     requires stage { is_locking actor.old.stage ≡ true }
     requires place { actor.old.words.place ≡ Lock first }
     ensures leads { LeadsOn (opening_of table.now) seat.old seat.new (told_in result said.new) }
-    ensures answered { result ≡ false → said.new ≢ Told.Quiet }
+    ensures answered { result ≡ false → said.new ≢ ActorNotice.Quiet }
     ensures ties { Ties table.now seat.new actor.new }
     ensures own { HasOwn table.now seat.new actor.new bases.now }
 {
@@ -186,23 +186,23 @@ fn locks_on<V: Value>(
 
 /// The locks that are left to take and the number of the commit, where these come next.
 #[inline(always)]
-pub(crate) fn locked_on<V: Value>(
+pub(crate) fn lock_left<V: Value>(
     table: &TxTable<V>,
     seat: &mut Seat<V>,
     actor: &mut TxActor<V>,
     bases: &[Boxed<Base<V>>],
-    said: &mut Told<V>,
+    said: &mut ActorNotice<V>,
 ) -> bool
     requires ties { Ties table.now seat.old actor.old }
     requires own { HasOwn table.now seat.old actor.old bases.now }
     requires small { AreSmall (blocks_in table.now) }
     ensures leads { LeadsAll (opening_of table.now) seat.old seat.new (told_in result said.new) }
-    ensures answered { result ≡ false → said.new ≢ Told.Quiet }
+    ensures answered { result ≡ false → said.new ≢ ActorNotice.Quiet }
     ensures ties { Ties table.now seat.new actor.new }
     ensures own { HasOwn table.now seat.new actor.new bases.now }
 {
     match lock_to_take(actor) {
-        Some(first) => locks_on(table, seat, actor, bases, first, said),
+        Some(first) => lock_each(table, seat, actor, bases, first, said),
         None => true,
     }
 }

@@ -12,16 +12,16 @@ ghost use Rattle.tx_turns.specs.Straight.{HasLed, LeadsAll, at_place};
 
 use crate::laws::turns_keep_own;
 use crate::loads::{load_on, location_to_load};
-use crate::releases::{has_locks, releases_on};
+use crate::releases::{has_locks, release_each};
 use crate::steps;
-use crate::stores::{stores_on, value_to_store};
+use crate::stores::{store_each, value_to_store};
 use crate::turns::report;
 use actor_parts::word_laws::steps_as_worlds;
 use actor_parts::{Boxed, Next};
 use replay_log::Base;
 use seq_model::Value;
 use step_core::Place;
-use tx_actor::{Stage, Told, TxActor};
+use tx_actor::{ActorNotice, Stage, TxActor};
 use tx_table::{Seat, TxTable};
 use vlock_word::LockWord;
 
@@ -54,13 +54,13 @@ fn look_on<V: Value>(
     actor: &mut TxActor<V>,
     bases: &[Boxed<Base<V>>],
     word: u32,
-) -> Result<u64, Told<V>>
+) -> Result<u64, ActorNotice<V>>
     requires ties { Ties table.now seat.old (at_place actor.old (Look word)) }
     requires own { HasOwn table.now seat.old (at_place actor.old (Look word)) bases.now }
     requires small { AreSmall (blocks_in table.now) }
     requires stage { actor.old.stage ≡ Stage.Reading word }
     ensures actor { IfOk result (λ version. actor.new ≡ actor.old) }
-    ensures led { IfOk result (λ version. HasLed table.now seat.old seat.new (at_place actor.old (Fetch word version)) Told.Quiet bases.now) }
+    ensures led { IfOk result (λ version. HasLed table.now seat.old seat.new (at_place actor.old (Fetch word version)) ActorNotice.Quiet bases.now) }
     ensures moved { IfErr result (λ told. HasLed table.now seat.old seat.new actor.new told bases.now) }
 {
     steps_as_worlds::<V>();
@@ -74,7 +74,7 @@ fn look_on<V: Value>(
     }
     actor.words.place = Place::Look(word);
     let told = actor.words.look(word, found);
-    Err(actor.stepped(told))
+    Err(actor.on_step(told))
 }
 
 /// The load of its value.
@@ -91,7 +91,7 @@ fn fetch_on<V: Value>(
     requires own { HasOwn table.now seat.old (at_place actor.now (Fetch word version)) bases.now }
     requires small { AreSmall (blocks_in table.now) }
     requires stage { actor.now.stage ≡ Stage.Reading word }
-    ensures { HasLed table.now seat.old seat.new (at_place actor.now (Again word version result)) Told.Quiet bases.now }
+    ensures { HasLed table.now seat.old seat.new (at_place actor.now (Again word version result)) ActorNotice.Quiet bases.now }
 {
     steps_as_worlds::<V>();
     turns_keep_own::<V>();
@@ -111,7 +111,7 @@ fn again_on<V: Value>(
     word: u32,
     version: u64,
     value: u64,
-) -> Told<V>
+) -> ActorNotice<V>
     requires ties { Ties table.now seat.old (at_place actor.old (Again word version value)) }
     requires own { HasOwn table.now seat.old (at_place actor.old (Again word version value)) bases.now }
     requires small { AreSmall (blocks_in table.now) }
@@ -128,7 +128,7 @@ fn again_on<V: Value>(
             let _ = told;
             actor.read(word, value)
         }
-        Err(cause) => actor.stepped(Err(cause)),
+        Err(cause) => actor.on_step(Err(cause)),
     }
 }
 
@@ -141,7 +141,7 @@ fn read_on<V: Value>(
     actor: &mut TxActor<V>,
     bases: &[Boxed<Base<V>>],
     word: u32,
-    said: &mut Told<V>,
+    said: &mut ActorNotice<V>,
 ) -> bool
     requires ties { Ties table.now seat.old actor.old }
     requires own { HasOwn table.now seat.old actor.old bases.now }
@@ -149,7 +149,7 @@ fn read_on<V: Value>(
     requires stage { actor.old.stage ≡ Stage.Reading word }
     requires place { actor.old.words.place ≡ Look word }
     ensures leads { LeadsOn (opening_of table.now) seat.old seat.new (told_in result said.new) }
-    ensures answered { result ≡ false → said.new ≢ Told.Quiet }
+    ensures answered { result ≡ false → said.new ≢ ActorNotice.Quiet }
     ensures ties { Ties table.now seat.new actor.new }
     ensures own { HasOwn table.now seat.new actor.new bases.now }
 {
@@ -172,13 +172,13 @@ pub(crate) fn word_read_on<V: Value>(
     seat: &mut Seat<V>,
     actor: &mut TxActor<V>,
     bases: &[Boxed<Base<V>>],
-    said: &mut Told<V>,
+    said: &mut ActorNotice<V>,
 ) -> bool
     requires ties { Ties table.now seat.old actor.old }
     requires own { HasOwn table.now seat.old actor.old bases.now }
     requires small { AreSmall (blocks_in table.now) }
     ensures leads { LeadsAll (opening_of table.now) seat.old seat.new (told_in result said.new) }
-    ensures answered { result ≡ false → said.new ≢ Told.Quiet }
+    ensures answered { result ≡ false → said.new ≢ ActorNotice.Quiet }
     ensures ties { Ties table.now seat.new actor.new }
     ensures own { HasOwn table.now seat.new actor.new bases.now }
 {
@@ -196,7 +196,7 @@ pub(crate) fn steps_on<V: Value>(
     seat: &mut Seat<V>,
     actor: &mut TxActor<V>,
     bases: &[Boxed<Base<V>>],
-    said: &mut Told<V>,
+    said: &mut ActorNotice<V>,
 ) -> bool
     requires ties { Ties table.now seat.old actor.old }
     requires own { HasOwn table.now seat.old actor.old bases.now }
@@ -204,7 +204,7 @@ pub(crate) fn steps_on<V: Value>(
     requires due { next_of (stage_of actor.old.stage) ≡ Next.Word }
     requires open { actor.old.stage ≢ Stage.Closing }
     ensures leads { LeadsOn (opening_of table.now) seat.old seat.new (told_in result said.new) }
-    ensures answered { result ≡ false → said.new ≢ Told.Quiet }
+    ensures answered { result ≡ false → said.new ≢ ActorNotice.Quiet }
     ensures ties { Ties table.now seat.new actor.new }
     ensures own { HasOwn table.now seat.new actor.new bases.now }
 {
@@ -215,10 +215,10 @@ pub(crate) fn steps_on<V: Value>(
         return load_on(table, seat, actor, bases, location, said);
     }
     if let Some(i) = value_to_store(actor) {
-        return stores_on(table, seat, actor, bases, i, said);
+        return store_each(table, seat, actor, bases, i, said);
     }
     if has_locks(actor) {
-        return releases_on(table, seat, actor, bases, said);
+        return release_each(table, seat, actor, bases, said);
     }
     steps::steps_on(table, seat, actor, bases, said)
 }

@@ -19,7 +19,7 @@ use actor_parts::word_laws::steps_as_worlds;
 use replay_log::Base;
 use seq_model::Value;
 use step_core::{Actor, Place};
-use tx_actor::{Stage, Told, TxActor};
+use tx_actor::{ActorNotice, Stage, TxActor};
 use tx_table::{Seat, TxTable};
 
 /// Whether locks are to be given back by a commit.
@@ -67,7 +67,7 @@ fn release_on<V: Value>(
     requires stage { actor.old.stage ≡ Stage.Releasing }
     requires place { actor.old.words.place ≡ Release }
     requires left { 1 < deque_len actor.old.words.held }
-    ensures led { HasLed table.now seat.old seat.new actor.new Told.Quiet bases.now }
+    ensures led { HasLed table.now seat.old seat.new actor.new ActorNotice.Quiet bases.now }
     ensures stage { actor.new.stage ≡ Stage.Releasing }
     ensures place { actor.new.words.place ≡ Release }
     ensures some { 0 < deque_len actor.new.words.held }
@@ -88,7 +88,7 @@ fn release_last<V: Value>(
     seat: &mut Seat<V>,
     actor: &mut TxActor<V>,
     bases: &[Boxed<Base<V>>],
-) -> Told<V>
+) -> ActorNotice<V>
     requires ties { Ties table.now seat.old actor.old }
     requires own { HasOwn table.now seat.old actor.old bases.now }
     requires small { AreSmall (blocks_in table.now) }
@@ -104,18 +104,18 @@ fn release_last<V: Value>(
     table.store_lock(seat, location, 2 * actor.words.wv);
     let told = actor.words.release();
     let _ = told;
-    actor.released()
+    actor.finish_commit()
 }
 
 /// The locks that are held are given back, one atomic step each. The last one answers that the transaction has committed, so the result is
 /// false.
 #[inline(always)]
-pub(crate) fn releases_on<V: Value>(
+pub(crate) fn release_each<V: Value>(
     table: &TxTable<V>,
     seat: &mut Seat<V>,
     actor: &mut TxActor<V>,
     bases: &[Boxed<Base<V>>],
-    said: &mut Told<V>,
+    said: &mut ActorNotice<V>,
 ) -> bool
     requires ties { Ties table.now seat.old actor.old }
     requires own { HasOwn table.now seat.old actor.old bases.now }
@@ -124,7 +124,7 @@ pub(crate) fn releases_on<V: Value>(
     requires place { actor.old.words.place ≡ Release }
     requires some { 0 < deque_len actor.old.words.held }
     ensures leads { LeadsOn (opening_of table.now) seat.old seat.new (told_in result said.new) }
-    ensures answered { result ≡ false → said.new ≢ Told.Quiet }
+    ensures answered { result ≡ false → said.new ≢ ActorNotice.Quiet }
     ensures ties { Ties table.now seat.new actor.new }
     ensures own { HasOwn table.now seat.new actor.new bases.now }
 {
@@ -136,23 +136,23 @@ pub(crate) fn releases_on<V: Value>(
 
 /// The locks that a commit holds are given back, where it holds some.
 #[inline(always)]
-pub(crate) fn released_on<V: Value>(
+pub(crate) fn release_left<V: Value>(
     table: &TxTable<V>,
     seat: &mut Seat<V>,
     actor: &mut TxActor<V>,
     bases: &[Boxed<Base<V>>],
-    said: &mut Told<V>,
+    said: &mut ActorNotice<V>,
 ) -> bool
     requires ties { Ties table.now seat.old actor.old }
     requires own { HasOwn table.now seat.old actor.old bases.now }
     requires small { AreSmall (blocks_in table.now) }
     ensures leads { LeadsAll (opening_of table.now) seat.old seat.new (told_in result said.new) }
-    ensures answered { result ≡ false → said.new ≢ Told.Quiet }
+    ensures answered { result ≡ false → said.new ≢ ActorNotice.Quiet }
     ensures ties { Ties table.now seat.new actor.new }
     ensures own { HasOwn table.now seat.new actor.new bases.now }
 {
     if has_locks(actor) {
-        return releases_on(table, seat, actor, bases, said);
+        return release_each(table, seat, actor, bases, said);
     }
     true
 }

@@ -4,7 +4,7 @@ ghost use Rattle.seq_model.specs.declared.event.Event.TheVariants.{Ask};
 ghost use Rattle.seq_model.specs.declared.event.Request.{Request as Asked};
 ghost use Rattle.replay_log.specs.WorldAnswers.{IsAdmitted};
 ghost use Rattle.tx_table.specs.Seated.{actor as actor_of, acts, opening_of};
-ghost use Rattle.tx_turns.specs.Asked.{Answers, HasAsked};
+ghost use Rattle.tx_turns.specs.RequestStep.{Answers, HasAsked};
 ghost use Rattle.tx_turns.specs.Ties.{Ties};
 ghost use Rattle.tx_turns.specs.Own.{HasOwn};
 
@@ -16,7 +16,7 @@ use std::alloc::Global;
 use std::snapshot::Snapshot;
 use tx_actor::laws::{copies_by_stage, copies_stay_own};
 use tx_actor::turn_laws::events_keep_copies;
-use tx_actor::{Told, TxActor};
+use tx_actor::{ActorNotice, TxActor};
 use tx_table::{Seat, TxTable};
 
 /// A request, which the seat keeps until its next step takes it in. What is answered at once is answered as the definitions say:
@@ -34,7 +34,7 @@ pub fn ask<V: Value>(
     actor: &mut TxActor<V>,
     bases: &[Boxed<Base<V>>],
     request: Request<V>,
-) -> Result<Told<V>, Memory>
+) -> Result<ActorNotice<V>, Memory>
     requires ties { Ties table.now seat.old actor.old }
     requires own { HasOwn table.now seat.old actor.old bases.now }
     ensures asked { OnOk result (HasAsked seat.old request seat.new) }
@@ -52,7 +52,7 @@ pub fn ask<V: Value>(
     let _ = bases;
     let event = Event::Ask(0, request);
     let asked = Snapshot::of(&event);
-    let told = actor.asks(alloc, table.blocks(), request_of(event))?;
+    let told = actor.request(alloc, table.blocks(), request_of(event))?;
     seat.ask_this(asked);
     Ok(told)
 }

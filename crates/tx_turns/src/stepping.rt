@@ -6,7 +6,7 @@ ghost use Rattle.step_core.specs.Sound.{Fits, IsLoad, KeepsRoom};
 ghost use Rattle.tx_table.specs.Seated.{Owns, locations_in, opening_of, view};
 ghost use Rattle.tx_turns.specs.Touches.{IsNext, StepsWords};
 
-use crate::due::next_due;
+use crate::due::next_step;
 use crate::learning::learn;
 use crate::touching::touch;
 use seq_model::Value;
@@ -31,7 +31,7 @@ pub(crate) fn step_words<V: Value>(
     ensures fits { (n : ℕ) → Fits n actor.old → Fits n actor.new }
     ensures room { IsLoad actor.old.place → KeepsRoom actor.old actor.new }
 {
-    let due = next_due(actor);
+    let due = next_step(actor);
     let found = touch(table, seat, due);
     learn(actor, found)
 }

@@ -20,7 +20,7 @@ use step_core::{WordAnswer, WordRefusal};
 use tx_actor::laws::{
     copies_by_stage, loads_as_worlds, loads_keep_running, loads_stay_own, seats_as_actors,
 };
-use tx_actor::{Stage, Told, TxActor};
+use tx_actor::{ActorNotice, Stage, TxActor};
 use tx_table::{Seat, TxTable};
 
 /// Whether nothing comes of a step on the words at this stage, since it answered nothing.
@@ -47,7 +47,7 @@ pub(crate) fn steps_on<V: Value>(
     seat: &mut Seat<V>,
     actor: &mut TxActor<V>,
     bases: &[Boxed<Base<V>>],
-    said: &mut Told<V>,
+    said: &mut ActorNotice<V>,
 ) -> bool
     requires ties { Ties table.now seat.old actor.old }
     requires own { HasOwn table.now seat.old actor.old bases.now }
@@ -55,7 +55,7 @@ pub(crate) fn steps_on<V: Value>(
     requires due { next_of (stage_of actor.old.stage) ≡ Next.Word }
     requires open { actor.old.stage ≢ Stage.Closing }
     ensures leads { LeadsOn (opening_of table.now) seat.old seat.new (told_in result said.new) }
-    ensures answered { result ≡ false → said.new ≢ Told.Quiet }
+    ensures answered { result ≡ false → said.new ≢ ActorNotice.Quiet }
     ensures ties { Ties table.now seat.new actor.new }
     ensures own { HasOwn table.now seat.new actor.new bases.now }
 {
@@ -71,8 +71,8 @@ pub(crate) fn steps_on<V: Value>(
         let told = step_words(table, seat, &mut actor.words);
         if !is_waiting(&actor.stage, told) {
             return match actor.stage {
-                Stage::Loading(..) => report(actor.loaded(told), said),
-                _ => report(actor.stepped(told), said),
+                Stage::Loading(..) => report(actor.on_load_step(told), said),
+                _ => report(actor.on_step(told), said),
             };
         }
     }

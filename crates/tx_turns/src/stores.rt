@@ -15,7 +15,7 @@ use actor_parts::word_laws::steps_as_worlds;
 use replay_log::Base;
 use seq_model::Value;
 use step_core::Place;
-use tx_actor::{Stage, Told, TxActor};
+use tx_actor::{ActorNotice, Stage, TxActor};
 use tx_table::{Seat, TxTable};
 
 /// Which value is stored next, where it is not the first.
@@ -53,7 +53,7 @@ fn store_on<V: Value>(
     requires small { AreSmall (blocks_in table.now) }
     requires stage { is_storing actor.now.stage ≡ true }
     requires left { i + 1 < length actor.now.words.writes.entries }
-    ensures { HasLed table.now seat.old seat.new (at_place actor.now (Store (i + 1))) Told.Quiet bases.now }
+    ensures { HasLed table.now seat.old seat.new (at_place actor.now (Store (i + 1))) ActorNotice.Quiet bases.now }
 {
     steps_as_worlds::<V>();
     turns_keep_own::<V>();
@@ -70,7 +70,7 @@ fn store_last<V: Value>(
     actor: &mut TxActor<V>,
     bases: &[Boxed<Base<V>>],
     i: usize,
-) -> Told<V>
+) -> ActorNotice<V>
     requires ties { Ties table.now seat.old (at_place actor.old (Store i)) }
     requires own { HasOwn table.now seat.old (at_place actor.old (Store i)) bases.now }
     requires small { AreSmall (blocks_in table.now) }
@@ -85,18 +85,18 @@ fn store_last<V: Value>(
     table.store_value(seat, location, value);
     actor.words.place = Place::Store(i);
     let told = actor.words.store(i);
-    actor.stepped(Ok(told))
+    actor.on_step(Ok(told))
 }
 
 /// The stores that are left, from the one at `first` on, one atomic step each. Between them the actor is unchanged.
 #[inline(always)]
-pub(crate) fn stores_on<V: Value>(
+pub(crate) fn store_each<V: Value>(
     table: &TxTable<V>,
     seat: &mut Seat<V>,
     actor: &mut TxActor<V>,
     bases: &[Boxed<Base<V>>],
     first: usize,
-    said: &mut Told<V>,
+    said: &mut ActorNotice<V>,
 ) -> bool
     requires ties { Ties table.now seat.old actor.old }
     requires own { HasOwn table.now seat.old actor.old bases.now }
@@ -105,7 +105,7 @@ pub(crate) fn stores_on<V: Value>(
     requires place { actor.old.words.place ≡ Store first }
     requires inside { first < length actor.old.words.writes.entries }
     ensures leads { LeadsOn (opening_of table.now) seat.old seat.new (told_in result said.new) }
-    ensures answered { result ≡ false → said.new ≢ Told.Quiet }
+    ensures answered { result ≡ false → said.new ≢ ActorNotice.Quiet }
     ensures ties { Ties table.now seat.new actor.new }
     ensures own { HasOwn table.now seat.new actor.new bases.now }
 {
@@ -120,23 +120,23 @@ pub(crate) fn stores_on<V: Value>(
 
 /// The stores that are left, where there are some.
 #[inline(always)]
-pub(crate) fn stored_on<V: Value>(
+pub(crate) fn store_left<V: Value>(
     table: &TxTable<V>,
     seat: &mut Seat<V>,
     actor: &mut TxActor<V>,
     bases: &[Boxed<Base<V>>],
-    said: &mut Told<V>,
+    said: &mut ActorNotice<V>,
 ) -> bool
     requires ties { Ties table.now seat.old actor.old }
     requires own { HasOwn table.now seat.old actor.old bases.now }
     requires small { AreSmall (blocks_in table.now) }
     ensures leads { LeadsAll (opening_of table.now) seat.old seat.new (told_in result said.new) }
-    ensures answered { result ≡ false → said.new ≢ Told.Quiet }
+    ensures answered { result ≡ false → said.new ≢ ActorNotice.Quiet }
     ensures ties { Ties table.now seat.new actor.new }
     ensures own { HasOwn table.now seat.new actor.new bases.now }
 {
     match value_to_store(actor) {
-        Some(i) => stores_on(table, seat, actor, bases, i, said),
+        Some(i) => store_each(table, seat, actor, bases, i, said),
         None => true,
     }
 }

@@ -1,10 +1,10 @@
 //! One atomic step on the table, the one that is next for a seat.
 ghost use Rattle.std.specs.Prelude.{◌≡◌, ◌≢◌, ◌<◌};
 ghost use Rattle.tx_table.specs.Seated.{Owns, locations_in, opening_of, view};
-ghost use Rattle.tx_turns.specs.Dues.{IsWithin};
+ghost use Rattle.tx_turns.specs.NextStep.{IsWithin};
 ghost use Rattle.tx_turns.specs.Touches.{Awaits, IsInWord, Touches};
 
-use crate::due::Due;
+use crate::due::NextStep;
 use seq_model::Value;
 use tx_table::{Seat, TxTable};
 
@@ -13,9 +13,9 @@ fn try_lock<V: Value>(table: &TxTable<V>, seat: &mut Seat<V>, location: u32, old
     requires own { Owns table.now seat.old }
     requires live { 0 < (view seat.old).shares }
     requires inside { location < locations_in table.now }
-    requires room { IsInWord (Due.Lock location old) }
-    requires due { Awaits (opening_of table.now) seat.old (Due.Lock location old) }
-    ensures { Touches (opening_of table.now) seat.old (Due.Lock location old) result seat.new }
+    requires room { IsInWord (NextStep.Lock location old) }
+    requires due { Awaits (opening_of table.now) seat.old (NextStep.Lock location old) }
+    ensures { Touches (opening_of table.now) seat.old (NextStep.Lock location old) result seat.new }
 {
     match table.lock(seat, location, old) {
         None => old,
@@ -25,27 +25,27 @@ fn try_lock<V: Value>(table: &TxTable<V>, seat: &mut Seat<V>, location: u32, old
 
 /// The atomic step that is next for a seat, and the number that it found.
 #[inline(always)]
-pub(crate) fn touch<V: Value>(table: &TxTable<V>, seat: &mut Seat<V>, due: Due) -> u64
+pub(crate) fn touch<V: Value>(table: &TxTable<V>, seat: &mut Seat<V>, due: NextStep) -> u64
     requires own { Owns table.now seat.old }
     requires live { 0 < (view seat.old).shares }
     requires inside { IsWithin (locations_in table.now) due }
-    requires some { due ≢ Due.Nothing }
+    requires some { due ≢ NextStep.Nothing }
     requires room { IsInWord due }
     requires due { Awaits (opening_of table.now) seat.old due }
     ensures { Touches (opening_of table.now) seat.old due result seat.new }
 {
     match due {
-        Due::Nothing => unreachable!(),
-        Due::LoadClock => table.load_clock(seat),
-        Due::AddToClock => table.stamp(seat),
-        Due::LoadLock(location) => table.load_lock(seat, location),
-        Due::LoadValue(location) => table.load_value(seat, location),
-        Due::Lock(location, old) => try_lock(table, seat, location, old),
-        Due::StoreValue(location, value) => {
+        NextStep::Nothing => unreachable!(),
+        NextStep::LoadClock => table.load_clock(seat),
+        NextStep::AddToClock => table.stamp(seat),
+        NextStep::LoadLock(location) => table.load_lock(seat, location),
+        NextStep::LoadValue(location) => table.load_value(seat, location),
+        NextStep::Lock(location, old) => try_lock(table, seat, location, old),
+        NextStep::StoreValue(location, value) => {
             table.store_value(seat, location, value);
             value
         }
-        Due::StoreLock(location, word) => {
+        NextStep::StoreLock(location, word) => {
             table.store_lock(seat, location, word);
             word
         }

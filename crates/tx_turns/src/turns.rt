@@ -2,7 +2,7 @@
 ghost use Rattle.std.specs.Prelude.{◌≡◌, ◌≢◌, [], IfOk, OnErr, OnOk, false};
 ghost use Rattle.actor_parts.specs.Dispatch.{next_of};
 ghost use Rattle.tx_actor.specs.Running.{stage_of};
-ghost use Rattle.tx_actor.specs.declared.actor.Told.{Told as Tells};
+ghost use Rattle.tx_actor.specs.declared.actor.ActorNotice.{ActorNotice as Tells};
 ghost use Rattle.tx_table.specs.Seated.{actor as actor_of_seat, opening_of};
 ghost use Rattle.tx_turns.specs.Ties.{Ties, Turned, commits};
 ghost use Rattle.tx_turns.specs.Own.{HasOwn};
@@ -20,17 +20,17 @@ use actor_parts::{Boxed, Next};
 use replay_log::Base;
 use seq_model::{Memory, Record, Value};
 use std::alloc::Global;
-use tx_actor::{Stage, Told, TxActor};
+use tx_actor::{ActorNotice, Stage, TxActor};
 use tx_table::{Seat, TxTable};
 
 /// Whether this is quiet. What isn't is stored in `said` from then on.
 #[inline(always)]
-pub(crate) fn report<V: Value>(told: Told<V>, said: &mut Told<V>) -> bool
+pub(crate) fn report<V: Value>(told: ActorNotice<V>, said: &mut ActorNotice<V>) -> bool
     ensures told { told ≡ told_in result said.new }
-    ensures answered { result ≡ false → said.new ≢ Told.Quiet }
+    ensures answered { result ≡ false → said.new ≢ ActorNotice.Quiet }
 {
     match told {
-        Told::Quiet => true,
+        ActorNotice::Quiet => true,
         told => {
             *said = told;
             false
@@ -39,10 +39,10 @@ pub(crate) fn report<V: Value>(told: Told<V>, said: &mut Told<V>) -> bool
 }
 
 /// What was answered: nothing where it was quiet, else what was said.
-fn told_of<V: Value>(quiet: bool, said: Told<V>) -> Told<V>
+fn told_of<V: Value>(quiet: bool, said: ActorNotice<V>) -> ActorNotice<V>
     ensures { result ≡ told_in quiet said }
 {
-    if quiet { Told::Quiet } else { said }
+    if quiet { ActorNotice::Quiet } else { said }
 }
 
 /// A step on the words that makes no receipt.
@@ -51,7 +51,7 @@ fn step_on<V: Value>(
     seat: &mut Seat<V>,
     actor: &mut TxActor<V>,
     bases: &[Boxed<Base<V>>],
-) -> Told<V>
+) -> ActorNotice<V>
     requires ties { Ties table.now seat.old actor.old }
     requires own { HasOwn table.now seat.old actor.old bases.now }
     requires due { next_of (stage_of actor.old.stage) ≡ Next.Word }
@@ -75,7 +75,7 @@ pub(crate) fn step<V: Value>(
     seat: &mut Seat<V>,
     actor: &mut TxActor<V>,
     bases: &[Boxed<Base<V>>],
-) -> (Told<V>, Option<Record<V>>)
+) -> (ActorNotice<V>, Option<Record<V>>)
     requires ties { Ties table.now seat.old actor.old }
     requires own { HasOwn table.now seat.old actor.old bases.now }
     requires due { next_of (stage_of actor.old.stage) ≡ Next.Word }
@@ -101,14 +101,14 @@ pub(crate) fn try_next<V: Value>(
     seat: &mut Seat<V>,
     actor: &mut TxActor<V>,
     bases: &mut Vec<Boxed<Base<V>>>,
-    said: &mut Told<V>,
+    said: &mut ActorNotice<V>,
     k: u32,
 ) -> Result<bool, Memory>
     requires ties { Ties table.now seat.old actor.old }
     requires own { HasOwn table.now seat.old actor.old bases.old.items }
     requires due { next_of (stage_of actor.old.stage) ≡ Next.TryGate k }
     ensures turned { IfOk result (λ quiet. Turned (opening_of table.now) seat.old actor.old seat.new (told_in quiet said.new)) }
-    ensures answered { IfOk result (λ quiet. quiet ≡ false → said.new ≢ Told.Quiet) }
+    ensures answered { IfOk result (λ quiet. quiet ≡ false → said.new ≢ ActorNotice.Quiet) }
     ensures ties { Ties table.now seat.new actor.new }
     ensures own { HasOwn table.now seat.new actor.new bases.new.items }
     ensures starved { OnErr result ((said : Tells V) × IsGivenUp (opening_of table.now) seat.old actor.old seat.new said) }
@@ -131,14 +131,14 @@ fn copy_next<V: Value>(
     seat: &mut Seat<V>,
     actor: &mut TxActor<V>,
     bases: &mut Vec<Boxed<Base<V>>>,
-    said: &mut Told<V>,
+    said: &mut ActorNotice<V>,
     k: u32,
 ) -> Result<bool, Memory>
     requires ties { Ties table.now seat.old actor.old }
     requires own { HasOwn table.now seat.old actor.old bases.old.items }
     requires due { next_of (stage_of actor.old.stage) ≡ Next.Copy k }
     ensures turned { IfOk result (λ quiet. Turned (opening_of table.now) seat.old actor.old seat.new (told_in quiet said.new)) }
-    ensures answered { IfOk result (λ quiet. quiet ≡ false → said.new ≢ Told.Quiet) }
+    ensures answered { IfOk result (λ quiet. quiet ≡ false → said.new ≢ ActorNotice.Quiet) }
     ensures ties { Ties table.now seat.new actor.new }
     ensures own { HasOwn table.now seat.new actor.new bases.new.items }
     ensures starved { OnErr result ((said : Tells V) × IsGivenUp (opening_of table.now) seat.old actor.old seat.new said) }
@@ -156,14 +156,14 @@ pub(crate) fn home_next<V: Value>(
     seat: &mut Seat<V>,
     actor: &mut TxActor<V>,
     bases: &mut Vec<Boxed<Base<V>>>,
-    said: &mut Told<V>,
+    said: &mut ActorNotice<V>,
     k: u32,
 ) -> bool
     requires ties { Ties table.now seat.old actor.old }
     requires own { HasOwn table.now seat.old actor.old bases.old.items }
     requires due { next_of (stage_of actor.old.stage) ≡ Next.GoHome k }
     ensures turned { Turned (opening_of table.now) seat.old actor.old seat.new (told_in result said.new) }
-    ensures answered { result ≡ false → said.new ≢ Told.Quiet }
+    ensures answered { result ≡ false → said.new ≢ ActorNotice.Quiet }
     ensures ties { Ties table.now seat.new actor.new }
     ensures own { HasOwn table.now seat.new actor.new bases.new.items }
 {
@@ -177,14 +177,14 @@ fn put_next<V: Value>(
     seat: &mut Seat<V>,
     actor: &mut TxActor<V>,
     bases: &mut Vec<Boxed<Base<V>>>,
-    said: &mut Told<V>,
+    said: &mut ActorNotice<V>,
     k: u32,
 ) -> bool
     requires ties { Ties table.now seat.old actor.old }
     requires own { HasOwn table.now seat.old actor.old bases.old.items }
     requires due { next_of (stage_of actor.old.stage) ≡ Next.PutGate k }
     ensures turned { Turned (opening_of table.now) seat.old actor.old seat.new (told_in result said.new) }
-    ensures answered { result ≡ false → said.new ≢ Told.Quiet }
+    ensures answered { result ≡ false → said.new ≢ ActorNotice.Quiet }
     ensures ties { Ties table.now seat.new actor.new }
     ensures own { HasOwn table.now seat.new actor.new bases.new.items }
 {
@@ -198,7 +198,7 @@ pub(crate) fn store_next<V: Value>(
     seat: &mut Seat<V>,
     actor: &mut TxActor<V>,
     bases: &mut Vec<Boxed<Base<V>>>,
-) -> Result<(Told<V>, Option<Record<V>>), Memory>
+) -> Result<(ActorNotice<V>, Option<Record<V>>), Memory>
     requires ties { Ties table.now seat.old actor.old }
     requires own { HasOwn table.now seat.old actor.old bases.old.items }
     requires due { next_of (stage_of actor.old.stage) ≡ Next.FirstStore }
@@ -226,7 +226,7 @@ pub(crate) fn turn_on_gate<V: Value>(
     seat: &mut Seat<V>,
     actor: &mut TxActor<V>,
     bases: &mut Vec<Boxed<Base<V>>>,
-    said: &mut Told<V>,
+    said: &mut ActorNotice<V>,
     next: Next,
 ) -> Result<bool, Memory>
     requires ties { Ties table.now seat.old actor.old }
@@ -234,7 +234,7 @@ pub(crate) fn turn_on_gate<V: Value>(
     requires due { next_of (stage_of actor.old.stage) ≡ next }
     requires gate { IsOnGate next }
     ensures turned { IfOk result (λ quiet. Turned (opening_of table.now) seat.old actor.old seat.new (told_in quiet said.new)) }
-    ensures answered { IfOk result (λ quiet. quiet ≡ false → said.new ≢ Told.Quiet) }
+    ensures answered { IfOk result (λ quiet. quiet ≡ false → said.new ≢ ActorNotice.Quiet) }
     ensures receipt { commits (actor_of_seat seat.old) actor.old ≡ [] }
     ensures ties { Ties table.now seat.new actor.new }
     ensures own { HasOwn table.now seat.new actor.new bases.new.items }
@@ -262,7 +262,7 @@ pub fn turn<V: Value>(
     seat: &mut Seat<V>,
     actor: &mut TxActor<V>,
     bases: &mut Vec<Boxed<Base<V>>>,
-) -> Result<(Told<V>, Option<Record<V>>), Memory>
+) -> Result<(ActorNotice<V>, Option<Record<V>>), Memory>
     requires ties { Ties table.now seat.old actor.old }
     requires own { HasOwn table.now seat.old actor.old bases.old.items }
     requires due { next_of (stage_of actor.old.stage) ≢ Next.Nothing }
@@ -278,7 +278,7 @@ pub fn turn<V: Value>(
         Next::Word => Ok(step(alloc, table, seat, actor, bases.as_slice())),
         Next::FirstStore => store_next(alloc, table, seat, actor, bases),
         next => {
-            let mut said = Told::Quiet;
+            let mut said = ActorNotice::Quiet;
             match turn_on_gate(alloc, table, seat, actor, bases, &mut said, next) {
                 Ok(quiet) => Ok((told_of(quiet, said), None)),
                 Err(_) => Err(Memory),
@@ -305,14 +305,14 @@ pub(crate) fn turn_apart<V: Value>(
     seat: &mut Seat<V>,
     actor: &mut TxActor<V>,
     bases: &mut Vec<Boxed<Base<V>>>,
-    said: &mut Told<V>,
+    said: &mut ActorNotice<V>,
     kept: &mut Option<Record<V>>,
 ) -> Result<bool, Memory>
     requires ties { Ties table.now seat.old actor.old }
     requires own { HasOwn table.now seat.old actor.old bases.old.items }
     requires due { next_of (stage_of actor.old.stage) ≢ Next.Nothing }
     ensures turned { IfOk result (λ quiet. Turned (opening_of table.now) seat.old actor.old seat.new (told_in quiet said.new)) }
-    ensures answered { IfOk result (λ quiet. quiet ≡ false → said.new ≢ Told.Quiet) }
+    ensures answered { IfOk result (λ quiet. quiet ≡ false → said.new ≢ ActorNotice.Quiet) }
     ensures receipt { OnOk result (MakesReceipt (actor_of_seat seat.old) actor.old kept.old kept.new) }
     ensures ties { Ties table.now seat.new actor.new }
     ensures own { HasOwn table.now seat.new actor.new bases.new.items }

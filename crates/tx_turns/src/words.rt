@@ -2,7 +2,7 @@
 ghost use Rattle.std.specs.Prelude.{◌≡◌, ◌++◌, ◌∷◌, [], IfOk, OnErr, OnOk, false, true};
 ghost use Rattle.actor_parts.specs.Dispatch.{is_loading, next_of};
 ghost use Rattle.tx_actor.specs.Dispatch.{Records};
-ghost use Rattle.tx_actor.specs.Having.{KeepsCopies};
+ghost use Rattle.tx_actor.specs.CopiesByStage.{KeepsCopies};
 ghost use Rattle.tx_actor.specs.Running.{stage_of};
 ghost use Rattle.tx_table.specs.Seated.{actor as actor_of_seat, opening_of, view};
 ghost use Rattle.tx_turns.specs.Ties.{Ties, Turned};
@@ -13,7 +13,7 @@ use actor_parts::word_laws::steps_as_worlds;
 use seq_model::{Items, Memory, Record, Value};
 use std::alloc::Global;
 use std::mem;
-use tx_actor::{Stage, Told, TxActor};
+use tx_actor::{ActorNotice, Stage, TxActor};
 use tx_table::{Seat, TxTable};
 
 /// The next step of an actor's words, taken on the table by its seat.
@@ -21,7 +21,7 @@ pub(crate) fn step_word<V: Value>(
     table: &TxTable<V>,
     seat: &mut Seat<V>,
     actor: &mut TxActor<V>,
-) -> Told<V>
+) -> ActorNotice<V>
     requires ties { Ties table.now seat.old actor.old }
     requires due { next_of (stage_of actor.old.stage) ≡ Next.Word }
     requires word { is_loading (stage_of actor.old.stage) ≡ false }
@@ -32,7 +32,7 @@ pub(crate) fn step_word<V: Value>(
 {
     steps_as_worlds::<V>();
     let told = step_words(table, seat, &mut actor.words);
-    actor.stepped(told)
+    actor.on_step(told)
 }
 
 /// The load of the clock that commits a transaction without writes, with its receipt. It takes no memory.
@@ -41,7 +41,7 @@ pub(crate) fn close<V: Value>(
     table: &TxTable<V>,
     seat: &mut Seat<V>,
     actor: &mut TxActor<V>,
-) -> (Told<V>, Record<V>)
+) -> (ActorNotice<V>, Record<V>)
     requires ties { Ties table.now seat.old actor.old }
     requires stage { actor.old.stage ≡ Stage.Closing }
     ensures turned { Turned (opening_of table.now) seat.old actor.old seat.new result.0 }
@@ -69,7 +69,7 @@ pub(crate) fn store_first<V: Value>(
     table: &TxTable<V>,
     seat: &mut Seat<V>,
     actor: &mut TxActor<V>,
-) -> Result<Told<V>, Memory>
+) -> Result<ActorNotice<V>, Memory>
     requires ties { Ties table.now seat.old actor.old }
     requires due { next_of (stage_of actor.old.stage) ≡ Next.FirstStore }
     ensures turned { IfOk result (Turned (opening_of table.now) seat.old actor.old seat.new) }
@@ -80,9 +80,9 @@ pub(crate) fn store_first<V: Value>(
     ensures made { OnOk result (actor.new.made.items ≡ actor.old.calls.items) }
 {
     steps_as_worlds::<V>();
-    actor.asks_to_store(table.blocks())?;
+    actor.request_store(table.blocks())?;
     let told = step_words(table, seat, &mut actor.words);
-    Ok(actor.stepped(told))
+    Ok(actor.on_step(told))
 }
 
 /// The first value store of a commit, with its receipt. Where an allocation fails no step is taken, and the actor is as it was.
@@ -91,7 +91,7 @@ pub(crate) fn commit<V: Value>(
     table: &TxTable<V>,
     seat: &mut Seat<V>,
     actor: &mut TxActor<V>,
-) -> Result<(Told<V>, Record<V>), Memory>
+) -> Result<(ActorNotice<V>, Record<V>), Memory>
     requires ties { Ties table.now seat.old actor.old }
     requires due { next_of (stage_of actor.old.stage) ≡ Next.FirstStore }
     ensures turned { IfOk result (λ done. Turned (opening_of table.now) seat.old actor.old seat.new done.0) }

@@ -9,7 +9,7 @@ use Rattle.std.proofs.Math.Nat.{min-le_right, min-eq_left, min-eq_right}
 use Rattle.std.proofs.lemmas.Bool.{cond_both}
 use Rattle.vac_model.specs.declared.queue.Queue.{Queue}
 use Rattle.vac_model.specs.declared.moves.Moves.{Moves}
-use Rattle.vac_model.specs.declared.changes.Changes.{Changes}
+use Rattle.vac_model.specs.declared.changes.TableChanges.{TableChanges}
 use Rattle.vac_model.specs.declared.item.Kind.TheVariants.{Car, Flight, Room}
 use Rattle.vac_model.specs.Holdings.{Holdings}
 use Rattle.vac_model.specs.Balanced.{IsBalanced}
@@ -17,7 +17,7 @@ use Rattle.vac_model.specs.Overlays.{moved, with_changes}
 use Rattle.vac_model.specs.Makings.{IsAdmitted, AreHeadsWithin, settled, lens, extended, without_taken, each_without_taken}
 use Rattle.vac_model.proofs.OverlayLemmas.{laid_alike}
 
-pub heads_within : (s t : Holdings) (c : Changes) → IsBalanced (with_changes s c) → IsAdmitted c s t → AreHeadsWithin t c
+pub heads_within : (s t : Holdings) (c : TableChanges) → IsBalanced (with_changes s c) → IsAdmitted c s t → AreHeadsWithin t c
 heads_within s t c b is =
     let next = b.next_within in
     let car = b.queues_within Car in
@@ -41,7 +41,7 @@ queue_settled q m =
     drop-append-le (min m.taken (length q.tickets)) q.tickets m.given le ∙ ap (λ l. l ++ m.given) (drop_min m.taken q.tickets) in
     (λ i. record { head = q.head + m.off; tickets = tickets i })
 
-pub settles : (s t : Holdings) (c : Changes) → IsAdmitted c s t → settled t c (lens s.waiting) ≡ with_changes s c
+pub settles : (s t : Holdings) (c : TableChanges) → IsAdmitted c s t → settled t c (lens s.waiting) ≡ with_changes s c
 settles s t c is =
     let car = laid_alike s.items.car t.items.car c.items.car is.items.0 in
     let flight = laid_alike s.items.flight t.items.flight c.items.flight is.items.1 in

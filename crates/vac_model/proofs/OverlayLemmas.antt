@@ -14,8 +14,8 @@ use Rattle.vac_model.specs.declared.queue.Queue.{Queue}
 use Rattle.vac_model.specs.Holdings.{Holdings}
 use Rattle.vac_model.specs.Overlays.{placed, laid_by, laid, without, AreElsewhereAlike, moved, no_moves, no_changes, with_changes}
 use Rattle.vac_model.proofs.MapLemmas.{insert_both, remove_both}
-use Rattle.vac_model.proofs.HoldingLemmas.{some_same}
 use Rattle.std.proofs.lemmas.List.{drop_more}
+use Rattle.std.proofs.lemmas.Option.{same_Some}
 use Rattle.seq_model.specs.Queues.{first_of, rest_of}
 
 -- what is found at a key where the changes have the first, and the map the second
@@ -120,7 +120,7 @@ module _ {V : Type 0} where
       by_cases q k (λ c. cond (is_eq c) (Some o) (find nat_cmp q es) ≡ Some r → ((q ≡ k) × (o ≡ r))
       ⊎ ((q ≢ k) × (find nat_cmp q es ≡ Some r)))
       (λ lt e. inr (λ same. omega (arith, same, lt), e))
-      (λ same e. inl (same, some_same e))
+      (λ same e. inl (same, same_Some _ _ e))
       (λ gt e. inr (λ same. omega (arith, same, gt), e))
 
   pub found_first : (k : ℕ) (o : Option V) (es : List (ℕ × Option V)) → find nat_cmp k ((k, o) ∷ es) ≡ Some o

@@ -10,6 +10,9 @@ use Rattle.std.specs.List.{list_any, list_all, count_by, sum_by}
 use Rattle.std.specs.Ordering.{nat_cmp}
 use Rattle.std.specs.FinMap.{get, remove, empty, entries, get-empty}
 use Rattle.std.proofs.lemmas.List.Sums.{sum_by-cons}
+use Rattle.std.proofs.lemmas.Option.{same_Some}
+use Rattle.std.proofs.lemmas.Bool.{and_parts}
+use Rattle.seq_model.proofs.LogicLemmas.{nat_le-true, le-nat_le, nat_lt-true, lt-nat_lt}
 use Rattle.vac_model.specs.declared.item.Kind.{Kind}
 use Rattle.vac_model.specs.declared.item.Kind.TheVariants.{Car, Flight, Room}
 use Rattle.vac_model.specs.declared.item.Item.{Item}
@@ -29,9 +32,9 @@ use Rattle.vac_model.specs.Tallies.{are_items_tallied, is_customer_tallied, are_
 use Rattle.vac_model.specs.Tallies.{times_tallied, is_place_tallied, is_queue_tallied, is_tallied}
 use Rattle.vac_model.proofs.MapLemmas.{eq_both, insert_both, weight_of, remove_weight}
 use Rattle.vac_model.proofs.ListLemmas.{some_counted, counted_one}
-use Rattle.vac_model.proofs.HoldingLemmas.{some_same, same_wait_both, wait_of, ticket_of, ticket_found}
-use Rattle.vac_model.proofs.TestLemmas.{both, each_of, any_counted, count_weaker, counted_at, each_entry, of_each_entry, nothing_weighs}
-use Rattle.vac_model.proofs.TestLemmas.{is_le, le_is, is_lt_, lt_is, is_eq_, eq_is, balance_tested}
+use Rattle.vac_model.proofs.HoldingLemmas.{same_wait_both, wait_of, ticket_of, ticket_found}
+use Rattle.vac_model.proofs.TestLemmas.{each_of, any_counted, count_weaker, counted_at, each_entry, of_each_entry, nothing_weighs}
+use Rattle.vac_model.proofs.TestLemmas.{is_eq_, eq_is, balance_tested}
 
 -- ---- tests
 bool_alike : (a b : Bool) → (a ≡ true → b ≡ true) → (b ≡ true → a ≡ true) → a ≡ b
@@ -122,9 +125,9 @@ queued_of Room s = refl
 item_alike : (k : Kind) (s : Holdings) (e : ℕ × Item) → is_item_tallied (units_tally k s) e ≡ is_item_right k s e
 item_alike k s e =
     and_alike (is_item_sound e.1) (e.1.used == counted (units_tally k s) e.0) (e.1.used == units_booked k e.0 s) (λ sound.
-    let h1 = both (e.1.used + e.1.free == e.1.total) _ sound in
+    let h1 = and_parts (e.1.used + e.1.free == e.1.total) _ sound in
     let all : e.1.used + e.1.free ≡ e.1.total = is_eq_ _ _ h1.0 in
-    let few : e.1.total ≤ AMOUNT_LIMIT = is_le _ _ (both (nat_le e.1.total AMOUNT_LIMIT) _ h1.1).0 in
+    let few : e.1.total ≤ AMOUNT_LIMIT = nat_le-true _ _ (and_parts (nat_le e.1.total AMOUNT_LIMIT) _ h1.1).0 in
     let says : counted (units_tally k s) e.0 ≡ min (0 + units_booked k e.0 s) MOST = units_say k s e.0 in
     bool_alike _ _
     (λ h. let g : e.1.used ≡ counted (units_tally k s) e.0 = is_eq_ _ _ h in eq_is _ _ (omega (arith, all, few, says, g)))
@@ -137,8 +140,8 @@ items_alike k s = λ j. list_all (λ e. item_alike k s e j) (entries (of_kind k 
 few_alike : (a n : ℕ) → a ≡ min (0 + n) MOST → nat_le a 1 ≡ nat_le n 1
 few_alike a n says =
     bool_alike _ _
-    (λ h. let g : a ≤ 1 = is_le a 1 h in le_is n 1 (omega (arith, says, g)))
-    (λ h. let g : n ≤ 1 = is_le n 1 h in le_is a 1 (omega (arith, says, g)))
+    (λ h. let g : a ≤ 1 = nat_le-true a 1 h in le-nat_le n 1 (omega (arith, says, g)))
+    (λ h. let g : n ≤ 1 = nat_le-true n 1 h in le-nat_le a 1 (omega (arith, says, g)))
 
 once_alike : (k : Kind) (id : ℕ) (who : Customer) → nat_le (counted (of_kind k (had_tallies who)) id) 1 ≡ nat_le (times who k id) 1
 once_alike k id who =
@@ -162,14 +165,14 @@ customers_alike s = λ j. list_all (λ e. customer_alike s e j) (entries s.custo
 some_alike : (a n : ℕ) → a ≡ min (0 + n) MOST → nat_lt 0 a ≡ nat_lt 0 n
 some_alike a n says =
     bool_alike _ _
-    (λ h. let g : 0 < a = is_lt_ 0 a h in lt_is 0 n (omega (arith, says, g)))
-    (λ h. let g : 0 < n = is_lt_ 0 n h in lt_is 0 a (omega (arith, says, g)))
+    (λ h. let g : 0 < a = nat_lt-true 0 a h in lt-nat_lt 0 n (omega (arith, says, g)))
+    (λ h. let g : 0 < n = nat_lt-true 0 n h in lt-nat_lt 0 a (omega (arith, says, g)))
 
 any_alike : {X : Type 0} (p : X → Bool) (xs : List X) → nat_lt 0 (count_by p xs) ≡ list_any p xs
 any_alike p xs =
     bool_alike _ _
-    (λ h. some_counted p xs (is_lt_ 0 (count_by p xs) h))
-    (λ h. lt_is 0 (count_by p xs) (any_counted p xs h))
+    (λ h. some_counted p xs (nat_lt-true 0 (count_by p xs) h))
+    (λ h. lt-nat_lt 0 (count_by p xs) (any_counted p xs h))
 
 module _ (s : Holdings) (customers_right : are_customers_right s ≡ true) (t : ℕ) (x : Ticket) (there : ticket t s ≡ Some x) where
   abbrev own_waits : List Wait
@@ -179,8 +182,8 @@ module _ (s : Holdings) (customers_right : are_customers_right s ≡ true) (t : 
   wait_is_own : (c : ℕ) (who : Customer) → customer c s ≡ Some who → 0 < times_awaited t who
       → list_any (same_wait (wait_of t x)) own_waits ≡ true
   wait_is_own c who e some =
-      let h = both (nat_le (places who) PLACE_LIMIT) _ (each_entry (is_customer_right s) s.customers customers_right c who e) in
-      let h1 = both (list_all (is_booking_right s who) who.bookings) (list_all (is_wait_right s c who) who.waits) h.1 in
+      let h = and_parts (nat_le (places who) PLACE_LIMIT) _ (each_entry (is_customer_right s) s.customers customers_right c who e) in
+      let h1 = and_parts (list_all (is_booking_right s who) who.bookings) (list_all (is_wait_right s c who) who.waits) h.1 in
       let rights : All (λ w. is_wait_right s c who w ≡ true) who.waits = each_of (is_wait_right s c who) who.waits h1.1 in
       let own : All (λ w. 0 < count_by (same_wait w) who.waits) who.waits =
       counted_at same_wait (λ w. same_wait_both w w (λ b. b ≡ true) (λ _. refl) (λ n. absurd (n refl))) who.waits in
@@ -188,12 +191,12 @@ module _ (s : Holdings) (customers_right : are_customers_right s ≡ true) (t : 
       who.waits some
       (λ i d lt. (rights i d lt, own i d lt)) in
       let w : Wait = r.0 in
-      let y = both (nat_le (times who w.kind w.id) 1) _ r.2.0 in
-      let z = both (are_units w.units) (tickets_for c w (ticket w.ticket s) == 1) y.1 in
+      let y = and_parts (nat_le (times who w.kind w.id) 1) _ r.2.0 in
+      let z = and_parts (are_units w.units) (tickets_for c w (ticket w.ticket s) == 1) y.1 in
       let one : tickets_for c w (ticket w.ticket s) ≡ 1 = is_eq_ _ _ z.1 in
       let numbered : w.ticket ≡ t = is_eq_ _ _ r.1 in
       let is : ticket w.ticket s ≡ Some (ticket_of c w) = ticket_found c w (ticket w.ticket s) (omega (arith, one)) in
-      let same : x ≡ ticket_of c w = some_same (sym there ∙ ap (λ n. ticket n s) (sym numbered) ∙ is) in
+      let same : x ≡ ticket_of c w = same_Some _ _ (sym there ∙ ap (λ n. ticket n s) (sym numbered) ∙ is) in
       let it : wait_of t x ≡ w = λ j. record { kind = (same j).kind; id = (same j).id; units = (same j).units; ticket = sym numbered j } in
       let mine : own_waits ≡ who.waits = ap (λ y. (customer_or_new y.customer s).waits) same ∙ ap (λ o. (unwrap_or o newcomer).waits) e in
       (λ j. list_any (same_wait (it j)) (mine j)) ∙ some_counted (same_wait w) who.waits r.2.1
@@ -220,7 +223,7 @@ module _ (s : Holdings) (customers_right : are_customers_right s ≡ true) (t : 
   own_is_awaited h =
       let some : 0 < count_by (same_wait (wait_of t x)) own_waits = any_counted (same_wait (wait_of t x)) own_waits h in
       let fewer : count_by (same_wait (wait_of t x)) own_waits ≤ count_by (λ w. w.ticket == t) own_waits =
-      count_weaker (λ w. w.ticket == t) (same_wait (wait_of t x)) (λ w g. (both (w.ticket == t) _ g).0) own_waits in
+      count_weaker (λ w. w.ticket == t) (same_wait (wait_of t x)) (λ w g. (and_parts (w.ticket == t) _ g).0) own_waits in
       let whole : sum_by (λ (e : ℕ × Customer). times_awaited t e.1) (entries (remove s.customers x.customer))
       + weight_of (times_awaited t) (get s.customers x.customer)
       ≡ sum_by (λ (e : ℕ × Customer). times_awaited t e.1) (entries s.customers) =
@@ -243,7 +246,7 @@ module _ (s : Holdings) (customers_right : are_customers_right s ≡ true) (t : 
   ticket_alike =
       let waits : nat_lt 0 (counted (awaited_tally s) t) ≡ list_any (same_wait (wait_of t x)) own_waits =
       some_alike (counted (awaited_tally s) t) (sum_by (λ (e : ℕ × Customer). times_awaited t e.1) (entries s.customers)) (awaited_says s t)
-      ∙ bool_alike _ _ (λ h. awaited_is_own (is_lt_ 0 _ h)) (λ h. lt_is 0 _ (own_is_awaited h)) in
+      ∙ bool_alike _ _ (λ h. awaited_is_own (nat_lt-true 0 _ h)) (λ h. lt-nat_lt 0 _ (own_is_awaited h)) in
       let stands : nat_lt 0 (counted (of_kind x.kind (queued_tallies s)) t) ≡ list_any (λ y. y == t) (queue x.kind s).tickets =
       ap (λ u. nat_lt 0 (counted u t)) (queued_of x.kind s)
       ∙ some_alike (counted (queued_tally x.kind s) t) (times_queued t x.kind s) (queued_says x.kind s t)

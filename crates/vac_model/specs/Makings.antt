@@ -6,7 +6,7 @@ use Rattle.vac_model.specs.declared.each.Each.{Each}
 use Rattle.vac_model.specs.declared.item.Item.{Item}
 use Rattle.vac_model.specs.declared.queue.Queue.{Queue}
 use Rattle.vac_model.specs.declared.moves.Moves.{Moves}
-use Rattle.vac_model.specs.declared.changes.Changes.{Changes}
+use Rattle.vac_model.specs.declared.changes.TableChanges.{TableChanges}
 use Rattle.vac_model.specs.declared.making.Added.{Added}
 use Rattle.vac_model.specs.declared.limits.TheConstants.{TICKET_LIMIT}
 use Rattle.vac_model.specs.Holdings.{Holdings, everywhere}
@@ -75,13 +75,13 @@ taken_back s a =
     }
 
 -- each entry that is to have a value has its place
-pub record HasAllPlaces (c : Changes) (s : Holdings) : Type 0 where
+pub record HasAllPlaces (c : TableChanges) (s : Holdings) : Type 0 where
   pub items : HaveEachPlaces s.items c.items
   pub customers : HasPlaces s.customers c.customers
   pub tickets : HasPlaces s.tickets c.tickets
 
 -- what is new was added, and else nothing was changed
-pub record IsAdmitted (c : Changes) (s t : Holdings) : Type 0 where
+pub record IsAdmitted (c : TableChanges) (s t : Holdings) : Type 0 where
   pub places : HasAllPlaces c t
   pub items : AreEachAlike c.items s.items t.items
   pub customers : AreElsewhereAlike c.customers s.customers t.customers
@@ -89,13 +89,13 @@ pub record IsAdmitted (c : Changes) (s t : Holdings) : Type 0 where
   pub waiting : t.waiting ≡ each_extended s.waiting c.waiting
 
 -- no queue's head gets too high
-abbrev pub AreHeadsWithin : Holdings → Changes → Type 0
+abbrev pub AreHeadsWithin : Holdings → TableChanges → Type 0
 AreHeadsWithin s c =
     (s.waiting.car.head + c.waiting.car.off ≤ TICKET_LIMIT)
     × (s.waiting.flight.head + c.waiting.flight.off ≤ TICKET_LIMIT)
     × (s.waiting.room.head + c.waiting.room.off ≤ TICKET_LIMIT)
 
-abbrev pub settled : Holdings → Changes → Each ℕ → Holdings
+abbrev pub settled : Holdings → TableChanges → Each ℕ → Holdings
 settled s c n =
     record {
       items = laid_each s.items c.items;

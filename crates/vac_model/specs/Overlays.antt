@@ -5,7 +5,7 @@ use Rattle.std.specs.FinMap as map
 use Rattle.vac_model.specs.declared.each.Each.{Each}
 use Rattle.vac_model.specs.declared.queue.Queue.{Queue}
 use Rattle.vac_model.specs.declared.moves.Moves.{Moves}
-use Rattle.vac_model.specs.declared.changes.Changes.{Changes}
+use Rattle.vac_model.specs.declared.changes.TableChanges.{TableChanges}
 use Rattle.vac_model.specs.Holdings.{Holdings, everywhere}
 
 module _ {V : Type 0} where
@@ -50,7 +50,7 @@ moved_each lines moves = record {
 }
 
 -- the tables with changes made
-abbrev pub with_changes : Holdings → Changes → Holdings
+abbrev pub with_changes : Holdings → TableChanges → Holdings
 with_changes s c =
     record {
       items = laid_each s.items c.items;
@@ -64,6 +64,6 @@ with_changes s c =
 abbrev pub no_moves : Moves
 no_moves = record { off = 0; taken = 0; given = [] }
 
-abbrev pub no_changes : ℕ → Changes
+abbrev pub no_changes : ℕ → TableChanges
 no_changes next =
     record { items = everywhere map.empty; customers = map.empty; tickets = map.empty; waiting = everywhere no_moves; next = next }

@@ -14,7 +14,7 @@ use std::alloc::Global;
 
 /// What is to stand at some keys of the tables' maps, or that nothing is; and what is moved in the queues.
 #[derive(Drop)]
-pub(crate) struct Changes {
+pub(crate) struct TableChanges {
     pub(crate) items: Each<Entries<Option<Item>>>,
     pub(crate) customers: Entries<Option<Customer>>,
     pub(crate) tickets: Entries<Option<Ticket>>,
@@ -22,11 +22,11 @@ pub(crate) struct Changes {
     pub(crate) next: u64,
 }
 
-impl Changes {
-    pub(crate) fn none(alloc: Global, next: u64) -> Changes
+impl TableChanges {
+    pub(crate) fn none(alloc: Global, next: u64) -> TableChanges
         ensures { result ≡ no_changes next }
     {
-        Changes {
+        TableChanges {
             items: Each {
                 car: Entries::new(alloc),
                 flight: Entries::new(alloc),

@@ -4,7 +4,7 @@ ghost use Rattle.vac_model.specs.Balanced.{IsBalanced};
 ghost use Rattle.vac_model.specs.Makings as makings;
 ghost use Rattle.vac_model.specs.Overlays.{laid_each, with_changes};
 
-use crate::changes::{Changes, admit, settle, withdraw};
+use crate::changes::{TableChanges, admit, settle, withdraw};
 use crate::each::Each;
 use crate::item::Item;
 use crate::moves::Moves;
@@ -83,7 +83,7 @@ impl Tables {
     }
 
     /// Adds what is new, and notes it.
-    fn admit(&mut self, changes: &Changes, added: &mut Added) -> Result<(), Memory>
+    fn admit(&mut self, changes: &TableChanges, added: &mut Added) -> Result<(), Memory>
         requires { added.old ≡ makings.nothing_added self.old }
         ensures back { makings.taken_back self.new added.new ≡ self.old }
         ensures ok { OnOk result (makings.IsAdmitted changes.now self.old self.new) }
@@ -112,7 +112,7 @@ impl Tables {
     }
 
     /// Makes the changes, each of which has its place.
-    fn settle(&mut self, changes: Changes, lens: Each<usize>)
+    fn settle(&mut self, changes: TableChanges, lens: Each<usize>)
         requires places { makings.HasAllPlaces changes self.old }
         requires heads { makings.AreHeadsWithin self.old changes }
         ensures { self.new ≡ makings.settled self.old changes lens }
@@ -136,7 +136,7 @@ impl Tables {
     }
 
     /// Makes the changes, or none of them where an allocation fails.
-    pub(crate) fn make(&mut self, changes: Changes) -> Result<(), Memory>
+    pub(crate) fn make(&mut self, changes: TableChanges) -> Result<(), Memory>
         requires { IsBalanced (with_changes self.old changes) }
         ensures ok { OnOk result (self.new ≡ with_changes self.old changes) }
         ensures err { OnErr result (self.new ≡ self.old) }

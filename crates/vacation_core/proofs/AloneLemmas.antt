@@ -16,8 +16,8 @@ use Rattle.client_sessions.specs.declared.entry.Entry.{Entry}
 use Rattle.client_sessions.specs.Holding.{state_of}
 use Rattle.client_sessions.specs.Runs.{AreSessions, Deal}
 use Rattle.vacation_core.specs.Alone.{AloneIsInOrder, AreOf, AreRecordsOf}
-use Rattle.vacation_core.specs.Asking.{Actions, AskAsSessions, MayHappen, Turn, begun, events_of}
-use Rattle.actor_laws.specs.Phases.{Phase, Rests, Committed, phase_at}
+use Rattle.vacation_core.specs.ClientWorlds.{Actions, AskAsSessions, MayHappen, Turn, begun, events_of}
+use Rattle.actor_laws.specs.KnownStages.{KnownStage, Rests, Committed, known_stage_at}
 use Rattle.vacation_core.specs.Serial.{IsSerialSessions, actions_of, begun_all, committed_in, committed_of}
 use Rattle.vacation_core.proofs.ServeLemmas.{sessions_are_serial}
 
@@ -92,18 +92,18 @@ all_own a (d ∷ ds) (r ∷ rs) are none =
 
 -- ---- an idle client is in no commit
 
-rests_at : (x : Seat Entry) (st : Stage Entry) → phase_at x.calls st ≡ Rests → is_half_done st ≡ false
+rests_at : (x : Seat Entry) (st : Stage Entry) → known_stage_at x.calls st ≡ Rests → is_half_done st ≡ false
 rests_at x (Storing ks) e = absurd (other e)
   where
-    other : ◌≡◌ {A = Phase Entry} Committed Rests → ⊥
+    other : ◌≡◌ {A = KnownStage Entry} Committed Rests → ⊥
     other e = cc
 rests_at x (Homing ks) e = absurd (other e)
   where
-    other : ◌≡◌ {A = Phase Entry} Committed Rests → ⊥
+    other : ◌≡◌ {A = KnownStage Entry} Committed Rests → ⊥
     other e = cc
 rests_at x Releasing e = absurd (other e)
   where
-    other : ◌≡◌ {A = Phase Entry} Committed Rests → ⊥
+    other : ◌≡◌ {A = KnownStage Entry} Committed Rests → ⊥
     other e = cc
 rests_at x st e = refl
 

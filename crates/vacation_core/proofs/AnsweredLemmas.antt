@@ -27,11 +27,11 @@ use Rattle.client_sessions.specs.declared.entry.Entry.{Entry}
 use Rattle.client_sessions.specs.Holding.{state_of}
 use Rattle.vacation_core.specs.Costs.{Fits, IsOn}
 use Rattle.vacation_core.proofs.ThereLemmas.{AreKinds, of_tables, suit_kinds, there}
-use Rattle.vacation_core.specs.Asking.{events_of}
+use Rattle.vacation_core.specs.ClientWorlds.{events_of}
 use Rattle.vacation_core.specs.Histories.{History, IsAt, IsLawful, opening_of, world_in}
 use Rattle.vacation_core.proofs.HistoryLemmas.{opens}
 use Rattle.actor_laws.specs.Courses.{IsUnderWay, IsUnderWayFrom}
-use Rattle.actor_laws.specs.Phases.{Phase, Rests, Begins, Stands, Calls, Commits, Committed, Ends, StepMoves, phase, phase_at}
+use Rattle.actor_laws.specs.KnownStages.{KnownStage, Rests, Begins, Stands, Calls, Commits, Committed, Ends, StepMoves, known_stage, known_stage_at}
 use Rattle.vacation_core.specs.LoneClients.{may_commit}
 
 -- ---- what there is
@@ -42,26 +42,26 @@ there_in h op t l on =
     there (world_in h) op t r.words (subst (AreKinds of_tables) (sym r.blocks) kinds) on
 
 -- ---- where a request is under way
-abbrev NotResting : Phase Entry → Type 0
+abbrev NotResting : KnownStage Entry → Type 0
 NotResting Rests = ⊥
 NotResting (Stands calls) = ⊥
 NotResting p = Unit {0}
 
-abbrev RoomAt : Phase Entry → Type 0
+abbrev RoomAt : KnownStage Entry → Type 0
 RoomAt (Calls calls call) = weights calls + weight call.op ≤ LOCATION_LIMIT
 RoomAt p = Unit {0}
 
-goes_at : (calls : List (Call Entry × Reply Entry)) (st : Stage Entry) → NotResting (phase_at calls st) → IsAtRest st → ⊥
+goes_at : (calls : List (Call Entry × Reply Entry)) (st : Stage Entry) → NotResting (known_stage_at calls st) → IsAtRest st → ⊥
 goes_at calls Idle n h = n
 goes_at calls Open n h = n
 goes_at calls st n h = h
 
-room_at : (x : Seat Entry) (st : Stage Entry) → RoomAt (phase_at x.calls st) → HasRoomFor x st
+room_at : (x : Seat Entry) (st : Stage Entry) → RoomAt (known_stage_at x.calls st) → HasRoomFor x st
 room_at x (Copying asked) h = h
 room_at x st h = tt
 
 -- as what it was asked
-abbrev pub asked_as : List (Call Entry × Reply Entry) → Request Entry → Phase Entry
+abbrev pub asked_as : List (Call Entry × Reply Entry) → Request Entry → KnownStage Entry
 asked_as calls request.Begin = Begins
 asked_as calls (request.Call call) = Calls calls call
 asked_as calls request.Commit = Commits calls
@@ -73,9 +73,9 @@ HasRoom calls (request.Call call) = weights calls + weight call.op ≤ LOCATION_
 HasRoom calls q = Unit {0}
 
 -- what holds of where it stands
-under : (P : Phase Entry → Type 0) (calls : List (Call Entry × Reply Entry)) (q : Request Entry) (s x : Seat Entry)
+under : (P : KnownStage Entry → Type 0) (calls : List (Call Entry × Reply Entry)) (q : Request Entry) (s x : Seat Entry)
     (made : Option (Record Entry)) → IsUnderWayFrom s (asked_as calls q) x made
-    → P (asked_as calls q) → P Ends → P Committed → P (phase x)
+    → P (asked_as calls q) → P Ends → P Committed → P (known_stage x)
 under P calls request.Begin s x made u at ends late = subst P (sym u.0) at
 under P calls (request.Call call) s x made (inl is, none) at ends late = subst P (sym is) at
 under P calls (request.Call call) s x made (inr is, none) at ends late = subst P (sym is.0) ends
@@ -110,11 +110,11 @@ answered_in a h l start plain =
 pub never_in_steps : (a : ℕ) (h : History) (calls : List (Call Entry × Reply Entry)) (q : Request Entry) (s : Seat Entry)
     (made : Option (Record Entry)) → IsLawful h → h.clock ≡ 0 → ArePlain a (events_of h.turns)
     → commits_in (events_of h.turns) < clock_limit
-    → phase s ≡ asked_as calls q → HasRoom calls q → IsUnderWay s ((world_in h).seats a) made
+    → known_stage s ≡ asked_as calls q → HasRoom calls q → IsUnderWay s ((world_in h).seats a) made
     → IsRefusal (happens (world_in h) (Step a)).1 → ⊥
 never_in_steps a h calls q s made l start plain few stood room u =
     let x = (world_in h).seats a in
-    let way : IsUnderWayFrom s (asked_as calls q) x made = subst (λ (p : Phase Entry). IsUnderWayFrom s p x made) stood u in
+    let way : IsUnderWayFrom s (asked_as calls q) x made = subst (λ (p : KnownStage Entry). IsUnderWayFrom s p x made) stood u in
     let goes = under NotResting calls q s x made way (goes_as calls q s x made way) tt tt in
     let fits = under RoomAt calls q s x made way (has_room calls q room) tt tt in
     (answered_in a h l start plain).steps (omega (arith, few)) (goes_at x.calls x.stage goes) (room_at x x.stage fits)
@@ -131,7 +131,7 @@ never_as_asked a h calls call action done l start plain at fits =
     (subst (λ (cs : List (Call Entry × Reply Entry)). weights cs + weight call.op ≤ 4096) (sym stands.1) fits.room)
 
 -- ---- commits that may be asked for
-pub at_most_one : (p : Phase Entry) → may_commit p ≤ 1
+pub at_most_one : (p : KnownStage Entry) → may_commit p ≤ 1
 at_most_one Rests = omega arith
 at_most_one Begins = omega arith
 at_most_one (Stands calls) = omega arith
@@ -140,11 +140,11 @@ at_most_one (Commits calls) = omega arith
 at_most_one Committed = omega arith
 at_most_one Ends = omega arith
 
-none_more : (p q : Phase Entry) → q ≡ p → may_commit p ≡ 0 → may_commit q ≤ 0
+none_more : (p q : KnownStage Entry) → q ≡ p → may_commit p ≡ 0 → may_commit q ≤ 0
 none_more p q is none = let same = ap may_commit is in omega (arith, same, none)
 
 -- a step asks for none
-pub step_may : (p : Phase Entry) (commits : Bool) (n : Notice Entry) (q : Phase Entry) → StepMoves p commits n q
+pub step_may : (p : KnownStage Entry) (commits : Bool) (n : Notice Entry) (q : KnownStage Entry) → StepMoves p commits n q
     → may_commit q ≤ may_commit p
 step_may Begins commits n q h = at_most_one q
 step_may (Stands calls) commits n q h = at_most_one q

@@ -7,7 +7,7 @@ use Rattle.std.specs.Prelude.{◌&&◌, map}
 use Rattle.std.specs.Coded.{Coded}
 use Rattle.std.specs.List.{sum_by}
 use Rattle.std.specs.List.Sorted.{IsPermutation}
-use Rattle.std.proofs.lemmas.Bool.{cases_Bool, cond-true, cond-false}
+use Rattle.std.proofs.lemmas.Bool.{cases_Bool, cond-true, cond-false, and_parts}
 use Rattle.std.proofs.lemmas.List.Sums.{sum_by-cons}
 use Rattle.std.proofs.lemmas.List.Sorted.{IsPermutation-cons, IsPermutation-middle, IsPermutation-refl, IsPermutation-trans}
 use Rattle.std.proofs.lemmas.Bool.Decides.{nat_tests}
@@ -20,10 +20,6 @@ same_code gnil gnil = true
 same_code (gnum n) (gnum m) = eqb n m
 same_code (gcons a b) (gcons c d) = same_code a c && same_code b d
 same_code x y = false
-
-both_are : (a b : Bool) → a && b ≡ true → (a ≡ true) × (b ≡ true)
-both_are true b e = (refl, e)
-both_are false b e = cc
 
 same_number : (n m : ℕ) → eqb n m ≡ true → n ≡ m
 same_number n m h = grind (arith, nat_tests)
@@ -39,7 +35,7 @@ unfolding same_code
 is_code gnil gnil h = refl
 is_code (gnum n) (gnum m) h = ap gnum (same_number n m h)
 is_code (gcons a b) (gcons c d) h =
-    let each = both_are (same_code a c) (same_code b d) h in λ i. gcons (is_code a c each.0 i) (is_code b d each.1 i)
+    let each = and_parts (same_code a c) (same_code b d) h in λ i. gcons (is_code a c each.0 i) (is_code b d each.1 i)
 is_code x y h = absurd (none_true h)
 
 code_self : (x : Gv) → same_code x x ≡ true

@@ -32,15 +32,15 @@ use Rattle.step_world.specs.Parts.{IsWorld}
 use Rattle.step_world.specs.declared.opening.TheConstants.{ACTORS}
 use Rattle.vacation_core.specs.Histories.{IsAt, action_in, done_in, world_in}
 use Rattle.vacation_core.proofs.HistoryLemmas.{abort_is_quiet, aborts_to, commit_is_quiet, commits_to, goes_on, idle, may_ask, opens}
-use Rattle.actor_laws.specs.Phases.{CallMoves, Phase, Rests, Stands, Calls, Commits, Ends, phase}
+use Rattle.actor_laws.specs.KnownStages.{CallMoves, KnownStage, Rests, Stands, Calls, Commits, Ends, known_stage}
 use Rattle.vacation_core.specs.Clients.{asks_next, failed, joined}
 use Rattle.vacation_core.specs.Plays.{Play, aborts, asks_on, if_replied, left_of, moved, seat_in, told}
-use Rattle.vacation_core.specs.Running.{AsksNext, AsksOn, Abandons, Called, HasPlace, IsAsking, IsCalling, IsClient, IsOn, IsOpen, IsOpenWith}
+use Rattle.vacation_core.specs.Running.{AsksNext, AsksOn, Abandons, Called, HasPosition, IsAsking, IsCalling, IsClient, IsOn, IsOpen, IsOpenWith}
 use Rattle.vacation_core.specs.Running.{IsPlay}
 use Rattle.vacation_core.specs.Running.{IsRefused, Others, Refusing, RepliesWithin}
 use Rattle.vacation_core.specs.declared.client.Client.{Client}
 use Rattle.vacation_core.specs.declared.world.VacWorld.{VacWorld}
-use Rattle.vacation_core.proofs.HearLemmas.{asks_is, open_failed, open_joined, open_of}
+use Rattle.vacation_core.proofs.ClientAnswerLemmas.{asks_is, open_failed, open_joined, open_of}
 use Rattle.vacation_core.proofs.PlayLemmas.{at_now, called_at, open_calls, replied_next}
 use Rattle.vacation_core.proofs.TurnLemmas.{client_as, client_at, on_turned, others_turned, own_told}
 use Rattle.vacation_core.proofs.ClientLemmas.{parts_of}
@@ -91,13 +91,13 @@ asking_next : (calls : List (Call Entry × Reply Entry)) (c : Client) (a : ℕ) 
     → asks_next c ≡ asked (after (session (action_in a p.history)) (replies_of calls))
 asking_next calls c a p k = asks_is c.current (action_in a p.history) (p.faults a) (replies_of calls) k.current
 
-left_is : (a : ℕ) (p : Play) (calls : List (Call Entry × Reply Entry)) → phase (seat_in a p) ≡ Stands calls
+left_is : (a : ℕ) (p : Play) (calls : List (Call Entry × Reply Entry)) → known_stage (seat_in a p) ≡ Stands calls
     → left_of a p ≡ after (session (action_in a p.history)) (replies_of calls)
 left_is a p calls stands =
     ap (λ (cs : List (Call Entry × Reply Entry)). after (session (action_in a p.history)) (replies_of cs)) (open_calls a p calls stands)
 
 -- there was room for a call that is answered
-roomy : (a : ℕ) (p : Play) (calls : List (Call Entry × Reply Entry)) (call : Call Entry) → phase (seat_in a p) ≡ Stands calls
+roomy : (a : ℕ) (p : Play) (calls : List (Call Entry × Reply Entry)) (call : Call Entry) → known_stage (seat_in a p) ≡ Stands calls
     → RepliesWithin (told (event.Ask a (request.Call call)) p) (length calls)
 roomy a p calls call stands = by (ltb (length calls) CALL_LIMIT) refl
   where
@@ -132,7 +132,7 @@ roomy a p calls call stands = by (ltb (length calls) CALL_LIMIT) refl
 -- ---- a call
 
 -- a call was fed, and this was answered
-pub calls_now : (i k : ℕ) (call : Call Entry) (v u : VacWorld) (n : Notice Entry) (to : Play) → HasPlace i v → AsksNext i v (ask.Call call)
+pub calls_now : (i k : ℕ) (call : Call Entry) (v u : VacWorld) (n : Notice Entry) (to : Play) → HasPosition i v → AsksNext i v (ask.Call call)
     → Feeds v.world.parts (event.Ask (i + 1) (request.Call call)) u.world.parts n → u.clients.items ≡ v.clients.items
     → u.aborted ≡ v.aborted → AsksOn i k v to → Called i k call n u to
 calls_now i k call v u n to place next f clients aborted k' =
@@ -184,7 +184,7 @@ replied_on i k b call r v u c to got world aborted clients x =
     let a = i + 1 in
     let p = x.play in
     let calls = x.calls ++ (call, r) ∷ [] in
-    let stands : phase (seat_in a p) ≡ Stands calls = x.stands ∙ x.moves in
+    let stands : known_stage (seat_in a p) ≡ Stands calls = x.stands ∙ x.moves in
     let own = x.own c got in
     let long : length calls ≡ length x.calls + 1 = calls_more x.calls (call, r) in
     let made = x.made in
@@ -224,7 +224,7 @@ waits_on i k call v to x =
       clients = all_of i v x.play x.others (λ c got. by c (x.own c got) x.at x.stands x.moves);
     })
   where
-    by : (c : Client) → IsCalling x.calls c (i + 1) x.play → (at : Phase Entry) → phase (seat_in (i + 1) x.play) ≡ at
+    by : (c : Client) → IsCalling x.calls c (i + 1) x.play → (at : KnownStage Entry) → known_stage (seat_in (i + 1) x.play) ≡ at
         → CallMoves x.calls call Quiet at → IsClient c (i + 1) x.play
     by c k at stands (inl e) = record { at = Calls x.calls call; stands = stands ∙ e; keeps = (k.current, k.done) }
     by c k at stands (inr e) =
@@ -259,12 +259,12 @@ given_up i k b call cause v u to true x g = subst (IsPlay u) x.comes g.1
 given_up i k b call cause v u to false x g =
     absurd (apart x.calls (sym g.0 ∙ x.stands ∙ x.moves.0))
   where
-    apart : (calls : List (Call Entry × Reply Entry)) → ◌≡◌ {A = Phase Entry} Rests (Stands calls) → ⊥
+    apart : (calls : List (Call Entry × Reply Entry)) → ◌≡◌ {A = KnownStage Entry} Rests (Stands calls) → ⊥
     apart calls e = cc
 
 -- ---- a commit
 
-pub commits_now : (i k : ℕ) (v u : VacWorld) (n : Notice Entry) (to : Play) → HasPlace i v → AsksNext i v ask.Done
+pub commits_now : (i k : ℕ) (v u : VacWorld) (n : Notice Entry) (to : Play) → HasPosition i v → AsksNext i v ask.Done
     → Feeds v.world.parts (event.Ask (i + 1) request.Commit) u.world.parts n → u.clients.items ≡ v.clients.items
     → u.aborted ≡ v.aborted → AsksOn i k v to → IsPlay u to
 commits_now i k v u n to place next f clients aborted k' =
@@ -301,7 +301,7 @@ commits_now i k v u n to place next f clients aborted k' =
 
 -- ---- no session aborts on its replies
 
-pub never_up : (i k : ℕ) (v : VacWorld) (to : Play) → HasPlace i v → AsksNext i v ask.GiveUp → AsksOn i k v to → ⊥
+pub never_up : (i k : ℕ) (v : VacWorld) (to : Play) → HasPosition i v → AsksNext i v ask.GiveUp → AsksOn i k v to → ⊥
 never_up i k v to place next k' =
     let a = i + 1 in
     let p = k'.play in
@@ -331,7 +331,7 @@ gives_up_open i cause v u t c p inside got f clients aborted world same set r =
     quiet = sym (own_told i v u p e Quiet inside refl f r.on)
 
     -- an idle one would be refused
-    never : phase (seat_in a p) ≡ Rests → ⊥
+    never : known_stage (seat_in a p) ≡ Rests → ⊥
     never rests =
         let x = aborts_to p.history a Rests (action_in a p.history) (done_in a p.history) Quiet (at_now a p Rests rests) (sym quiet) in
         x.moves
@@ -352,7 +352,7 @@ gives_up_open i cause v u t c p inside got f clients aborted world same set r =
       absent = on.absent;
     })
 
-    current : (calls : List (Call Entry × Reply Entry)) → phase (seat_in a p) ≡ Stands calls
+    current : (calls : List (Call Entry × Reply Entry)) → known_stage (seat_in a p) ≡ Stands calls
         → IsOpen c.current (action_in a p.history) (p.faults a)
         → c.done ≡ done_in a p.history → Abandons i cause p true t
     current calls stands has had =
@@ -389,7 +389,7 @@ gives_up_open i cause v u t c p inside got f clients aborted world same set r =
     ]
 
 -- it was idle: nothing has happened
-pub gives_up_none : (i : ℕ) (cause : Refusal) (v u : VacWorld) (n : Notice Entry) (p : Play) → HasPlace i v → (n ≡ Quiet → ⊥)
+pub gives_up_none : (i : ℕ) (cause : Refusal) (v u : VacWorld) (n : Notice Entry) (p : Play) → HasPosition i v → (n ≡ Quiet → ⊥)
     → Feeds v.world.parts (event.Ask (i + 1) request.Abort) u.world.parts n → u.clients.items ≡ v.clients.items → u.aborted ≡ v.aborted
     → Refusing i v p → Abandons i cause p false u
 gives_up_none i cause v u n p place loud f clients aborted r =
@@ -407,7 +407,7 @@ gives_up_none i cause v u n p place loud f clients aborted r =
     same : n ≡ told e p
     same = own_told i v u p e n place.inside refl f r.on
 
-    current : (calls : List (Call Entry × Reply Entry)) → phase (seat_in a p) ≡ Stands calls → ⊥
+    current : (calls : List (Call Entry × Reply Entry)) → known_stage (seat_in a p) ≡ Stands calls → ⊥
     current calls stands =
         loud (same ∙ abort_is_quiet p.history a calls (action_in a p.history) (done_in a p.history) (at_now a p (Stands calls) stands))
 

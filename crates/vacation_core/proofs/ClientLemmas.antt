@@ -43,17 +43,17 @@ use Rattle.step_world.specs.Feeds.{Feeds}
 use Rattle.step_world.specs.Reached.{IsReached}
 use Rattle.step_world.specs.Parts.{IsWorld}
 use Rattle.step_world.specs.declared.parts.Parts.{Parts}
-use Rattle.vacation_core.specs.Asking.{MayHappen, Turn, events_of}
+use Rattle.vacation_core.specs.ClientWorlds.{MayHappen, Turn, events_of}
 use Rattle.vacation_core.specs.Histories.{History, IsAt, IsLawful, opening_of, world_in}
 use Rattle.vacation_core.specs.Serial.{begun_all}
 use Rattle.vacation_core.proofs.HistoryLemmas.{all_of, begin_is_quiet, begins, calls_to, commit_is_quiet, commits_to}
 use Rattle.vacation_core.proofs.HistoryLemmas.{lawful_next, may_ask, next}
 use Rattle.vacation_core.proofs.HistoryLemmas.{opens, step_at, world_next}
 use Rattle.actor_laws.proofs.CourseLemmas.{ends_at, steps_come}
-use Rattle.actor_laws.proofs.PhaseLemmas.{steps_move}
+use Rattle.actor_laws.proofs.KnownStageLemmas.{steps_move}
 use Rattle.actor_laws.specs.Courses.{ComesTo, EndsFrom, IsUnderWay, IsUnderWayFrom, IsRecordOf, latest}
-use Rattle.actor_laws.specs.Phases.{AskMoves, CallMoves, Phase, Rests, Begins, Stands, Calls, Commits, Committed, StepMoves, phase}
-use Rattle.actor_laws.specs.Phases.{Ends as Ended}
+use Rattle.actor_laws.specs.KnownStages.{AskMoves, CallMoves, KnownStage, Rests, Begins, Stands, Calls, Commits, Committed, StepMoves, known_stage}
+use Rattle.actor_laws.specs.KnownStages.{Ends as Ended}
 use Rattle.vacation_core.specs.LoneClients.{IsAnswered, IsClient, IsDue, Leads, begun, may_commit}
 use Rattle.vacation_core.proofs.AnsweredLemmas.{HasRoom, asked_as, at_most_one, never_as_asked, never_in_steps, step_may}
 
@@ -95,8 +95,8 @@ May h t = MayHappen (begun_all h.actions (opening_of h) h.turns) (world_in h) t
 
 module _ (a : ℕ) (tables : Holdings) where
   -- the client after a turn of its own, where it stands at q then
-  abbrev goes : (n : ℕ) (p : Phase Entry) (old : Action) (had : List Action) (c d : Parts Entry) (x : IsClient a tables n p old had c)
-      (t : Turn) (told : Notice Entry) (k : ℕ) (q : Phase Entry) (action : Action) (done : List Action) → IsPlain a t.0 → May x.history t
+  abbrev goes : (n : ℕ) (p : KnownStage Entry) (old : Action) (had : List Action) (c d : Parts Entry) (x : IsClient a tables n p old had c)
+      (t : Turn) (told : Notice Entry) (k : ℕ) (q : KnownStage Entry) (action : Action) (done : List Action) → IsPlain a t.0 → May x.history t
       → Feeds c t.0 d told → commits_in (events_of x.history.turns) + (commit_of t.0 + may_commit q) ≤ k → k < clock_limit
       → IsAt a q action done (next x.history t) → IsClient a tables k q action done d
   goes n p old had c d x t told k q action done plain may f asked few at = record {
@@ -121,43 +121,43 @@ module _ (a : ℕ) (tables : Holdings) where
 -- It was asked where the seat was `start`, with room for a call.
 pub record Goes (calls : List (Call Entry × Reply Entry)) (q : Request Entry) (x : Seat Entry) (made : Option (Record Entry)) : Type 0 where
   pub start : Seat Entry
-  pub stood : phase start ≡ asked_as calls q
+  pub stood : known_stage start ≡ asked_as calls q
   pub room : HasRoom calls q
   pub under : IsUnderWay start x made
 
 module _ (calls : List (Call Entry × Reply Entry)) where
   -- where it ends
-  abbrev Ends : Request Entry → Notice Entry → Phase Entry → Option (Record Entry) → Type 0
+  abbrev Ends : Request Entry → Notice Entry → KnownStage Entry → Option (Record Entry) → Type 0
   Ends q n p made = Leads calls q n p (is_some made)
 
-  none_leads : (q : Request Entry) (n : Notice Entry) (p : Phase Entry) (made : Option (Record Entry)) → made ≡ None
+  none_leads : (q : Request Entry) (n : Notice Entry) (p : KnownStage Entry) (made : Option (Record Entry)) → made ≡ None
       → Leads calls q n p false
       → Ends q n p made
   none_leads q n p made none h = subst (λ (b : Bool). Leads calls q n p b) (sym (ap is_some none)) h
 
-  some_leads : (n : Notice Entry) (p : Phase Entry) (k : ℕ) (made : Option (Record Entry)) → IsRecordOf calls k made
+  some_leads : (n : Notice Entry) (p : KnownStage Entry) (k : ℕ) (made : Option (Record Entry)) → IsRecordOf calls k made
       → Leads calls request.Commit n p true → Ends request.Commit n p made
   some_leads n p k None is h = absurd is
   some_leads n p k (Some r) is h = h
 
   begins_so : (a : ℕ) (s x : Seat Entry) (b : ℕ) (w : Answer Entry) (made : Option (Record Entry))
-      → EndsFrom a s Begins (Answered b w) x made → Ends request.Begin (Answered b w) (phase x) made
-  begins_so a s x b (answer.Begun rv) made e = none_leads request.Begin (Answered b (answer.Begun rv)) (phase x) made e.2 e.0
+      → EndsFrom a s Begins (Answered b w) x made → Ends request.Begin (Answered b w) (known_stage x) made
+  begins_so a s x b (answer.Begun rv) made e = none_leads request.Begin (Answered b (answer.Begun rv)) (known_stage x) made e.2 e.0
   begins_so a s x b w made e = absurd e
 
   replied : (a : ℕ) (s x : Seat Entry) (call : Call Entry) (b : ℕ) (w : Answer Entry) (made : Option (Record Entry))
-      → EndsFrom a s (Calls calls call) (Answered b w) x made → Ends (request.Call call) (Answered b w) (phase x) made
-  replied a s x call b (answer.Replied r) made e = none_leads (request.Call call) (Answered b (answer.Replied r)) (phase x) made e.1 e.0
+      → EndsFrom a s (Calls calls call) (Answered b w) x made → Ends (request.Call call) (Answered b w) (known_stage x) made
+  replied a s x call b (answer.Replied r) made e = none_leads (request.Call call) (Answered b (answer.Replied r)) (known_stage x) made e.1 e.0
   replied a s x call b w made e = absurd e
 
   committed : (a : ℕ) (s x : Seat Entry) (b : ℕ) (w : Answer Entry) (made : Option (Record Entry))
-      → EndsFrom a s (Commits calls) (Answered b w) x made → Ends request.Commit (Answered b w) (phase x) made
-  committed a s x b (answer.Committed k) made e = some_leads (Answered b (answer.Committed k)) (phase x) k made e.1 e.0
+      → EndsFrom a s (Commits calls) (Answered b w) x made → Ends request.Commit (Answered b w) (known_stage x) made
+  committed a s x b (answer.Committed k) made e = some_leads (Answered b (answer.Committed k)) (known_stage x) k made e.1 e.0
   committed a s x b w made e = absurd e
 
   -- what the end of a request says, by what it was asked
   ended_as : (a : ℕ) (s x : Seat Entry) (q : Request Entry) (n : Notice Entry) (made : Option (Record Entry)) → (IsRefusal n → ⊥)
-      → (IsQuiet n → ⊥) → EndsFrom a s (asked_as calls q) n x made → Ends q n (phase x) made
+      → (IsQuiet n → ⊥) → EndsFrom a s (asked_as calls q) n x made → Ends q n (known_stage x) made
   ended_as a s x q (Refused b cause) made never told e = absurd (never tt)
   ended_as a s x q Quiet made never told e = absurd (told tt)
   ended_as a s x request.Begin (Answered b w) made never told e = begins_so a s x b w made e
@@ -166,17 +166,17 @@ module _ (calls : List (Call Entry × Reply Entry)) where
   ended_as a s x q n made never told e = absurd e
 
   ends_as_told : (a : ℕ) (s x : Seat Entry) (n : Notice Entry) (made : Option (Record Entry)) → (IsQuiet n → ⊥) → ComesTo a s n x made
-      → EndsFrom a s (phase s) n x made
+      → EndsFrom a s (known_stage s) n x made
   ends_as_told a s x Quiet made told h = absurd (told tt)
   ends_as_told a s x n made told h = h
 
-  ended : (a : ℕ) (s x : Seat Entry) (q : Request Entry) (n : Notice Entry) (made : Option (Record Entry)) → phase s ≡ asked_as calls q
-      → (IsRefusal n → ⊥) → (IsQuiet n → ⊥) → ComesTo a s n x made → Ends q n (phase x) made
+  ended : (a : ℕ) (s x : Seat Entry) (q : Request Entry) (n : Notice Entry) (made : Option (Record Entry)) → known_stage s ≡ asked_as calls q
+      → (IsRefusal n → ⊥) → (IsQuiet n → ⊥) → ComesTo a s n x made → Ends q n (known_stage x) made
   ended a s x q n made stood never told h =
       ended_as a s x q n made never told
-      (subst (λ (p : Phase Entry). EndsFrom a s p n x made) stood (ends_as_told a s x n made told h))
+      (subst (λ (p : KnownStage Entry). EndsFrom a s p n x made) stood (ends_as_told a s x n made told h))
 
-  called : (call : Call Entry) (n : Notice Entry) (p : Phase Entry) → (IsRefusal n → ⊥) → (IsQuiet n → ⊥)
+  called : (call : Call Entry) (n : Notice Entry) (p : KnownStage Entry) → (IsRefusal n → ⊥) → (IsQuiet n → ⊥)
       → CallMoves calls call n p → Leads calls (request.Call call) n p false
   called call (Answered b (answer.Replied r)) p never told h = h
   called call (Answered b w) p never told h = absurd h
@@ -185,7 +185,7 @@ module _ (calls : List (Call Entry × Reply Entry)) where
 
 -- no record is made once there is one
 once : (s x : Seat Entry) (q : Request Entry) (calls : List (Call Entry × Reply Entry)) (o made : Option (Record Entry)) (n : Notice Entry)
-    (p : Phase Entry) → phase s ≡ asked_as calls q → IsUnderWay s x made → StepMoves (phase x) (is_some o) n p
+    (p : KnownStage Entry) → known_stage s ≡ asked_as calls q → IsUnderWay s x made → StepMoves (known_stage x) (is_some o) n p
     → (done : List Action) (action : Action)
     → (if is_some o then (if is_some made then done ++ action ∷ [] else done) ++ action ∷ []
     else (if is_some made then done ++ action ∷ [] else done))
@@ -193,18 +193,18 @@ once : (s x : Seat Entry) (q : Request Entry) (calls : List (Call Entry × Reply
 once s x q calls None made n p stood under moves done action = refl
 once s x q calls (Some r) None n p stood under moves done action = refl
 once s x q calls (Some r) (Some d) n p stood under moves done action =
-    absurd (never q stood (subst (λ (at : Phase Entry). IsUnderWayFrom s at x (Some d)) stood under))
+    absurd (never q stood (subst (λ (at : KnownStage Entry). IsUnderWayFrom s at x (Some d)) stood under))
   where
     no_record : Some d ≡ None → ⊥
     no_record e = cc
 
-    late : phase x ≡ Committed → ⊥
-    late at = not_late n (subst (λ (z : Phase Entry). StepMoves z true n p) at moves)
+    late : known_stage x ≡ Committed → ⊥
+    late at = not_late n (subst (λ (z : KnownStage Entry). StepMoves z true n p) at moves)
       where
         not_late : (m : Notice Entry) → StepMoves Committed true m p → ⊥
         not_late m h = h
 
-    never : (q : Request Entry) → phase s ≡ asked_as calls q → IsUnderWayFrom s (asked_as calls q) x (Some d) → ⊥
+    never : (q : Request Entry) → known_stage s ≡ asked_as calls q → IsUnderWayFrom s (asked_as calls q) x (Some d) → ⊥
     never request.Begin stood u = no_record u.1
     never (request.Call call) stood u = no_record u.1
     never request.Commit stood (inl u) = no_record u.1
@@ -217,7 +217,7 @@ once s x q calls (Some r) (Some d) n p stood under moves done action =
 pub record Waits (a : ℕ) (tables : Holdings) (n : ℕ) (calls : List (Call Entry × Reply Entry)) (q : Request Entry) (m : Notice Entry)
     (action : Action) (done : List Action) (c : Parts Entry) (k : ℕ) : Type 0 where
   pub made : Option (Record Entry)
-  pub at : Phase Entry
+  pub at : KnownStage Entry
   pub client : IsClient a tables n at action (if is_some made then done ++ action ∷ [] else done) c
   pub goes_on : IsQuiet m → Goes calls q ((world_in client.history).seats a) made
   pub ends : (IsQuiet m → ⊥) → Leads calls q m at (is_some made)
@@ -236,11 +236,11 @@ module _ (a : ℕ) (tables : Holdings) (calls : List (Call Entry × Reply Entry)
       let same = ap (λ (w : World Entry). left_of w a) (world_next h (Ask a q, action)) in
       omega (arith, few, same)
 
-  asked_begin : (n : ℕ) (p : Phase Entry) (old : Action) (c d : Parts Entry) (m : Notice Entry) → IsClient a tables n p old done c
+  asked_begin : (n : ℕ) (p : KnownStage Entry) (old : Action) (c d : Parts Entry) (m : Notice Entry) → IsClient a tables n p old done c
       → IsDue n old action calls p request.Begin → Feeds c (Ask a request.Begin) d m
       → Waits a tables (n + 1) calls request.Begin m action done d 0
   asked_begin n p old c d m x due f =
-      let at : IsAt a Rests old done x.history = subst (λ (r : Phase Entry). IsAt a r old done x.history) due.1 x.at in
+      let at : IsAt a Rests old done x.history = subst (λ (r : KnownStage Entry). IsAt a r old done x.history) due.1 x.at in
       let t : Turn = (Ask a request.Begin, action) in
       let told = told_of x.history (Ask a request.Begin) c d m x.actor x.lawful x.parts f in
       let quiet : m ≡ Quiet = told ∙ begin_is_quiet x.history a old done at in
@@ -255,22 +255,22 @@ module _ (a : ℕ) (tables : Holdings) (calls : List (Call Entry × Reply Entry)
           start = y;
           stood = now.stands;
           room = tt;
-          under = subst (λ (r : Phase Entry). IsUnderWayFrom y r y None) (sym now.stands) (now.stands, refl);
+          under = subst (λ (r : KnownStage Entry). IsUnderWayFrom y r y None) (sym now.stands) (now.stands, refl);
         };
         ends = λ q. absurd (q (subst IsQuiet (sym quiet) tt));
         left = soon x.history request.Begin m x.lawful x.small told;
       }
 
   -- an open transaction
-  stands : (n : ℕ) (p : Phase Entry) (old : Action) (c : Parts Entry) (x : IsClient a tables n p old done c) → old ≡ action
+  stands : (n : ℕ) (p : KnownStage Entry) (old : Action) (c : Parts Entry) (x : IsClient a tables n p old done c) → old ≡ action
       → p ≡ Stands calls
       → IsAt a (Stands calls) action done x.history
   stands n p old c x same on =
-      subst (λ (r : Phase Entry). IsAt a r action done x.history) on (subst (λ (y : Action). IsAt a p y done x.history) same x.at)
+      subst (λ (r : KnownStage Entry). IsAt a r action done x.history) on (subst (λ (y : Action). IsAt a p y done x.history) same x.at)
 
   -- a call that is asked aborts nothing
   no_end : (h : History) (call : Call Entry) → IsLawful h → IsAt a (Stands calls) action done h
-      → phase ((happens (world_in h) (Ask a (request.Call call))).0.seats a) ≡ Ended → ⊥
+      → known_stage ((happens (world_in h) (Ask a (request.Call call))).0.seats a) ≡ Ended → ⊥
   no_end h call l at e =
       let s = state_of h.tables in
       let start = opened h.blocks h.clock s.words s.held in
@@ -282,7 +282,7 @@ module _ (a : ℕ) (tables : Holdings) (calls : List (Call Entry × Reply Entry)
       no_abort : (call : Call Entry) → request.Call call ≡ request.Abort → ⊥
       no_abort call e = cc
 
-  asked_call : (n : ℕ) (call : Call Entry) (p : Phase Entry) (old : Action) (c d : Parts Entry) (m : Notice Entry)
+  asked_call : (n : ℕ) (call : Call Entry) (p : KnownStage Entry) (old : Action) (c d : Parts Entry) (m : Notice Entry)
       → IsClient a tables n p old done c → IsDue n old action calls p (request.Call call) → Feeds c (Ask a (request.Call call)) d m
       → Waits a tables n calls (request.Call call) m action done d 0
   asked_call n call p old c d m x due f =
@@ -310,28 +310,28 @@ module _ (a : ℕ) (tables : Holdings) (calls : List (Call Entry × Reply Entry)
             moved.at;
         goes_on = λ quiet. going y m moved.to moved.at.stands quiet fits.room moved.moves
             (λ e. no_end x.history call x.lawful at
-            (ap (λ (w : World Entry). phase (w.seats a)) (sym (world_next x.history t)) ∙ moved.at.stands ∙ e));
+            (ap (λ (w : World Entry). known_stage (w.seats a)) (sym (world_next x.history t)) ∙ moved.at.stands ∙ e));
         ends = λ q. called calls call m moved.to never q moved.moves;
         left = soon x.history q m x.lawful x.small told;
       }
     where
-      under : (y : Seat Entry) (to : Phase Entry) → phase y ≡ to → (to ≡ Ended → ⊥) → (to ≡ Calls calls call) ⊎ (to ≡ Ended)
+      under : (y : Seat Entry) (to : KnownStage Entry) → known_stage y ≡ to → (to ≡ Ended → ⊥) → (to ≡ Calls calls call) ⊎ (to ≡ Ended)
           → weights calls + weight call.op ≤ 4096 → Goes calls (request.Call call) y None
       under y to at never (inl is) room =
           record {
             start = y;
             stood = at ∙ is;
             room = room;
-            under = subst (λ (r : Phase Entry). IsUnderWayFrom y r y None) (sym (at ∙ is)) (inl (at ∙ is), refl);
+            under = subst (λ (r : KnownStage Entry). IsUnderWayFrom y r y None) (sym (at ∙ is)) (inl (at ∙ is), refl);
           }
       under y to at never (inr is) room = absurd (never is)
 
-      going : (y : Seat Entry) (n : Notice Entry) (to : Phase Entry) → phase y ≡ to → IsQuiet n
+      going : (y : Seat Entry) (n : Notice Entry) (to : KnownStage Entry) → known_stage y ≡ to → IsQuiet n
           → weights calls + weight call.op ≤ 4096 → CallMoves calls call n to → (to ≡ Ended → ⊥) → Goes calls (request.Call call) y None
       going y Quiet to at quiet room moves never = under y to at never moves room
       going y n to at quiet room moves never = absurd quiet
 
-  asked_commit : (n : ℕ) (p : Phase Entry) (old : Action) (c d : Parts Entry) (m : Notice Entry) → IsClient a tables n p old done c
+  asked_commit : (n : ℕ) (p : KnownStage Entry) (old : Action) (c d : Parts Entry) (m : Notice Entry) → IsClient a tables n p old done c
       → IsDue n old action calls p request.Commit → Feeds c (Ask a request.Commit) d m
       → Waits a tables n calls request.Commit m action done d 0
   asked_commit n p old c d m x due f =
@@ -346,7 +346,7 @@ module _ (a : ℕ) (tables : Holdings) (calls : List (Call Entry × Reply Entry)
       let moved = commits_to x.history a (Stands calls) action done m at told in
       let is : moved.to ≡ Commits calls = subst (λ (o : Notice Entry). AskMoves (Stands calls) q o moved.to) quiet moved.moves in
       let y : Seat Entry = (world_in (next x.history t)).seats a in
-      let now : phase y ≡ Commits calls = moved.at.stands ∙ is in
+      let now : known_stage y ≡ Commits calls = moved.at.stands ∙ is in
       let asked = x.asked in
       let one = ap may_commit due.1 in
       let none = ap may_commit is in
@@ -358,13 +358,13 @@ module _ (a : ℕ) (tables : Holdings) (calls : List (Call Entry × Reply Entry)
           start = y;
           stood = now;
           room = tt;
-          under = subst (λ (r : Phase Entry). IsUnderWayFrom y r y None) (sym now) (inl (inl now, refl));
+          under = subst (λ (r : KnownStage Entry). IsUnderWayFrom y r y None) (sym now) (inl (inl now, refl));
         };
         ends = λ q. absurd (q (subst IsQuiet (sym quiet) tt));
         left = soon x.history q m x.lawful x.small told;
       }
 
-  pub asks : (q : Request Entry) (n : ℕ) (p : Phase Entry) (old : Action) (c d : Parts Entry) (m : Notice Entry)
+  pub asks : (q : Request Entry) (n : ℕ) (p : KnownStage Entry) (old : Action) (c d : Parts Entry) (m : Notice Entry)
       → IsClient a tables n p old done c → IsDue n old action calls p q → Feeds c (Ask a q) d m
       → Waits a tables (begun n q) calls q m action done d 0
   asks request.Begin n p old c d m x due f = asked_begin n p old c d m x due f
@@ -390,7 +390,7 @@ module _ (a : ℕ) (tables : Holdings) (calls : List (Call Entry × Reply Entry)
       let g = v.goes_on quiet in
       let o = committed_by (w.seats a) (w.seats a).stage in
       let r = happens w (Step a) in
-      let to = phase (r.0.seats a) in
+      let to = known_stage (r.0.seats a) in
       let had = if is_some v.made then done ++ action ∷ [] else done in
       let t : Turn = (Step a, action) in
       let told : n ≡ r.1 = told_of h (Step a) c d n x.actor x.lawful x.parts f in
@@ -404,7 +404,7 @@ module _ (a : ℕ) (tables : Holdings) (calls : List (Call Entry × Reply Entry)
       let seat : (world_in (next h t)).seats a ≡ r.0.seats a = ap (λ (z : World Entry). z.seats a) (world_next h t) in
       let asked = x.asked in
       let few = x.few in
-      let fewer = step_may (phase (w.seats a)) (is_some o) r.1 to (steps_move w a) in
+      let fewer = step_may (known_stage (w.seats a)) (is_some o) r.1 to (steps_move w a) in
       let same = ap may_commit x.at.stands in
       let never : IsRefusal n → ⊥ = λ is.
       never_in_steps a h calls q g.start v.made x.lawful x.start x.plain (omega (arith, asked, few)) g.stood g.room g.under
@@ -428,7 +428,7 @@ module _ (a : ℕ) (tables : Holdings) (calls : List (Call Entry × Reply Entry)
 -- in every world where the client may ask q, it has asked, has made k steps since, and was answered n last
 abbrev pub Waiting : Parts Entry → ℕ → Request Entry → Parts Entry → Notice Entry → ℕ → Type 0
 Waiting c a q d m k =
-    (tables : Holdings) (n : ℕ) (calls : List (Call Entry × Reply Entry)) (p : Phase Entry) (old action : Action) (done : List Action)
+    (tables : Holdings) (n : ℕ) (calls : List (Call Entry × Reply Entry)) (p : KnownStage Entry) (old action : Action) (done : List Action)
     → IsClient a tables n p old done c → IsDue n old action calls p q → Waits a tables (begun n q) calls q m action done d k
 
 pub spoken : (c : Parts Entry) (a : ℕ) (q : Request Entry) (d : Parts Entry) (m : Notice Entry) (k : ℕ) → Waiting c a q d m k

@@ -15,14 +15,15 @@ use Rattle.seq_model.specs.declared.call.Reply.{Reply}
 use Rattle.seq_model.specs.declared.call.Reply.TheVariants as reply
 use Rattle.actor_laws.specs.Alone.{IsSmall, weight, weights}
 use Rattle.seq_model.specs.Programs.{Asks, Answers, GivesUp, Follows}
+use Rattle.seq_model.proofs.LogicLemmas.{nat_le-true}
 use Rattle.vac_model.specs.declared.action.Action.{Action}
 use Rattle.vac_model.specs.declared.action.Action.TheVariants.{Reserve, Delete, Update, QueryItem, QueryBill}
 use Rattle.vac_model.specs.declared.action.ActionReply.TheVariants.{Deleted, Reserved, Updated}
 use Rattle.vac_model.specs.declared.action.Ask.{Ask}
 use Rattle.vac_model.specs.declared.action.Change.{Change}
-use Rattle.vac_model.specs.declared.action.Changed.{Changed}
-use Rattle.vac_model.specs.declared.action.Part.{Part}
-use Rattle.vac_model.specs.declared.action.Part.TheVariants as part
+use Rattle.vac_model.specs.declared.action.ChangeReply.{ChangeReply}
+use Rattle.vac_model.specs.declared.action.KindReply.{KindReply}
+use Rattle.vac_model.specs.declared.action.KindReply.TheVariants as part
 use Rattle.vac_model.specs.declared.item.Booking.{Booking}
 use Rattle.vac_model.specs.declared.item.Customer.{Customer}
 use Rattle.vac_model.specs.declared.item.Item.{Item}
@@ -162,8 +163,8 @@ gather_takes (ask ∷ asks) car flight room next n h =
     (λ o. gather_takes asks (programs.better Car ask o car) (programs.better Flight ask o flight)
     (programs.better Room ask o room) next n h))
 
-line_up_takes : (c units : ℕ) (k : Kind) (id : ℕ) (who : Customer) (next : Part → Customer → SessionProgram) (t n : ℕ)
-    → ((p : Part) (w : Customer) → Takes (next p w) n) → Takes (programs.line_up c units k id who next t) (n + 4)
+line_up_takes : (c units : ℕ) (k : Kind) (id : ℕ) (who : Customer) (next : KindReply → Customer → SessionProgram) (t n : ℕ)
+    → ((p : KindReply) (w : Customer) → Takes (next p w) n) → Takes (programs.line_up c units k id who next t) (n + 4)
 line_up_takes c units k id who next t n h =
     takes_if (t == TICKET_LIMIT) _ _ (n + 4)
     (λ _. takes_more _ n (n + 4) (omega arith) (h _ _))
@@ -174,8 +175,8 @@ line_up_takes c units k id who next t n h =
     takes_more (programs.write_next (t + 1) put) (n + 2 + 1 + 1) (n + 4) (omega arith)
     (write_next_takes (t + 1) put (n + 2 + 1) (put_ticket_takes t x queued (n + 2) (enqueue_takes k t _ n (h _ _))))))
 
-decide_takes : (c units : ℕ) (k : Kind) (o : Best) (who : Customer) (next : Part → Customer → SessionProgram) (n : ℕ)
-    → ((p : Part) (w : Customer) → Takes (next p w) n) → Takes (programs.decide c units k o who next) (n + 5)
+decide_takes : (c units : ℕ) (k : Kind) (o : Best) (who : Customer) (next : KindReply → Customer → SessionProgram) (n : ℕ)
+    → ((p : KindReply) (w : Customer) → Takes (next p w) n) → Takes (programs.decide c units k o who next) (n + 5)
 decide_takes c units k None who next n h = takes_more _ n (n + 5) (omega arith) (h _ _)
 decide_takes c units k (Some x) who next n h =
     takes_if (has who k x.0) _ _ (n + 5) (λ _. takes_more _ n (n + 5) (omega arith) (h _ _))
@@ -197,12 +198,12 @@ put_changed_takes c (Some old) b who next n h =
 
 decide_all_takes : (c units : ℕ) (car flight room : Best) (o : Option Customer) → Takes (programs.decide_all c units car flight room o) 16
 decide_all_takes c units car flight room o =
-    let third_on : Part → Part → Part → Customer → SessionProgram = λ first second third three.
+    let third_on : KindReply → KindReply → KindReply → Customer → SessionProgram = λ first second third three.
     programs.put_changed c o (programs.is_change first || (programs.is_change second || programs.is_change third)) three
     (Answers (Reserved (record { car = first; flight = second; room = third }))) in
-    let second_on : Part → Part → Customer → SessionProgram =
+    let second_on : KindReply → KindReply → Customer → SessionProgram =
     λ first second two. programs.decide c units Room room two (third_on first second) in
-    let first_on : Part → Customer → SessionProgram = λ first one. programs.decide c units Flight flight one (second_on first) in
+    let first_on : KindReply → Customer → SessionProgram = λ first one. programs.decide c units Flight flight one (second_on first) in
     decide_takes c units Car car (unwrap_or o newcomer) first_on 11 (λ first one.
     decide_takes c units Flight flight one (second_on first) 6 (λ second two.
     decide_takes c units Room room two (third_on first second) 1 (λ third three. put_changed_takes c o _ three _ 0 tt)))
@@ -301,11 +302,8 @@ serve_all_takes bs next n h =
 few_places : (who : Customer) → is_customer_within who ≡ true → length who.bookings + length who.waits ≤ 1000
 few_places who is = by (nat_le (places who) PLACE_LIMIT) (list_all is_booking_within who.bookings) refl is
   where
-    at_most : (m n : ℕ) → nat_le m n ≡ true → m ≤ n
-    at_most m n h = grind (arith, nat_tests)
-
     by : (b c : Bool) → nat_le (places who) PLACE_LIMIT ≡ b → (b && c) ≡ true → length who.bookings + length who.waits ≤ 1000
-    by true c e is = at_most (places who) PLACE_LIMIT e
+    by true c e is = nat_le-true (places who) PLACE_LIMIT e
     by false c e is = absurd (true≢false (sym is))
 
 delete_found_takes : (c : ℕ) (o : Option Customer) → IsWithin o → Takes (programs.delete_found c o) 2301
@@ -334,7 +332,7 @@ set_item_takes k id (Some i) (Some j) next n h =
     takes_if (programs.is_same_item i j) next _ (n + 1) (λ _. takes_more next n (n + 1) (omega arith) h)
     (λ _. put_item_takes k id j next n h)
 
-change_each_takes : (cs : List Change) (next : List Changed → SessionProgram) (n : ℕ) → ((made : List Changed) → Takes (next made) n)
+change_each_takes : (cs : List Change) (next : List ChangeReply → SessionProgram) (n : ℕ) → ((made : List ChangeReply) → Takes (next made) n)
     → Takes (programs.change_each cs next) (n + 2 * length cs)
 change_each_takes [] next n h = takes_more (next []) n (n + 2 * 0) (omega arith) (h [])
 change_each_takes (c ∷ cs) next n h =

@@ -4,6 +4,7 @@
 use Rattle.std.proofs.Common.{◌≡◌, ℕ, zero, suc, Bool, true, false, cond, ◌&&◌, List, [], ◌∷◌, ◌++◌, length, Option, Some, None}
 use Rattle.std.proofs.Common.{refl, sym, ◌∙◌, ap, subst, eqb}
 use Rattle.std.specs.Prelude.{nat_lt}
+use Rattle.std.proofs.lemmas.Option.{none-some}
 use Rattle.tx_sets.specs.Entries.{Entries, lookup}
 use Rattle.tx_machine.specs.Requests as word
 use Rattle.tx_machine.specs.Notices as told
@@ -24,7 +25,7 @@ use Rattle.seq_model.specs.declared.event.Notice.{Notice}
 use Rattle.seq_model.specs.declared.event.Notice.TheVariants.{Quiet, Answered, Refused}
 use Rattle.seq_model.specs.declared.limits.TheConstants.{CALL_LIMIT}
 use Rattle.tx_machine.specs.Boosted.{TakeGate, PutGate, Accept, GoHome, is_none}
-use Rattle.replay_log.specs.Contents.{Asked, Answered as Outcomes, content}
+use Rattle.replay_log.specs.Contents.{CollectionCall, CallWithOutcome as Outcomes, content}
 use Rattle.replay_log.specs.Pieces.{piece_at, covers_at}
 use Rattle.replay_log.specs.Worlds.{World, Seat, Stage, Idle, Beginning, Open, Locking, Releasing, Closing, Cancelling, Leaving, Reading}
 use Rattle.replay_log.specs.Worlds.{Trying, Copying, Loading, Gating, Ready, Storing, Homing, Returning, After, has_room, sized_by}
@@ -50,9 +51,6 @@ call_done c e = cc
 
 gone_done : {V : Type 0} → ◌≡◌ {A = AnAsk V} ask.GiveUp ask.Done → ⊥
 gone_done e = cc
-
-none_some : {V : Type 0} (r : Record V) → None ≡ Some r → ⊥
-none_some r e = cc
 
 module _ {V A : Type 0} where
   -- these calls were made, and this one is the next
@@ -160,7 +158,7 @@ module _ {V A : Type 0} (P : ℕ → Type 0) (p : Program V A) where
       choose a (has_room (actor_of u a) (d.reads sized) (d.writes sized)) (loads u a x o es) _ (loaded es u a x o c)
       (sits u a (at_stage before Open) (Refused a refusal.TooLong) (open_still (P before.rv) before.calls (call_of o) old) tt)
 
-  called_on : (w : World V) (a : ℕ) (x : Seat V) (asked : Asked V) → (P x.rv × AsksNext p x.calls (as_call asked))
+  called_on : (w : World V) (a : ℕ) (x : Seat V) (asked : CollectionCall V) → (P x.rv × AsksNext p x.calls (as_call asked))
       → Goes a (calls_on w a x asked)
   called_on w a x asked c =
       let o = outcome_at w a asked in
@@ -318,7 +316,7 @@ module _ {V A : Type 0} (P : ℕ → Type 0) (p : Program V A) where
       let ready = acted w (asks a word.AskStore ∷ []) in
       (stored_on (recorded (acted ready (moves a ∷ [])) a x true x.wv) a x ks (word_notice ready a)).0
   commits_by w a x Closing r is = subst IsFollowing (sym (put-same w.seats a no_one)) tt
-  commits_by w a x st r is = absurd (none_some r is)
+  commits_by w a x st r is = absurd (none-some r is)
 
   pub commits_follow : (w : World V) (a : ℕ) (r : Record V) → committed_by (w.seats a) (w.seats a).stage ≡ Some r
       → IsFollowing ((happens w (Step a)).0.seats a)

@@ -12,7 +12,8 @@ use Rattle.std.specs.FinMap.{FinMap, entries, entries_sorted, find, get, get-ent
 use Rattle.std.proofs.Math.Nat.{mod-lt}
 use Rattle.std.proofs.lemmas.Bool.{cond-true}
 use Rattle.std.proofs.lemmas.Bool.Decides.{nat_tests}
-use Rattle.conflict.specs.Footprints.{all_below, key_place}
+use Rattle.std.proofs.lemmas.Option.{none-some, same_Some}
+use Rattle.conflict.specs.Footprints.{all_below, key_location}
 use Rattle.seq_model.specs.Contents.{Contents}
 use Rattle.seq_model.specs.Runs.{state_at}
 use Rattle.seq_model.specs.declared.held.Held.{Held}
@@ -40,8 +41,7 @@ use Rattle.client_sessions.specs.Runs.{HoldsBalanced}
 use Rattle.client_sessions.proofs.HoldingLemmas.{get_as}
 use Rattle.client_sessions.proofs.RunLemmas.{each_number_holds_tables}
 use Rattle.client_sessions.proofs.TablesLemmas.{answers_held}
-use Rattle.seq_model.proofs.ProgramLemmas.{none_some, some_same}
-use Rattle.vacation_core.specs.Asking.{events_of}
+use Rattle.vacation_core.specs.ClientWorlds.{events_of}
 use Rattle.vacation_core.specs.Histories.{History, IsLawful, opening_of, world_in}
 use Rattle.vacation_core.specs.Serial.{IsSerialSessions}
 use Rattle.vacation_core.proofs.ServeLemmas.{sessions_are_serial}
@@ -71,7 +71,7 @@ all_found t (e ∷ es) fresh each =
     later : (q : ℕ) (x : Entry) → find nat_cmp q es ≡ Some x → (b : Bool) → eq_by_cmp nat_cmp q e.0 ≡ b
         → cond (eq_by_cmp nat_cmp q e.0) (Some e.1) (find nat_cmp q es) ≡ Some x
     later q x is true same =
-        absurd (none_some x (sym fresh.0 ∙ ap (λ k. find nat_cmp k es) (sym (same_key q e.0 same)) ∙ is))
+        absurd (none-some x (sym fresh.0 ∙ ap (λ k. find nat_cmp k es) (sym (same_key q e.0 same)) ∙ is))
     later q x is false apart = ap (λ b. cond b (Some e.1) (find nat_cmp q es)) apart ∙ is
 
 all_entries : {X : Type 0} → (g : Entry → Option X) (m : FinMap nat_cmp Entry) → AllOf g m
@@ -86,8 +86,8 @@ all_made : {X : Type 0} → (f : X → Entry) (g : Entry → Option X) → ((x :
 all_made f g back m q x is = by (get m q) (sym (get_as f m q) ∙ is)
   where
     by : (o : Option _) → option_map f o ≡ Some x → is_some (g x) ≡ true
-    by None e = absurd (none_some x e)
-    by (Some y) e = ap (λ z. is_some (g z)) (sym (some_same (f y) x e)) ∙ ap is_some (back y)
+    by None e = absurd (none-some x e)
+    by (Some y) e = ap (λ z. is_some (g z)) (sym (same_Some (f y) x e)) ∙ ap is_some (back y)
 
 -- ---- what the collections of tables are
 
@@ -130,12 +130,12 @@ kept_of g place l m all q x is = by (eqb (place q) l) (sym (get_kept place l m q
   where
     by : (b : Bool) → cond b (get m q) None ≡ Some x → is_some (g x) ≡ true
     by true e = all q x e
-    by false e = absurd (none_some x e)
+    by false e = absurd (none-some x e)
 
 joined_of : {X : Type 0} → (g : Entry → Option X) (n : ℕ) (v : ℕ → FinMap nat_cmp Entry) → 0 < n
-    → ((i : ℕ) → i < n → AllOf g (v i)) → AllOf g (joined (key_place n) n v)
+    → ((i : ℕ) → i < n → AllOf g (v i)) → AllOf g (joined (key_location n) n v)
 joined_of g n v pos each q x is =
-    let lt = mod-lt q pos in each (key_place n q) lt q x (sym (get_joined (key_place n) n v q lt) ∙ is)
+    let lt = mod-lt q pos in each (key_location n q) lt q x (sym (get_joined (key_location n) n v q lt) ∙ is)
 
 abbrev AllAsMap : {X : Type 0} → (Entry → Option X) → Shown Entry → Type 0
 AllAsMap g x = AllOf g (as_map x)
@@ -144,21 +144,21 @@ items_in : (n i : ℕ) (x : Shown Entry) → IsPart Items n i x → AllOf item_o
 items_in n i x p = by p.held p.is p.shown
   where
     by : (h : Held Entry) → IsOf Items h → x ≡ part n i (viewed h) → AllOf item_of (as_map x)
-    by (Map m) is e = subst (AllAsMap item_of) (sym e) (kept_of item_of (key_place n) i m is)
+    by (Map m) is e = subst (AllAsMap item_of) (sym e) (kept_of item_of (key_location n) i m is)
     by h is e = absurd is
 
 customers_in : (n i : ℕ) (x : Shown Entry) → IsPart Customers n i x → AllOf customer_of (as_map x)
 customers_in n i x p = by p.held p.is p.shown
   where
     by : (h : Held Entry) → IsOf Customers h → x ≡ part n i (viewed h) → AllOf customer_of (as_map x)
-    by (Map m) is e = subst (AllAsMap customer_of) (sym e) (kept_of customer_of (key_place n) i m is)
+    by (Map m) is e = subst (AllAsMap customer_of) (sym e) (kept_of customer_of (key_location n) i m is)
     by h is e = absurd is
 
 tickets_in : (n i : ℕ) (x : Shown Entry) → IsPart Tickets n i x → AllOf ticket_of (as_map x)
 tickets_in n i x p = by p.held p.is p.shown
   where
     by : (h : Held Entry) → IsOf Tickets h → x ≡ part n i (viewed h) → AllOf ticket_of (as_map x)
-    by (Map m) is e = subst (AllAsMap ticket_of) (sym e) (kept_of ticket_of (key_place n) i m is)
+    by (Map m) is e = subst (AllAsMap ticket_of) (sym e) (kept_of ticket_of (key_location n) i m is)
     by h is e = absurd is
 
 whole_of : (s : Sort) (n : ℕ) (v : ℕ → Shown Entry) → 0 < n → ((i : ℕ) → i < size_by (kind_by s) n → IsPart s n i (v i))

@@ -26,12 +26,12 @@ use Rattle.seq_model.specs.declared.job.Ask.TheVariants as ask
 use Rattle.client_sessions.specs.declared.entry.Entry.{Entry}
 use Rattle.client_sessions.specs.Sessions.{session}
 use Rattle.vacation_core.specs.Alone.{AreOf}
-use Rattle.vacation_core.specs.Asking.{Actions, MayHappen, Turn, at_idle, begun}
+use Rattle.vacation_core.specs.ClientWorlds.{Actions, MayHappen, Turn, at_idle, begun}
 use Rattle.vacation_core.specs.Histories.{History, IsAt, IsLawful, action_in, done_in, later, opening_of, world_in}
-use Rattle.actor_laws.specs.Phases.{AskMoves, Phase, Rests, Begins, Stands, StepMoves, phase, phase_at}
+use Rattle.actor_laws.specs.KnownStages.{AskMoves, KnownStage, Rests, Begins, Stands, StepMoves, known_stage, known_stage_at}
 use Rattle.vacation_core.specs.Serial.{begun_all, committed_in, if_committed}
 use Rattle.vacation_core.proofs.AloneLemmas.{asks_on, begun_on, committed_on, run_on}
-use Rattle.actor_laws.proofs.PhaseLemmas.{asks_move, steps_move}
+use Rattle.actor_laws.proofs.KnownStageLemmas.{asks_move, steps_move}
 use Rattle.vacation_core.proofs.ServeLemmas.{sessions_are_serial}
 
 -- ---- a turn more
@@ -60,8 +60,8 @@ lawful_next h t l may = record {
   asks = asks_on h.actions (opening_of h) h.turns t l.asks may;
 }
 
-pub phase_next : (a : ℕ) (h : History) (t : Turn) → phase ((world_in (next h t)).seats a) ≡ phase ((happens (world_in h) t.0).0.seats a)
-phase_next a h t = ap (λ (w : World Entry). phase (w.seats a)) (world_next h t)
+pub phase_next : (a : ℕ) (h : History) (t : Turn) → known_stage ((world_in (next h t)).seats a) ≡ known_stage ((happens (world_in h) t.0).0.seats a)
+phase_next a h t = ap (λ (w : World Entry). known_stage (w.seats a)) (world_next h t)
 
 pub later_on : (h : History) (ts us : List Turn) → later (later h ts) us ≡ later h (ts ++ us)
 later_on h ts us = ap (λ (xs : List Turn). record h { turns = xs }) (append_assoc h.turns ts us)
@@ -82,16 +82,16 @@ with_one true done action = refl
 with_one false done action = append-nil done
 
 -- Its client, where it stood at p, has stepped and was answered n.
-pub record Stepped (a : ℕ) (p : Phase Entry) (action : Action) (done : List Action) (n : Notice Entry) (h : History) : Type 0 where
+pub record Stepped (a : ℕ) (p : KnownStage Entry) (action : Action) (done : List Action) (n : Notice Entry) (h : History) : Type 0 where
   pub commits : Bool
-  pub to : Phase Entry
+  pub to : KnownStage Entry
   pub moves : StepMoves p commits n to
   pub at : IsAt a to action (if commits then done ++ action ∷ [] else done) h
 
 -- a step that commits adds the action to what is done
-pub step_at : (h : History) (a : ℕ) (p : Phase Entry) (action : Action) (done : List Action) → IsAt a p action done h
+pub step_at : (h : History) (a : ℕ) (p : KnownStage Entry) (action : Action) (done : List Action) → IsAt a p action done h
     → let x = (world_in h).seats a in
-    IsAt a (phase ((happens (world_in h) (Step a)).0.seats a)) action
+    IsAt a (known_stage ((happens (world_in h) (Step a)).0.seats a)) action
     (if is_some (committed_by x x.stage) then done ++ action ∷ [] else done) (next h (Step a, action))
 step_at h a p action done at =
     let x = (world_in h).seats a in
@@ -109,42 +109,42 @@ step_at h a p action done at =
           ∙ (λ i. if commits then at.has i ++ at.does i ∷ [] else at.has i);
     }
 
-pub steps_to : (h : History) (a : ℕ) (p : Phase Entry) (action : Action) (done : List Action) (n : Notice Entry) → IsAt a p action done h
+pub steps_to : (h : History) (a : ℕ) (p : KnownStage Entry) (action : Action) (done : List Action) (n : Notice Entry) → IsAt a p action done h
     → n ≡ (happens (world_in h) (Step a)).1 → Stepped a p action done n (next h (Step a, action))
 steps_to h a p action done n at told =
     let w = world_in h in
     let x = w.seats a in
     let commits = is_some (committed_by x x.stage) in
-    let to = phase ((happens w (Step a)).0.seats a) in
+    let to = known_stage ((happens w (Step a)).0.seats a) in
     record {
       commits = commits;
       to = to;
       moves =
-          subst (λ (q : Phase Entry). StepMoves q commits n to) at.stands
-          (subst (λ (m : Notice Entry). StepMoves (phase x) commits m to) (sym told) (steps_move w a));
+          subst (λ (q : KnownStage Entry). StepMoves q commits n to) at.stands
+          (subst (λ (m : Notice Entry). StepMoves (known_stage x) commits m to) (sym told) (steps_move w a));
       at = step_at h a p action done at;
     }
 
 -- ---- a request inside a transaction
 
-pub record Asked (a : ℕ) (p : Phase Entry) (q : Request Entry) (action : Action) (done : List Action) (n : Notice Entry)
+pub record Asked (a : ℕ) (p : KnownStage Entry) (q : Request Entry) (action : Action) (done : List Action) (n : Notice Entry)
     (h : History) : Type 0 where
-  pub to : Phase Entry
+  pub to : KnownStage Entry
   pub moves : AskMoves p q n to
   pub at : IsAt a to action done h
 
-asks_by : (h : History) (a : ℕ) (p : Phase Entry) (q : Request Entry) (action : Action) (done : List Action) (n : Notice Entry)
+asks_by : (h : History) (a : ℕ) (p : KnownStage Entry) (q : Request Entry) (action : Action) (done : List Action) (n : Notice Entry)
     → (begun (begun_all h.actions (opening_of h) h.turns) (world_in h) (Ask a q, action) a ≡ action) → IsAt a p action done h
     → n ≡ (happens (world_in h) (Ask a q)).1 → Asked a p q action done n (next h (Ask a q, action))
 asks_by h a p q action done n same at told =
     let w = world_in h in
-    let to = phase ((happens w (Ask a q)).0.seats a) in
+    let to = known_stage ((happens w (Ask a q)).0.seats a) in
     let t : Turn = (Ask a q, action) in
     record {
       to = to;
       moves =
-          subst (λ (r : Phase Entry). AskMoves r q n to) at.stands
-          (subst (λ (m : Notice Entry). AskMoves (phase (w.seats a)) q m to) (sym told) (asks_move w a q));
+          subst (λ (r : KnownStage Entry). AskMoves r q n to) at.stands
+          (subst (λ (m : Notice Entry). AskMoves (known_stage (w.seats a)) q m to) (sym told) (asks_move w a q));
       at = record {
         stands = phase_next a h t;
         does = action_next a h t ∙ same;
@@ -152,36 +152,36 @@ asks_by h a p q action done n same at told =
       };
     }
 
-pub calls_to : (h : History) (a : ℕ) (p : Phase Entry) (call : Call Entry) (action : Action) (done : List Action) (n : Notice Entry)
+pub calls_to : (h : History) (a : ℕ) (p : KnownStage Entry) (call : Call Entry) (action : Action) (done : List Action) (n : Notice Entry)
     → IsAt a p action done h → n ≡ (happens (world_in h) (Ask a (request.Call call))).1
     → Asked a p (request.Call call) action done n (next h (Ask a (request.Call call), action))
 calls_to h a p call action done n at told = asks_by h a p (request.Call call) action done n at.does at told
 
-pub commits_to : (h : History) (a : ℕ) (p : Phase Entry) (action : Action) (done : List Action) (n : Notice Entry)
+pub commits_to : (h : History) (a : ℕ) (p : KnownStage Entry) (action : Action) (done : List Action) (n : Notice Entry)
     → IsAt a p action done h → n ≡ (happens (world_in h) (Ask a request.Commit)).1
     → Asked a p request.Commit action done n (next h (Ask a request.Commit, action))
 commits_to h a p action done n at told = asks_by h a p request.Commit action done n at.does at told
 
-pub aborts_to : (h : History) (a : ℕ) (p : Phase Entry) (action : Action) (done : List Action) (n : Notice Entry)
+pub aborts_to : (h : History) (a : ℕ) (p : KnownStage Entry) (action : Action) (done : List Action) (n : Notice Entry)
     → IsAt a p action done h → n ≡ (happens (world_in h) (Ask a request.Abort)).1
     → Asked a p request.Abort action done n (next h (Ask a request.Abort, action))
 aborts_to h a p action done n at told = asks_by h a p request.Abort action done n at.does at told
 
 -- ---- the stage of a phase
 
-abbrev IsRest : Phase Entry → Type 0
+abbrev IsRest : KnownStage Entry → Type 0
 IsRest Rests = Unit {0}
 IsRest p = ⊥
 
-abbrev IsOpenWith : List (Call Entry × Reply Entry) → Phase Entry → Type 0
+abbrev IsOpenWith : List (Call Entry × Reply Entry) → KnownStage Entry → Type 0
 IsOpenWith cs (Stands calls) = calls ≡ cs
 IsOpenWith cs p = ⊥
 
-idle_at : (calls : List (Call Entry × Reply Entry)) (st : Stage Entry) → IsRest (phase_at calls st) → st ≡ Idle
+idle_at : (calls : List (Call Entry × Reply Entry)) (st : Stage Entry) → IsRest (known_stage_at calls st) → st ≡ Idle
 idle_at calls Idle h = refl
 idle_at calls st h = absurd h
 
-open_at : (cs calls : List (Call Entry × Reply Entry)) (st : Stage Entry) → IsOpenWith cs (phase_at calls st) → (st ≡ Open) × (calls ≡ cs)
+open_at : (cs calls : List (Call Entry × Reply Entry)) (st : Stage Entry) → IsOpenWith cs (known_stage_at calls st) → (st ≡ Open) × (calls ≡ cs)
 open_at cs calls Open h = (refl, h)
 open_at cs calls st h = absurd h
 
@@ -215,12 +215,12 @@ begins h a old action done at =
     let x = w.seats a in
     let rests = idle a h old done at in
     let q = request.Begin in
-    let to = phase ((happens w (Ask a q)).0.seats a) in
+    let to = known_stage ((happens w (Ask a q)).0.seats a) in
     let quiet : (happens w (Ask a q)).1 ≡ Quiet = quiet_begin w a x x.stage rests in
     let t : Turn = (Ask a q, action) in
     let moves : AskMoves Rests request.Begin Quiet to =
-    subst (λ (r : Phase Entry). AskMoves r q Quiet to) at.stands
-    (subst (λ (m : Notice Entry). AskMoves (phase x) q m to) quiet (asks_move w a q)) in
+    subst (λ (r : KnownStage Entry). AskMoves r q Quiet to) at.stands
+    (subst (λ (m : Notice Entry). AskMoves (known_stage x) q m to) quiet (asks_move w a q)) in
     record {
       stands = phase_next a h t ∙ moves;
       does = action_next a h t ∙ begun_to (begun_all h.actions (opening_of h) h.turns) a action x.stage rests;

@@ -1,5 +1,5 @@
 pub mod ArrangeLemmas
-pub mod ServedLemmas
+pub mod ReceiptLemmas
 pub mod ServedSessionLemmas
 pub mod CostLemmas
 pub mod ThereLemmas
@@ -15,12 +15,12 @@ pub mod OpeningLemmas
 pub mod OrderLemmas
 pub mod SessionLemmas
 pub mod PlayLemmas
-pub mod HearLemmas
+pub mod ClientAnswerLemmas
 pub mod TurnLemmas
 pub mod AskLemmas
-pub mod HeardLemmas
-pub mod PlayingLemmas
-pub mod ToldLemmas
+pub mod NextSessionLemmas
+pub mod EventListLemmas
+pub mod CommittedAnswerLemmas
 pub mod PlayOpeningLemmas
 pub mod PastLemmas
 pub mod HalfDoneLemmas

@@ -18,16 +18,17 @@ use Rattle.seq_model.specs.declared.event.Event.{Event}
 use Rattle.seq_model.specs.declared.held.Held.{Held}
 use Rattle.seq_model.specs.Contents.{Contents}
 use Rattle.seq_model.specs.Runs.{state_at}
+use Rattle.seq_model.proofs.LogicLemmas.{nat_lt-false}
 use Rattle.tx_machine.specs.Boosted.{Boosted}
 use Rattle.tx_machine.specs.Serial.{after_actions, view, words}
 use Rattle.tx_machine.proofs.Editions.{AreAbove, AreWriters, count, one, one_here, stamp_few}
 use Rattle.tx_machine.proofs.Models.{view_state}
 use Rattle.tx_machine.proofs.BoostedSchedules.{all-opening, opens_ok}
-use Rattle.tx_machine.proofs.Stated.{Opened, reached}
+use Rattle.tx_machine.proofs.SequentialRuns.{Opened, reached}
 use Rattle.tx_machine.specs.Boosted.{opens}
 use Rattle.replay_log.specs.Base.{Shown}
 use Rattle.replay_log.specs.Collections.{Suit, shown_at}
-use Rattle.replay_log.specs.Contents.{Answered, Block, HaveStripes, content, is_plain}
+use Rattle.replay_log.specs.Contents.{CallWithOutcome, Block, HaveStripes, content, is_plain}
 use Rattle.replay_log.specs.Worlds.{World, opened, run}
 use Rattle.replay_log.proofs.CallLemmas.{no_word_at}
 use Rattle.replay_log.proofs.CollectionLemmas.{collections}
@@ -90,13 +91,10 @@ met (r ∷ rs) n (suc e) k l o w a le =
           (rest.0, rest.1, omega (arith, here, others))
     ]
 
-not_below : (l n : ℕ) → nat_lt l n ≡ false → n ≤ l
-not_below l n h = grind (arith, nat_tests)
-
 module _ {V : Type 0} where
   -- ---- a part of the machine's collections
   module _ (n : ℕ) (bs : List Block) (stripes : HaveStripes bs) (hs : List (Held V)) (suit : Suit bs hs)
-      (s : Boosted (Shown V) (Answered V)) (o : Opened (content {V = V} n bs) (shown_at n bs hs) s) where
+      (s : Boosted (Shown V) (CallWithOutcome V)) (o : Opened (content {V = V} n bs) (shown_at n bs hs) s) where
     ok_records : AllRecords (RecordOk s.words) (words s.history)
     ok_records = subst (AllRecords (RecordOk s.words)) (sym o.inv.same) o.inv.machine.records
 
@@ -163,13 +161,13 @@ module _ {V : Type 0} where
         let start = opens clock m (shown_at n bs hs) in
         let first : s.first l ≡ 0 =
         ap (λ (z : Memory). z l) (all-opening c f actions.0 start (opens_ok c f clock m (shown_at n bs hs))).1
-        ∙ get_or_past values l 0 (not_below l n (no_word_at n bs l pl)) in
+        ∙ get_or_past values l 0 (nat_lt-false l n (no_word_at n bs l pl)) in
         let past = part_past n bs stripes hs suit s (reached c f clock m (shown_at n bs hs) actions.0) l pl first in
         let k = past.0 in
         let agrees = at_number n k w.records w.boosted.history hs m opening (record { count = refl; same = λ i lt. refl; held = refl })
         same_records in (
           k,
-          ap (λ (b : Boosted (Shown V) (Answered V)). b.parts l) actions.1 ∙ past.1
-              ∙ ap (λ (b : Boosted (Shown V) (Answered V)). shown_at n bs (held_at b.history k hs) l) (sym actions.1)
+          ap (λ (b : Boosted (Shown V) (CallWithOutcome V)). b.parts l) actions.1 ∙ past.1
+              ∙ ap (λ (b : Boosted (Shown V) (CallWithOutcome V)). shown_at n bs (held_at b.history k hs) l) (sym actions.1)
               ∙ ap (λ (gs : List (Held V)). shown_at n bs gs l) (sym agrees.held),
         )

@@ -26,20 +26,20 @@ use Rattle.seq_model.specs.Programs.{Program, Asks, Answers, GivesUp, after, ask
 use Rattle.client_sessions.specs.declared.entry.Entry.{Entry}
 use Rattle.client_sessions.specs.Holding.{state_of}
 use Rattle.client_sessions.specs.Sessions.{SessionProgram, session}
-use Rattle.vacation_core.specs.Asking.{MayHappen, at_idle}
+use Rattle.vacation_core.specs.ClientWorlds.{MayHappen, at_idle}
 use Rattle.vacation_core.specs.Histories.{IsAt, IsLawful, action_in, done_in, opening_of, world_in}
 use Rattle.vacation_core.specs.Serial.{begun_all}
 use Rattle.vacation_core.proofs.HistoryLemmas.{calls_to, goes_on, lawful_next, may_ask, phase_next}
 use Rattle.vacation_core.proofs.ServeLemmas.{sessions_are_serial}
-use Rattle.actor_laws.proofs.PhaseLemmas.{steps_move}
-use Rattle.actor_laws.specs.Phases.{CallMoves, Phase, Begins, Stands, Calls, StepMoves, phase}
+use Rattle.actor_laws.proofs.KnownStageLemmas.{steps_move}
+use Rattle.actor_laws.specs.KnownStages.{CallMoves, KnownStage, Begins, Stands, Calls, StepMoves, known_stage}
 use Rattle.vacation_core.specs.declared.events.VacEvent.{VacEvent}
 use Rattle.vacation_core.specs.declared.events.VacEvent.TheVariants.{Start, Step, Starve}
 use Rattle.vacation_core.specs.Laws.{IsSerialPlay, PlaysAreSerial, PlaysHoldTables}
 use Rattle.vacation_core.proofs.HalfDoneLemmas.{holds_tables}
 use Rattle.vacation_core.specs.Plays.{AreAllowed, Play, aborts, asks_on, at_open, begins, ends, ends_for, hears, if_replied, left_of, moved}
 use Rattle.vacation_core.specs.Plays.{played, played_all, seat_in, takes, told, turned, unplayed}
-use Rattle.actor_laws.specs.Phases.{phase_at}
+use Rattle.actor_laws.specs.KnownStages.{known_stage_at}
 use Rattle.replay_log.specs.Worlds.{Copying, Gating, Ready, because}
 use Rattle.seq_model.specs.declared.refusal.Refusal.TheVariants.{Memory as OutOfMemory}
 
@@ -75,19 +75,19 @@ replied_next (d ∷ ds) GivesUp call next r e = absurd (gone_asks call next e)
 -- ---- an answer says where a transaction stands
 
 -- it stands open where an answer lets its session continue
-abbrev pub StandsBy : Notice Entry → Phase Entry → Type 0
+abbrev pub StandsBy : Notice Entry → KnownStage Entry → Type 0
 StandsBy (Answered b (answer.Begun rv)) to = to ≡ Stands []
 StandsBy (Answered b (answer.Replied r)) to = (calls : List (Call Entry × Reply Entry)) × (to ≡ Stands calls)
 StandsBy n to = Unit {0}
 
-called_stands : (calls : List (Call Entry × Reply Entry)) (call : Call Entry) (n : Notice Entry) (to : Phase Entry)
+called_stands : (calls : List (Call Entry × Reply Entry)) (call : Call Entry) (n : Notice Entry) (to : KnownStage Entry)
     → CallMoves calls call n to
     → StandsBy n to
 called_stands calls call (Answered b (answer.Replied r)) to m = (calls ++ (call, r) ∷ [], m)
 called_stands calls call (Answered b (answer.Begun rv)) to m = absurd m
 called_stands calls call n to m = tt
 
-steps_stand : (before : Phase Entry) (commits : Bool) (n : Notice Entry) (to : Phase Entry) → StepMoves before commits n to → StandsBy n to
+steps_stand : (before : KnownStage Entry) (commits : Bool) (n : Notice Entry) (to : KnownStage Entry) → StepMoves before commits n to → StandsBy n to
 steps_stand (Calls calls call) false n to m = called_stands calls call n to m
 steps_stand Begins false (Answered b (answer.Begun rv)) to m = m
 steps_stand before false (Answered b (answer.Begun rv)) to m = absurd m
@@ -105,7 +105,7 @@ unanswered_up : (u : World Entry) (a : ℕ) (x : Seat Entry) (ks : List ℕ) →
 unanswered_up u a x [] = tt
 unanswered_up u a x (k ∷ ks) = tt
 
-unanswered_stands : (n : Notice Entry) (to : Phase Entry) → IsUnanswered n → StandsBy n to
+unanswered_stands : (n : Notice Entry) (to : KnownStage Entry) → IsUnanswered n → StandsBy n to
 unanswered_stands (Answered b x) to h = absurd h
 unanswered_stands n to h = tt
 
@@ -134,13 +134,13 @@ sound_aborts a cause p s =
     record { lawful = t.lawful; goes_on = t.goes_on }
 
 -- its transaction stands open with these calls
-pub at_now : (a : ℕ) (p : Play) (at : Phase Entry) → phase (seat_in a p) ≡ at
+pub at_now : (a : ℕ) (p : Play) (at : KnownStage Entry) → known_stage (seat_in a p) ≡ at
     → IsAt a at (action_in a p.history) (done_in a p.history) p.history
 at_now a p at stands = record { stands = stands; does = refl; has = refl }
 
 sound_replied : (a : ℕ) (n : Notice Entry) (calls : List (Call Entry × Reply Entry)) (call : Call Entry) (next : Reply Entry
     → Play) (q : Play)
-    (to : Phase Entry) → IsSound q → CallMoves calls call n to
+    (to : KnownStage Entry) → IsSound q → CallMoves calls call n to
     → ((r : Reply Entry) → to ≡ Stands (calls ++ (call, r) ∷ []) → IsSound (next r)) → IsSound (if_replied a n next q)
 sound_replied a (Answered b (answer.Replied r)) calls call next q to s m goes = goes r m
 sound_replied a (Answered b w) calls call next q to s m goes = s
@@ -148,9 +148,9 @@ sound_replied a (Refused b cause) calls call next q to s m goes = sound_aborts a
 sound_replied a Quiet calls call next q to s m goes = s
 
 -- what a call is answered at once, and what its transaction is to do and stands at then
-pub called_at : (a : ℕ) (p : Play) (calls : List (Call Entry × Reply Entry)) (call : Call Entry) → phase (seat_in a p) ≡ Stands calls
+pub called_at : (a : ℕ) (p : Play) (calls : List (Call Entry × Reply Entry)) (call : Call Entry) → known_stage (seat_in a p) ≡ Stands calls
     → let e = event.Ask a (request.Call call) in let q = moved a e p in
-    (to : Phase Entry) × (phase (seat_in a q) ≡ to) × CallMoves calls call (told e p) to
+    (to : KnownStage Entry) × (known_stage (seat_in a q) ≡ to) × CallMoves calls call (told e p) to
     × (action_in a q.history ≡ action_in a p.history) × (done_in a q.history ≡ done_in a p.history)
 called_at a p calls call stands =
     let h = p.history in
@@ -159,7 +159,7 @@ called_at a p calls call stands =
     (x.to, x.at.stands, x.moves, x.at.does, x.at.has)
 
 pub sound_asks : (a : ℕ) (program : SessionProgram) (p : Play) (calls : List (Call Entry × Reply Entry)) → IsSound p
-    → phase (seat_in a p) ≡ Stands calls → after (session (action_in a p.history)) (replies_of calls) ≡ program
+    → known_stage (seat_in a p) ≡ Stands calls → after (session (action_in a p.history)) (replies_of calls) ≡ program
     → IsSound (asks_on a program p)
 sound_asks a (Asks call next) p calls s stands left =
     let h = p.history in
@@ -180,20 +180,20 @@ sound_asks a GivesUp p calls s stands left =
     absurd (goes_on h a calls (action_in a h) (done_in a h) s.lawful (at_now a p (Stands calls) stands) (ap asked left))
 
 -- the calls of a transaction that stands open
-abbrev IsWith : List (Call Entry × Reply Entry) → Phase Entry → Type 0
+abbrev IsWith : List (Call Entry × Reply Entry) → KnownStage Entry → Type 0
 IsWith cs (Stands ds) = ds ≡ cs
 IsWith cs q = ⊥
 
-stands_with : (cs ds : List (Call Entry × Reply Entry)) (st : Stage Entry) → IsWith cs (phase_at ds st) → ds ≡ cs
+stands_with : (cs ds : List (Call Entry × Reply Entry)) (st : Stage Entry) → IsWith cs (known_stage_at ds st) → ds ≡ cs
 stands_with cs ds Open h = h
 stands_with cs ds st h = absurd h
 
-pub open_calls : (a : ℕ) (p : Play) (calls : List (Call Entry × Reply Entry)) → phase (seat_in a p) ≡ Stands calls
+pub open_calls : (a : ℕ) (p : Play) (calls : List (Call Entry × Reply Entry)) → known_stage (seat_in a p) ≡ Stands calls
     → (seat_in a p).calls ≡ calls
 open_calls a p calls stands =
     stands_with calls (seat_in a p).calls (seat_in a p).stage (subst (IsWith calls) (sym stands) refl)
 
-pub sound_goes : (a : ℕ) (p : Play) (calls : List (Call Entry × Reply Entry)) → IsSound p → phase (seat_in a p) ≡ Stands calls
+pub sound_goes : (a : ℕ) (p : Play) (calls : List (Call Entry × Reply Entry)) → IsSound p → known_stage (seat_in a p) ≡ Stands calls
     → IsSound (asks_on a (left_of a p) p)
 sound_goes a p calls s stands =
     sound_asks a (left_of a p) p calls s stands
@@ -214,7 +214,7 @@ if_by : (b : Bool) (p q : Play) → IsSound p → IsSound q → IsSound (cond b 
 if_by true p q s t = s
 if_by false p q s t = t
 
-sound_hears : (a : ℕ) (n : Notice Entry) (p : Play) → StandsBy n (phase (seat_in a p)) → IsSound p → IsSound (hears a n p)
+sound_hears : (a : ℕ) (n : Notice Entry) (p : Play) → StandsBy n (known_stage (seat_in a p)) → IsSound p → IsSound (hears a n p)
 sound_hears a (Answered b (answer.Begun rv)) p stands s = sound_goes a p [] s stands
 sound_hears a (Answered b (answer.Replied r)) p stands s = sound_goes a p stands.0 s stands.1
 sound_hears a (Answered b (answer.Committed n)) p stands s = s
@@ -223,13 +223,13 @@ sound_hears a (Refused b cause) p stands s =
     at_open_by (seat_in a p).stage (aborts a cause p) (ends a cause p) (sound_aborts a cause p s) (sound_ends a cause p s)
 sound_hears a Quiet p stands s = s
 
-step_stands : (a : ℕ) (p : Play) → StandsBy (told (event.Step a) p) (phase (seat_in a (moved a (event.Step a) p)))
+step_stands : (a : ℕ) (p : Play) → StandsBy (told (event.Step a) p) (known_stage (seat_in a (moved a (event.Step a) p)))
 step_stands a p =
     let h = p.history in
     let w = world_in h in
     subst (StandsBy (told (event.Step a) p)) (sym (phase_next a h (event.Step a, action_in a h)))
-    (steps_stand (phase (w.seats a)) (is_some (committed_by (w.seats a) (w.seats a).stage)) (told (event.Step a) p)
-    (phase ((happens w (event.Step a)).0.seats a)) (steps_move w a))
+    (steps_stand (known_stage (w.seats a)) (is_some (committed_by (w.seats a) (w.seats a).stage)) (told (event.Step a) p)
+    (known_stage ((happens w (event.Step a)).0.seats a)) (steps_move w a))
 
 starved : (w : World Entry) (a : ℕ) (x : Seat Entry) (st : Stage Entry) → IsUnanswered (starve_at w a x st).1
 starved w a x (Copying asked) = tt
@@ -237,12 +237,12 @@ starved w a x (Gating got ks tries) = unanswered_up w a (because x OutOfMemory) 
 starved w a x (Ready ks) = unanswered_up w a (because x OutOfMemory) ks
 starved w a x st = tt
 
-starve_stands : (a : ℕ) (p : Play) → StandsBy (told (event.Starve a) p) (phase (seat_in a (moved a (event.Starve a) p)))
+starve_stands : (a : ℕ) (p : Play) → StandsBy (told (event.Starve a) p) (known_stage (seat_in a (moved a (event.Starve a) p)))
 starve_stands a p =
     let w = world_in p.history in
-    unanswered_stands (told (event.Starve a) p) (phase (seat_in a (moved a (event.Starve a) p))) (starved w a (w.seats a) (w.seats a).stage)
+    unanswered_stands (told (event.Starve a) p) (known_stage (seat_in a (moved a (event.Starve a) p))) (starved w a (w.seats a) (w.seats a).stage)
 
-sound_takes : (a : ℕ) (e : Event Entry) (p : Play) → May p e (action_in a p.history) → StandsBy (told e p) (phase (seat_in a (moved a e p)))
+sound_takes : (a : ℕ) (e : Event Entry) (p : Play) → May p e (action_in a p.history) → StandsBy (told e p) (known_stage (seat_in a (moved a e p)))
     → IsSound p → IsSound (takes a e p)
 sound_takes a e p may stands s =
     let q = moved a e p in

@@ -8,22 +8,19 @@ use Rattle.client_sessions.specs.Holding.{state_of}
 use Rattle.actor_parts.specs.Openings.{blocks_of, world_of}
 use Rattle.step_world.specs.Parts.{IsWorld}
 use Rattle.step_world.specs.declared.opening.TheConstants.{ACTORS}
-use Rattle.actor_laws.specs.Phases.{Rests}
+use Rattle.actor_laws.specs.KnownStages.{Rests}
 use Rattle.vacation_core.specs.PlayOpenings.{AreNew, eight, unplayed_on}
 use Rattle.vacation_core.specs.Running.{IsPlay}
 use Rattle.vacation_core.specs.declared.client.Client.{Client}
 use Rattle.vacation_core.specs.declared.world.VacWorld.{VacWorld}
 use Rattle.vacation_core.proofs.PlayLemmas.{IsSound, sound_unplayed}
 use Rattle.std.specs.Prelude.{zero, suc}
-use Rattle.seq_model.proofs.ProgramLemmas.{some_same}
+use Rattle.std.proofs.lemmas.Option.{same_Some, none-some}
 pub use Rattle.vacation_core.proofs.StripeLemmas.{have_indexes, stripes, suits}
 
-none_some : (x : Client) → None ≡ Some x → ⊥
-none_some x e = cc
-
 new_client : (cs : List Client) (i : ℕ) (c : Client) → AreNew cs → slice_get cs i ≡ Some c → c ≡ record { current = None; done = [] }
-new_client [] i c new got = absurd (none_some c got)
-new_client (d ∷ ds) zero c new got = sym (some_same d c got) ∙ new.0
+new_client [] i c new got = absurd (none-some c got)
+new_client (d ∷ ds) zero c new got = sym (same_Some d c got) ∙ new.0
 new_client (d ∷ ds) (suc i) c new got = new_client ds i c new.1 got
 
 pub opens : (n : ℕ) (tables : Holdings) (v : VacWorld) → IsStripeCount n → IsBalanced tables

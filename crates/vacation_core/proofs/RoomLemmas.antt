@@ -20,20 +20,18 @@ use Rattle.actor_laws.specs.Beside.{AreFitting, BeginsNoReader, Fits, IsFitting,
 use Rattle.actor_laws.proofs.BesideLemmas.{never_mistaken, one_none}
 use Rattle.seq_model.specs.Programs.{asked, after, replies_of}
 use Rattle.seq_model.specs.declared.job.Ask.TheVariants as ask
+use Rattle.seq_model.proofs.LogicLemmas.{lt-nat_lt}
 use Rattle.vac_model.specs.declared.action.Action.{Action}
 use Rattle.client_sessions.specs.declared.entry.Entry.{Entry}
 use Rattle.client_sessions.specs.Holding.{state_of}
 use Rattle.client_sessions.specs.Sessions.{session}
 use Rattle.vacation_core.proofs.CostLemmas.{asks_fit}
 use Rattle.vacation_core.proofs.ThereLemmas.{AreKinds, of_tables, suit_kinds, there}
-use Rattle.vacation_core.specs.Asking.{Actions, AskAsSessions, MayHappen, Turn, begun, events_of}
+use Rattle.vacation_core.specs.ClientWorlds.{Actions, AskAsSessions, MayHappen, Turn, begun, events_of}
 use Rattle.vacation_core.specs.Serial.{begun_all, committed_in}
 use Rattle.vacation_core.proofs.FollowLemmas.{FollowsAt, asked_next}
 use Rattle.vacation_core.proofs.ServeLemmas.{OwnUpTo, Serves, opens_serving, serves_on}
 use Rattle.vacation_core.specs.Rooms.{SessionsFindRoom}
-
-below : (m n : ℕ) → m < n → nat_lt m n ≡ true
-below m n h = grind (arith, nat_tests)
 
 both_true : (b d : Bool) → b ≡ true → d ≡ true → (b && d) ≡ true
 both_true b d e f = ap (λ c. c && d) e ∙ f
@@ -44,8 +42,8 @@ module _ (a : ℕ) where
   may w op d = ap (λ (b : Bool). not (b && is_change op)) d
 
   is_there_as : (w : World Entry) (t : ℕ) (op : Op Entry) → (actor_of w a).declared ≡ false → IsThere w t op → is_there w a t op ≡ true
-  is_there_as w t Read d h = below t w.words h
-  is_there_as w t (Write v) d h = both_true (nat_lt t w.words) (not (actor_of w a).declared) (below t w.words h) (ap not d)
+  is_there_as w t Read d h = lt-nat_lt t w.words h
+  is_there_as w t (Write v) d h = both_true (nat_lt t w.words) (not (actor_of w a).declared) (lt-nat_lt t w.words h) (ap not d)
   is_there_as w t op d h = both_true _ (may_ask {V = Entry} (actor_of w a) op) h (may w op d)
 
 module _ (blocks : List Block) (stripes : HaveStripes blocks) (clock : ℕ) (values : List ℕ) (held : List (Held Entry))

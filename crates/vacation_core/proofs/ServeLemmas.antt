@@ -48,7 +48,7 @@ use Rattle.client_sessions.specs.Holding.{state_of}
 use Rattle.client_sessions.specs.Runs.{AreActions, AreSessions, Deal, IsSession}
 use Rattle.client_sessions.specs.Sessions.{session}
 use Rattle.client_sessions.proofs.RunLemmas.{none_gives_up, runs_are_actions}
-use Rattle.vacation_core.specs.Asking.{Actions, AskAsSessions, MayHappen, Turn, at_idle, begun, events_of}
+use Rattle.vacation_core.specs.ClientWorlds.{Actions, AskAsSessions, MayHappen, Turn, at_idle, begun, events_of}
 use Rattle.vacation_core.specs.Serial.{SessionsAreSerial, actions_of, begun_all, committed_in, committed_of, if_committed}
 use Rattle.vacation_core.proofs.FollowLemmas.{FollowsAt, IsFollowing, commits_follow, follows_map, requests_follow, starves_follow}
 use Rattle.vacation_core.proofs.FollowLemmas.{steps_follow}

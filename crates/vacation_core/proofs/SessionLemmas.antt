@@ -21,12 +21,14 @@ use Rattle.vac_model.specs.Holdings.{Holdings}
 use Rattle.client_sessions.specs.declared.entry.Entry.{Entry}
 use Rattle.client_sessions.specs.Sessions.{SessionProgram, session}
 use Rattle.step_world.specs.declared.parts.Parts.{Parts}
-use Rattle.actor_laws.specs.Phases.{Phase, Rests, Stands}
+use Rattle.actor_laws.specs.KnownStages.{KnownStage, Rests, Stands}
 use Rattle.vacation_core.specs.LoneClients.{IsAnswered, IsClient, IsNext, Leads}
 use Rattle.vacation_core.proofs.CostLemmas.{asks_fit}
 use Rattle.vacation_core.proofs.HistoryLemmas.{goes_on}
 use Rattle.seq_model.specs.declared.limits.TheConstants.{CALL_LIMIT}
 use Rattle.std.specs.Prelude.{None}
+use Rattle.std.proofs.lemmas.Option.{same_Some}
+use Rattle.seq_model.proofs.LogicLemmas.{some-none}
 use Rattle.vacation_core.specs.Turns.{Begins, Calls, Commits, HasBegun, IsAtRest, IsOpen, MakesCalls, MayCall, MayRun, Runs, replied}
 
 -- ---- answers
@@ -35,9 +37,9 @@ pub begins : (c d : Parts Entry) (m : Notice Entry) → IsAnswered c 1 request.B
 begins c d m h tables n last action done x allowed few =
     let r = h tables n [] Rests last action done x (allowed, refl, few) in by m r.at r.commits r.leads r.client
   where
-    by : (m : Notice Entry) (p : Phase Entry) (commits : Bool) → Leads [] request.Begin m p commits
+    by : (m : Notice Entry) (p : KnownStage Entry) (commits : Bool) → Leads [] request.Begin m p commits
         → IsClient 1 tables (n + 1) p action (if commits then done ++ action ∷ [] else done) d → IsOpen tables (n + 1) [] action done d
-    by (Answered b (answer.Begun rv)) p false e y = subst (λ (q : Phase Entry). IsClient 1 tables (n + 1) q action done d) e y
+    by (Answered b (answer.Begun rv)) p false e y = subst (λ (q : KnownStage Entry). IsClient 1 tables (n + 1) q action done d) e y
     by m p commits e y = absurd e
 
 pub calls : (c d : Parts Entry) (call : Call Entry) (m : Notice Entry) (reply : Reply Entry) → IsAnswered c 1 (request.Call call) d m
@@ -45,15 +47,12 @@ pub calls : (c d : Parts Entry) (call : Call Entry) (m : Notice Entry) (reply : 
 calls c d call m reply h is tables n made action done x allowed next =
     let r = h tables n made (Stands made) action action done x (allowed, refl, refl, next) in by m r.at r.commits is r.leads r.client
   where
-    same : (r s : Reply Entry) → Some r ≡ Some s → r ≡ s
-    same r s e = cc
-
-    by : (m : Notice Entry) (p : Phase Entry) (commits : Bool) → replied m ≡ Some reply → Leads made (request.Call call) m p commits
+    by : (m : Notice Entry) (p : KnownStage Entry) (commits : Bool) → replied m ≡ Some reply → Leads made (request.Call call) m p commits
         → IsClient 1 tables n p action (if commits then done ++ action ∷ [] else done) d
         → IsOpen tables n (made ++ (call, reply) ∷ []) action done d
     by (Answered b (answer.Replied r)) p false is e y =
-        subst (λ (s : Reply Entry). IsOpen tables n (made ++ (call, s) ∷ []) action done d) (same r reply is)
-        (subst (λ (q : Phase Entry). IsClient 1 tables n q action done d) e y)
+        subst (λ (s : Reply Entry). IsOpen tables n (made ++ (call, s) ∷ []) action done d) (same_Some r reply is)
+        (subst (λ (q : KnownStage Entry). IsClient 1 tables n q action done d) e y)
     by m p commits is e y = absurd e
 
 -- and there is a reply
@@ -64,23 +63,20 @@ is_replied c d call m h may none =
     let r = h may.tables may.count made (Stands made) may.action may.action may.done may.opened (may.allowed, refl, refl, may.next) in
     by made m r.at r.commits none r.leads
   where
-    some_none : (r : Reply Entry) → Some r ≡ None → ⊥
-    some_none r e = cc
-
-    by : (made : List (Call Entry × Reply Entry)) (m : Notice Entry) (p : Phase Entry) (commits : Bool) → replied m ≡ None
+    by : (made : List (Call Entry × Reply Entry)) (m : Notice Entry) (p : KnownStage Entry) (commits : Bool) → replied m ≡ None
         → Leads made (request.Call call) m p commits → ⊥
-    by made (Answered b (answer.Replied r)) p commits none e = some_none r none
+    by made (Answered b (answer.Replied r)) p commits none e = some-none r none
     by made m p commits none e = e
 
 pub commits : (c d : Parts Entry) (m : Notice Entry) → IsAnswered c 1 request.Commit d m → Commits c d
 commits c d m h tables n made action done x all =
     let r = h tables n made (Stands made) action action done x (refl, refl, all) in by m r.at r.commits r.leads r.client
   where
-    by : (m : Notice Entry) (p : Phase Entry) (commits : Bool) → Leads made request.Commit m p commits
+    by : (m : Notice Entry) (p : KnownStage Entry) (commits : Bool) → Leads made request.Commit m p commits
         → IsClient 1 tables n p action (if commits then done ++ action ∷ [] else done) d
         → IsAtRest tables n action (done ++ action ∷ []) d
     by (Answered b (answer.Committed k)) p true e y =
-        subst (λ (q : Phase Entry). IsClient 1 tables n q action (done ++ action ∷ []) d) e y
+        subst (λ (q : KnownStage Entry). IsClient 1 tables n q action (done ++ action ∷ []) d) e y
     by m p commits e y = absurd e
 
 -- ---- the program

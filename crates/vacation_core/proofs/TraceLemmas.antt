@@ -21,22 +21,23 @@ use Rattle.step_world.specs.Reached.{IsReached}
 use Rattle.step_world.specs.Traces.{IsTraceOf}
 use Rattle.step_world.specs.declared.trace.Trace.{Trace}
 use Rattle.vacation_core.specs.Histories.{action_in, done_in, world_in}
-use Rattle.actor_laws.specs.Phases.{Phase, Rests, Begins, Stands, Calls, Commits, Committed, Ends}
+use Rattle.actor_laws.specs.KnownStages.{KnownStage, Rests, Begins, Stands, Calls, Commits, Committed, Ends}
 use Rattle.vacation_core.specs.Clients.{with_open}
 use Rattle.vacation_core.specs.Laws.{IsSerialPlay}
 use Rattle.vacation_core.specs.Plays.{Play}
 use Rattle.vacation_core.specs.Running.{IsPlay, KeepsAt}
-use Rattle.vacation_core.specs.Told.{AreFirst, AreOwn, sessions_found, sessions_in, sessions_of, told_all, told_of}
+use Rattle.vacation_core.specs.CommittedAnswers.{AreFirst, AreOwn, sessions_found, sessions_in, sessions_of, told_all, told_of}
 use Rattle.vacation_core.specs.Traces.{IsVacTrace}
 use Rattle.vacation_core.specs.declared.client.Client.{Client}
 use Rattle.vacation_core.specs.declared.client.OpenSession.{OpenSession}
 use Rattle.vacation_core.specs.declared.run.VacTrace.{VacTrace}
 use Rattle.vacation_core.specs.declared.world.VacWorld.{VacWorld}
 use Rattle.vacation_core.proofs.HalfDoneLemmas.{holds_tables}
-use Rattle.vacation_core.proofs.HearLemmas.{done_finished}
+use Rattle.vacation_core.proofs.ClientAnswerLemmas.{done_finished}
 use Rattle.vacation_core.proofs.PlayLemmas.{serial_play}
 use Rattle.vacation_core.proofs.ClientLemmas.{reached}
 use Rattle.std.proofs.lemmas.Bool.Decides.{nat_tests}
+use Rattle.seq_model.proofs.LogicLemmas.{some-none}
 
 -- ---- the sessions that a client keeps
 
@@ -44,7 +45,7 @@ with_open_first : (o : Option OpenSession) (kept done : List Action) → kept �
 with_open_first None kept done e = ([], append-nil done ∙ sym e)
 with_open_first (Some o) kept done e = (o.session ∷ [], ap (λ xs. xs ++ o.session ∷ []) (sym e))
 
-keeps_first : (at : Phase Entry) (c : Client) (action : Action) (fault : Option Refusal) (done : List Action)
+keeps_first : (at : KnownStage Entry) (c : Client) (action : Action) (fault : Option Refusal) (done : List Action)
     → KeepsAt at c action fault done
     → AreFirst done (sessions_of c)
 keeps_first Rests c action fault done k = with_open_first c.current c.done done k.1
@@ -68,10 +69,7 @@ none_told n (suc i) = zeros n i
 
 past : {X : Type 0} → (xs : List X) (i : ℕ) → slice_get xs i ≡ None → length xs ≤ i
 past [] i e = omega arith
-past (x ∷ xs) zero e = absurd (some_none x e)
-  where
-    some_none : {X : Type 0} → (x : X) → Some x ≡ None → ⊥
-    some_none x e = cc
+past (x ∷ xs) zero e = absurd (some-none x e)
 past (x ∷ xs) (suc i) e = (let h = past xs i e in omega (arith, h))
 
 not_actor : (a : ℕ) → 65 ≤ a → is_actor a ≡ false

@@ -23,24 +23,24 @@ use Rattle.step_world.specs.Worlds.{WorldShown}
 use Rattle.step_world.specs.Parts.{IsWorld}
 use Rattle.step_world.specs.declared.opening.TheConstants.{ACTORS}
 use Rattle.step_world.specs.declared.parts.Parts.{Parts}
-use Rattle.vacation_core.specs.Asking.{Actions, Turn, at_idle, begun}
+use Rattle.vacation_core.specs.ClientWorlds.{Actions, Turn, at_idle, begun}
 use Rattle.vacation_core.specs.Histories.{History, action_in, done_in, later, opening_of, world_in}
 use Rattle.vacation_core.specs.Serial.{begun_all}
 use Rattle.vacation_core.proofs.AloneLemmas.{none_in}
 use Rattle.vacation_core.proofs.HistoryLemmas.{action_next, done_next, lawful_next, phase_next, steps_to, world_next}
-use Rattle.actor_laws.specs.Phases.{Phase, phase}
+use Rattle.actor_laws.specs.KnownStages.{KnownStage, known_stage}
 use Rattle.seq_model.specs.declared.job.Ask.{Ask as Asked}
 use Rattle.vacation_core.specs.Clients.{asks_next, has_open}
 use Rattle.vacation_core.specs.Plays.{IsMoveOf, Play, moved, told, turned}
-use Rattle.vacation_core.specs.Running.{AsksNext, HasPlace, Hears, HearsAt, IsClient, IsHearing, IsOn, IsPlay, KeepsAt, Others}
+use Rattle.vacation_core.specs.Running.{AsksNext, HasPosition, Hears, HearsAt, IsClient, IsHearing, IsOn, IsPlay, KeepsAt, Others}
 use Rattle.vacation_core.specs.declared.client.Client.{Client}
 use Rattle.vacation_core.specs.declared.world.VacWorld.{VacWorld}
-use Rattle.vacation_core.proofs.HearLemmas.{starve_hears, step_hears}
+use Rattle.vacation_core.proofs.ClientAnswerLemmas.{starve_hears, step_hears}
 use Rattle.vacation_core.proofs.PlayLemmas.{May, at_now}
 use Rattle.std.proofs.lemmas.Bool.Decides.{nat_tests}
+use Rattle.std.proofs.lemmas.Option.{same_Some, none-some}
 pub use Rattle.step_world.proofs.WorldLemmas.{set_here, set_length, set_there}
 use Rattle.step_core.proofs.Lists.{some_at}
-use Rattle.seq_model.proofs.ProgramLemmas.{some_same}
 use Rattle.vacation_core.proofs.ClientLemmas.{parts_of, told_of}
 
 -- ---- places
@@ -54,7 +54,7 @@ actor_at i inside = by (i + 1) (omega arith) (omega arith)
 suc_apart : (i j : ℕ) → (j ≡ i → ⊥) → i + 1 ≡ j + 1 → ⊥
 suc_apart i j apart e = apart (omega arith)
 
-pub client_at : (i : ℕ) (v : VacWorld) → HasPlace i v → (c : Client) × (slice_get v.clients.items i ≡ Some c)
+pub client_at : (i : ℕ) (v : VacWorld) → HasPosition i v → (c : Client) × (slice_get v.clients.items i ≡ Some c)
 client_at i v place = some_at v.clients.items i (let lt = place.inside in let n = place.count in omega (arith, lt, n))
 
 -- ---- a turn of the running world
@@ -95,9 +95,9 @@ done_other h e action b other =
     ∙ append-nil (done_in b h)
 
 phase_other : (h : History) (e : Event Entry) (action : Action) (b : ℕ) → (b ≡ whose e → ⊥)
-    → phase ((world_in (later h ((e, action) ∷ []))).seats b) ≡ phase ((world_in h).seats b)
+    → known_stage ((world_in (later h ((e, action) ∷ []))).seats b) ≡ known_stage ((world_in h).seats b)
 phase_other h e action b other =
-    phase_next b h (e, action) ∙ ap (λ (x : Seat Entry). phase x) ((happens_by (world_in h) e).seats b other)
+    phase_next b h (e, action) ∙ ap (λ (x : Seat Entry). known_stage x) ((happens_by (world_in h) e).seats b other)
 
 pub client_other : (p : Play) (e : Event Entry) (action : Action) (b : ℕ) (c : Client) → (b ≡ whose e → ⊥) → IsClient c b p
     → IsClient c b (turned e action p)
@@ -124,7 +124,7 @@ pub client_as : (p q : Play) (b : ℕ) (c : Client) → q.history ≡ p.history 
 client_as p q b c same fault k =
     record {
       at = k.at;
-      stands = ap (λ (h : History). phase ((world_in h).seats b)) same ∙ k.stands;
+      stands = ap (λ (h : History). known_stage ((world_in h).seats b)) same ∙ k.stands;
       keeps =
           subst (λ (h : History). KeepsAt k.at c (action_in b h) (q.faults b) (done_in b h)) (sym same)
           (subst (λ (o : Option Refusal). KeepsAt k.at c (action_in b p.history) o (done_in b p.history)) (sym fault) k.keeps);
@@ -163,9 +163,6 @@ own_told i v u p e n inside own f on =
 
 -- ---- a client that changes
 
-none_some : {X : Type 0} → (x : X) → None ≡ Some x → ⊥
-none_some x e = cc
-
 -- the running world has changed in the client at place i alone
 pub on_set : (i : ℕ) (v u : VacWorld) (p : Play) (d : Client) → u.world ≡ v.world → u.aborted ≡ v.aborted
     → u.clients.items ≡ slice_set v.clients.items i d → IsOn v p → IsOn u p
@@ -187,7 +184,7 @@ pub own_set : (i : ℕ) (v u : VacWorld) (c d : Client) (P : Client → Type 0) 
     → u.clients.items ≡ slice_set v.clients.items i d → P d → (x : Client) → slice_get u.clients.items i ≡ Some x → P x
 own_set i v u c d P got clients holds x there =
     subst P
-    (some_same d x (sym (set_here v.clients.items i c d got) ∙ ap (λ (cs : List Client). slice_get cs i) (sym clients) ∙ there)) holds
+    (same_Some d x (sym (set_here v.clients.items i c d got) ∙ ap (λ (cs : List Client). slice_get cs i) (sym clients) ∙ there)) holds
 
 -- all clients, of which one is at place i
 pub all_of : (i : ℕ) (v : VacWorld) (p : Play) → Others i v p → ((c : Client) → slice_get v.clients.items i ≡ Some c → IsClient c (i + 1) p)
@@ -229,18 +226,18 @@ starve_hearing p a c n same some k =
     let t : Turn = (event.Starve a, action_in a h) in
     let does : action_in a q.history ≡ action_in a h = action_next a h t in
     let has : done_in a q.history ≡ done_in a h = done_next a h t ∙ append-nil (done_in a h) in
-    let keeps : KeepsAt (phase x) c (action_in a h) (p.faults a) (done_in a h) =
-    subst (λ (at : Phase Entry). KeepsAt at c (action_in a h) (p.faults a) (done_in a h)) (sym k.stands) k.keeps in
-    let hears : HearsAt r.1 (phase (r.0.seats a)) c (action_in a h) (p.faults a) (done_in a h) =
+    let keeps : KeepsAt (known_stage x) c (action_in a h) (p.faults a) (done_in a h) =
+    subst (λ (at : KnownStage Entry). KeepsAt at c (action_in a h) (p.faults a) (done_in a h)) (sym k.stands) k.keeps in
+    let hears : HearsAt r.1 (known_stage (r.0.seats a)) c (action_in a h) (p.faults a) (done_in a h) =
     starve_hears c (action_in a h) (p.faults a) w a x.calls x.stage r (done_in a h) some refl keeps (starves w a) in
     record {
-      to = phase (r.0.seats a);
+      to = known_stage (r.0.seats a);
       stands = phase_next a h t;
       hears =
-          subst (λ (m : Notice Entry). HearsAt m (phase (r.0.seats a)) c (action_in a q.history) (p.faults a) (done_in a q.history))
+          subst (λ (m : Notice Entry). HearsAt m (known_stage (r.0.seats a)) c (action_in a q.history) (p.faults a) (done_in a q.history))
           (sym same)
-          (subst (λ (done : List Action). HearsAt r.1 (phase (r.0.seats a)) c (action_in a q.history) (p.faults a) done) (sym has)
-          (subst (λ (act : Action). HearsAt r.1 (phase (r.0.seats a)) c act (p.faults a) (done_in a h)) (sym does) hears));
+          (subst (λ (done : List Action). HearsAt r.1 (known_stage (r.0.seats a)) c (action_in a q.history) (p.faults a) done) (sym has)
+          (subst (λ (act : Action). HearsAt r.1 (known_stage (r.0.seats a)) c act (p.faults a) (done_in a h)) (sym does) hears));
     }
 
 pub move_own : (a : ℕ) (e : Event Entry) → IsMoveOf a e → whose e ≡ a
@@ -275,23 +272,23 @@ hears_move i e v u c p n inside m got some f clients aborted k =
       on = on_turned i v u p e (action_in a p.history) n inside own (move_may p a e (action_in a p.history) m) f clients aborted k.on;
       others = others_turned i v u p e (action_in a p.history) own clients (λ j d apart there. k.clients j d there);
       own = λ d there.
-          let is : c ≡ d = some_same c d (sym got ∙ ap (λ (cs : List Client). slice_get cs i) (sym clients) ∙ there) in
+          let is : c ≡ d = same_Some c d (sym got ∙ ap (λ (cs : List Client). slice_get cs i) (sym clients) ∙ there) in
           move_hearing p a e d n m same (ap has_open (sym is) ∙ some)
           (k.clients i d (ap (λ (cs : List Client). slice_get cs i) (sym clients) ∙ there));
     }
 
 -- a client that changes, and what an event leaves, keep their places
-pub place_set : (i : ℕ) (v u : VacWorld) (d : Client) → u.clients.items ≡ slice_set v.clients.items i d → HasPlace i v → HasPlace i u
+pub place_set : (i : ℕ) (v u : VacWorld) (d : Client) → u.clients.items ≡ slice_set v.clients.items i d → HasPosition i v → HasPosition i u
 place_set i v u d clients place =
     record { inside = place.inside; count = ap length clients ∙ set_length v.clients.items i d ∙ place.count }
 
-pub place_as : (i : ℕ) (v u : VacWorld) → u.clients.items ≡ v.clients.items → HasPlace i v → HasPlace i u
+pub place_as : (i : ℕ) (v u : VacWorld) → u.clients.items ≡ v.clients.items → HasPosition i v → HasPosition i u
 place_as i v u clients place = record { inside = place.inside; count = ap length clients ∙ place.count }
 
 -- what the client at place i asks next
 pub asks_at : (i : ℕ) (v : VacWorld) (d : Client) (next : Asked Entry) → slice_get v.clients.items i ≡ Some d → asks_next d ≡ next
     → AsksNext i v next
-asks_at i v d next got is = λ c there. ap asks_next (some_same c d (sym there ∙ got)) ∙ is
+asks_at i v d next got is = λ c there. ap asks_next (same_Some c d (sym there ∙ got)) ∙ is
 
-pub place_lt : (i : ℕ) (v : VacWorld) → HasPlace i v → i < length v.clients.items
+pub place_lt : (i : ℕ) (v : VacWorld) → HasPosition i v → i < length v.clients.items
 place_lt i v place = let lt = place.inside in let n = place.count in omega (arith, lt, n)

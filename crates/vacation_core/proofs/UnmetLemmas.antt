@@ -29,16 +29,16 @@ use Rattle.replay_log.proofs.RequestLemmas.{happens_by}
 use Rattle.actor_laws.specs.Beside.{BeginsNoReader, IsNoReader, RefusesAsMistaken}
 use Rattle.seq_model.specs.declared.job.Ask.TheVariants as ask
 use Rattle.seq_model.specs.Programs.{Asks, Answers, GivesUp, after, asked, replies_of}
-use Rattle.actor_laws.proofs.PhaseLemmas.{steps_move}
-use Rattle.actor_laws.specs.Phases.{AskMoves, CallMoves, IsMistaken, Phase, Rests, Begins, Stands, Calls, Commits, Committed, Ends}
-use Rattle.actor_laws.specs.Phases.{StepMoves}
-use Rattle.actor_laws.specs.Phases.{phase, phase_at}
+use Rattle.actor_laws.proofs.KnownStageLemmas.{steps_move}
+use Rattle.actor_laws.specs.KnownStages.{AskMoves, CallMoves, IsMistaken, KnownStage, Rests, Begins, Stands, Calls, Commits, Committed, Ends}
+use Rattle.actor_laws.specs.KnownStages.{StepMoves}
+use Rattle.actor_laws.specs.KnownStages.{known_stage, known_stage_at}
 use Rattle.vac_model.specs.declared.action.Action.{Action}
 use Rattle.vac_model.specs.Actions.{IsAllowed}
 use Rattle.client_sessions.specs.declared.entry.Entry.{Entry}
 use Rattle.client_sessions.specs.Sessions.{SessionProgram, session}
 use Rattle.vacation_core.proofs.RoomLemmas.{sessions_find_room}
-use Rattle.vacation_core.specs.Asking.{Turn, at_idle, events_of}
+use Rattle.vacation_core.specs.ClientWorlds.{Turn, at_idle, events_of}
 use Rattle.vacation_core.specs.Histories.{action_in, done_in, world_in}
 use Rattle.vacation_core.proofs.HistoryLemmas as history
 use Rattle.vacation_core.proofs.HistoryLemmas.{commit_is_quiet, commits_to, goes_on, may_ask, phase_next, world_next}
@@ -47,7 +47,7 @@ use Rattle.vacation_core.specs.declared.events.VacEvent.TheVariants.{Start, Step
 use Rattle.vacation_core.specs.Plays.{AreAllowed, Play, aborts, asks_on, at_open, begins, ends, ends_for, hears, if_replied, left_of, moved}
 use Rattle.vacation_core.specs.Plays.{played, played_all, seat_in, takes, told, turned, unplayed}
 use Rattle.vacation_core.specs.Unmet.{AreNotMistaken, PlaysFindRoom}
-use Rattle.vacation_core.proofs.HearLemmas.{ending_phase}
+use Rattle.vacation_core.proofs.ClientAnswerLemmas.{ending_phase}
 use Rattle.vacation_core.proofs.PlayLemmas.{IsSound, May, at_now, called_at, open_calls, replied_next, sound_ends, sound_turn}
 use Rattle.vacation_core.proofs.PlayLemmas.{sound_unplayed}
 
@@ -66,7 +66,7 @@ free_on b [] t no_read h = (no_reader b t.0 no_read, tt)
 free_on b (s ∷ ts) t no_read h = (h.0, free_on b ts t no_read h.1)
 
 -- ---- what holds between events
-abbrev IsBetween : Phase Entry → Type 0
+abbrev IsBetween : KnownStage Entry → Type 0
 IsBetween (Stands calls) = ⊥
 IsBetween at = Unit {0}
 
@@ -74,26 +74,26 @@ IsBetween at = Unit {0}
 record FindsBut (a : ℕ) (p : Play) : Type 0 where
   sound : IsSound p
   free : (b : ℕ) → BeginsNoReader b (events_of p.history.turns)
-  others : (b : ℕ) → (b ≡ a → ⊥) → IsBetween (phase (seat_in b p))
+  others : (b : ℕ) → (b ≡ a → ⊥) → IsBetween (known_stage (seat_in b p))
   faults : (b : ℕ) → p.faults b ≡ None
   aborted : AreNotMistaken p.aborted
 
 record Finds (p : Play) : Type 0 where
   sound : IsSound p
   free : (b : ℕ) → BeginsNoReader b (events_of p.history.turns)
-  between : (b : ℕ) → IsBetween (phase (seat_in b p))
+  between : (b : ℕ) → IsBetween (known_stage (seat_in b p))
   faults : (b : ℕ) → p.faults b ≡ None
   aborted : AreNotMistaken p.aborted
 
 but : (a : ℕ) (p : Play) → Finds p → FindsBut a p
 but a p f = record { sound = f.sound; free = f.free; others = λ b ne. f.between b; faults = f.faults; aborted = f.aborted }
 
-rests : (a : ℕ) (p : Play) (to : Phase Entry) → phase (seat_in a p) ≡ to → IsBetween to → FindsBut a p → Finds p
+rests : (a : ℕ) (p : Play) (to : KnownStage Entry) → known_stage (seat_in a p) ≡ to → IsBetween to → FindsBut a p → Finds p
 rests a p to at h f = record {
   sound = f.sound;
   free = f.free;
   between = λ b. elim (cases_eq b a) [
-    | inl same ↦ subst (λ c. IsBetween (phase (seat_in c p))) (sym same) (subst IsBetween (sym at) h)
+    | inl same ↦ subst (λ c. IsBetween (known_stage (seat_in c p))) (sym same) (subst IsBetween (sym at) h)
     | inr ne ↦ f.others b ne
   ];
   faults = f.faults;
@@ -109,7 +109,7 @@ turn_but a p e action own no_read may f =
       sound = sound_turn p e action may f.sound;
       free = λ b. free_on b h.turns t no_read (f.free b);
       others = λ b ne.
-          subst (λ (x : Seat Entry). IsBetween (phase x))
+          subst (λ (x : Seat Entry). IsBetween (known_stage x))
           (sym (ap (λ (w : World Entry). w.seats b) (world_next h t)
           ∙ (happens_by (world_in h) e).seats b (λ same. ne (same ∙ own)))) (f.others b ne);
       faults = f.faults;
@@ -126,7 +126,7 @@ none_told a p e action own may f =
 
 -- ---- a session continues
 replied_finds : (a : ℕ) (n : Notice Entry) (calls : List (Call Entry × Reply Entry)) (call : Call Entry) (next : Reply Entry → Play)
-    (q : Play) (to : Phase Entry) → FindsBut a q → phase (seat_in a q) ≡ to → CallMoves calls call n to → (RefusesAsMistaken n → ⊥)
+    (q : Play) (to : KnownStage Entry) → FindsBut a q → known_stage (seat_in a q) ≡ to → CallMoves calls call n to → (RefusesAsMistaken n → ⊥)
     → ((r : Reply Entry) → to ≡ Stands (calls ++ (call, r) ∷ []) → Finds (next r)) → Finds (if_replied a n next q)
 replied_finds a (Answered b (answer.Replied r)) calls call next q to f at m none goes = goes r m
 replied_finds a (Answered b w) calls call next q to f at m none goes = absurd m
@@ -134,12 +134,12 @@ replied_finds a (Refused b cause) calls call next q to f at m none goes = absurd
 replied_finds a Quiet calls call next q to f at (inl e) none goes = rests a q (Calls calls call) (at ∙ e) tt f
 replied_finds a Quiet calls call next q to f at (inr e) none goes = rests a q Ends (at ∙ e) tt f
 
-commit_between : (calls : List (Call Entry × Reply Entry)) (n : Notice Entry) (to : Phase Entry) → n ≡ Quiet
+commit_between : (calls : List (Call Entry × Reply Entry)) (n : Notice Entry) (to : KnownStage Entry) → n ≡ Quiet
     → AskMoves (Stands calls) request.Commit n to → to ≡ Commits calls
 commit_between calls n to quiet m = subst (λ (k : Notice Entry). AskMoves (Stands calls) request.Commit k to) quiet m
 
 asks_find : (a : ℕ) (program : SessionProgram) (p : Play) (calls : List (Call Entry × Reply Entry)) → FindsBut a p
-    → phase (seat_in a p) ≡ Stands calls → after (session (action_in a p.history)) (replies_of calls) ≡ program
+    → known_stage (seat_in a p) ≡ Stands calls → after (session (action_in a p.history)) (replies_of calls) ≡ program
     → Finds (asks_on a program p)
 asks_find a (Asks call next) p calls f stands left =
     let h = p.history in
@@ -165,7 +165,7 @@ asks_find a GivesUp p calls f stands left =
     let h = p.history in
     absurd (goes_on h a calls (action_in a h) (done_in a h) f.sound.lawful (at_now a p (Stands calls) stands) (ap asked left))
 
-goes_find : (a : ℕ) (p : Play) (calls : List (Call Entry × Reply Entry)) → FindsBut a p → phase (seat_in a p) ≡ Stands calls
+goes_find : (a : ℕ) (p : Play) (calls : List (Call Entry × Reply Entry)) → FindsBut a p → known_stage (seat_in a p) ≡ Stands calls
     → Finds (asks_on a (left_of a p) p)
 goes_find a p calls f stands =
     asks_find a (left_of a p) p calls f stands
@@ -188,11 +188,11 @@ ends_find a b cause p g f = record {
 }
 
 -- a refusal that leaves no transaction open ends the session
-not_open : (calls : List (Call Entry × Reply Entry)) (st : Stage Entry) (p q : Play) → IsBetween (phase_at calls st) → at_open st p q ≡ q
+not_open : (calls : List (Call Entry × Reply Entry)) (st : Stage Entry) (p q : Play) → IsBetween (known_stage_at calls st) → at_open st p q ≡ q
 not_open calls Open p q h = absurd h
 not_open calls st p q h = refl
 
-refused_find : (a b : ℕ) (cause : Refusal) (q : Play) (to : Phase Entry) → phase (seat_in a q) ≡ to → IsBetween to
+refused_find : (a b : ℕ) (cause : Refusal) (q : Play) (to : KnownStage Entry) → known_stage (seat_in a q) ≡ to → IsBetween to
     → (IsMistaken cause → ⊥) → FindsBut a q → Finds (hears a (Refused b cause) q)
 refused_find a b cause q to at h none f =
     let x = seat_in a q in
@@ -203,16 +203,16 @@ no_fault : (a : ℕ) (o : Option Refusal) (q : Play) → o ≡ None → Finds q 
 no_fault a o q e f = subst (λ (r : Option Refusal). Finds (ends_for a r q)) (sym e) f
 
 -- ---- a step
-call_finds : (a : ℕ) (calls : List (Call Entry × Reply Entry)) (call : Call Entry) (n : Notice Entry) (to : Phase Entry) (q : Play)
-    → CallMoves calls call n to → (RefusesAsMistaken n → ⊥) → FindsBut a q → phase (seat_in a q) ≡ to → Finds (hears a n q)
+call_finds : (a : ℕ) (calls : List (Call Entry × Reply Entry)) (call : Call Entry) (n : Notice Entry) (to : KnownStage Entry) (q : Play)
+    → CallMoves calls call n to → (RefusesAsMistaken n → ⊥) → FindsBut a q → known_stage (seat_in a q) ≡ to → Finds (hears a n q)
 call_finds a calls call (Answered b (answer.Replied r)) to q m none f at = goes_find a q (calls ++ (call, r) ∷ []) f (at ∙ m)
 call_finds a calls call (Answered b w) to q m none f at = absurd m
 call_finds a calls call (Refused b cause) to q m none f at = absurd (none m.1)
 call_finds a calls call Quiet to q (inl e) none f at = rests a q (Calls calls call) (at ∙ e) tt f
 call_finds a calls call Quiet to q (inr e) none f at = rests a q Ends (at ∙ e) tt f
 
-step_finds : (a : ℕ) (before : Phase Entry) (made : Bool) (n : Notice Entry) (to : Phase Entry) (q : Play) → IsBetween before
-    → StepMoves before made n to → (RefusesAsMistaken n → ⊥) → FindsBut a q → phase (seat_in a q) ≡ to → Finds (hears a n q)
+step_finds : (a : ℕ) (before : KnownStage Entry) (made : Bool) (n : Notice Entry) (to : KnownStage Entry) (q : Play) → IsBetween before
+    → StepMoves before made n to → (RefusesAsMistaken n → ⊥) → FindsBut a q → known_stage (seat_in a q) ≡ to → Finds (hears a n q)
 step_finds a Rests false (Refused b cause) to q h m none f at = refused_find a b cause q Rests (at ∙ m) tt none f
 step_finds a Begins false (Answered b (answer.Begun rv)) to q h m none f at = goes_find a q [] f (at ∙ m)
 step_finds a Begins false (Refused b cause) to q h m none f at = refused_find a b cause q Rests (at ∙ m) tt none f
@@ -236,24 +236,24 @@ hears_quiet : (a : ℕ) (n : Notice Entry) (q : Play) → n ≡ Quiet → Finds 
 hears_quiet a n q e f = subst (λ (m : Notice Entry). Finds (hears a m q)) (sym e) f
 
 starve_ends : (a : ℕ) (r : After Entry) (q : Play) → is_ending (r.0.seats a).stage ≡ true → r.1 ≡ Quiet
-    → phase (seat_in a q) ≡ phase (r.0.seats a) → FindsBut a q → Finds (hears a r.1 q)
+    → known_stage (seat_in a q) ≡ known_stage (r.0.seats a) → FindsBut a q → Finds (hears a r.1 q)
 starve_ends a r q ending quiet at f =
     hears_quiet a r.1 q quiet (rests a q Ends (at ∙ ending_phase (r.0.seats a).calls (r.0.seats a).stage ending) tt f)
 
-starve_stays : (a : ℕ) (w : World Entry) (r : After Entry) (q : Play) → r ≡ (w, Quiet) → IsBetween (phase (w.seats a))
-    → phase (seat_in a q) ≡ phase (r.0.seats a) → FindsBut a q → Finds (hears a r.1 q)
+starve_stays : (a : ℕ) (w : World Entry) (r : After Entry) (q : Play) → r ≡ (w, Quiet) → IsBetween (known_stage (w.seats a))
+    → known_stage (seat_in a q) ≡ known_stage (r.0.seats a) → FindsBut a q → Finds (hears a r.1 q)
 starve_stays a w r q e h at f =
     hears_quiet a r.1 q (ap (λ (s : After Entry). s.1) e)
-    (rests a q (phase (w.seats a)) (at ∙ ap (λ (s : After Entry). phase (s.0.seats a)) e) h f)
+    (rests a q (known_stage (w.seats a)) (at ∙ ap (λ (s : After Entry). known_stage (s.0.seats a)) e) h f)
 
 starve_finds : (a : ℕ) (w : World Entry) (st : Stage Entry) (r : After Entry) (q : Play) → (st ≡ Idle → ⊥)
-    → IsBetween (phase_at (w.seats a).calls st) → IsBetween (phase (w.seats a)) → IsStarved w a st r
-    → phase (seat_in a q) ≡ phase (r.0.seats a) → FindsBut a q → Finds (hears a r.1 q)
+    → IsBetween (known_stage_at (w.seats a).calls st) → IsBetween (known_stage (w.seats a)) → IsStarved w a st r
+    → known_stage (seat_in a q) ≡ known_stage (r.0.seats a) → FindsBut a q → Finds (hears a r.1 q)
 starve_finds a w Idle r q busy o h s at f = absurd (busy refl)
 starve_finds a w Open r q busy o h s at f = absurd o
 starve_finds a w Beginning r q busy o h s at f =
     subst (λ (n : Notice Entry). Finds (hears a n q)) (sym s.1)
-    (refused_find a a refusal.Memory q Rests (at ∙ ap (phase_at (r.0.seats a).calls) s.0) tt (λ m. m) f)
+    (refused_find a a refusal.Memory q Rests (at ∙ ap (known_stage_at (r.0.seats a).calls) s.0) tt (λ m. m) f)
 starve_finds a w (Storing ks) r q busy o h s at f = starve_stays a w r q s h at f
 starve_finds a w (Homing ks) r q busy o h s at f = starve_stays a w r q s h at f
 starve_finds a w Releasing r q busy o h s at f = starve_stays a w r q s h at f
@@ -286,7 +286,7 @@ takes_step a p f =
     let x = (world_in h).seats a in
     let e = event.Step a in
     takes_find a e p refl tt tt f (λ _ none g.
-    step_finds a (phase x) (is_some (committed_by x x.stage)) (told e p) (phase ((happens (world_in h) e).0.seats a)) (moved a e p)
+    step_finds a (known_stage x) (is_some (committed_by x x.stage)) (told e p) (known_stage ((happens (world_in h) e).0.seats a)) (moved a e p)
     (f.between a) (steps_move (world_in h) a) none g (phase_next a h (e, action_in a h)))
 
 takes_starve : (a : ℕ) (p : Play) → Finds p → Finds (takes a (event.Starve a) p)
@@ -306,7 +306,7 @@ begins_find a action p allowed f =
     idle_or (seat_in a p).stage _ (ends a refusal.NotIdle p)
     (λ idle.
     let at = history.begins h a (action_in a h) action (done_in a h)
-    (at_now a p Rests (ap (phase_at (seat_in a p).calls) idle)) in
+    (at_now a p Rests (ap (known_stage_at (seat_in a p).calls) idle)) in
     let r = rests a (turned e action p) Begins at.stands tt g in
     record {
       sound = record { lawful = r.sound.lawful; goes_on = r.sound.goes_on };

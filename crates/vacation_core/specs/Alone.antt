@@ -12,8 +12,8 @@ use Rattle.vac_model.specs.Holdings.{Holdings}
 use Rattle.client_sessions.specs.declared.entry.Entry.{Entry}
 use Rattle.client_sessions.specs.Holding.{state_of}
 use Rattle.client_sessions.specs.Runs.{AreDone, AreSessions, Deal, after_deals}
-use Rattle.vacation_core.specs.Asking.{Actions, AskAsSessions, Turn, events_of}
-use Rattle.actor_laws.specs.Phases.{Rests, phase}
+use Rattle.vacation_core.specs.ClientWorlds.{Actions, AskAsSessions, Turn, events_of}
+use Rattle.actor_laws.specs.KnownStages.{Rests, known_stage}
 use Rattle.vacation_core.specs.Serial.{committed_of}
 
 -- only actor a does anything
@@ -43,5 +43,5 @@ AloneIsInOrder =
     (blocks : List Block) (clock : ℕ) (tables : Holdings) (actions : Actions) (turns : List Turn) (a : ℕ)
     → ((b : ℕ) → IsAllowed (actions b)) → IsBalanced tables → HaveStripes blocks → Suit blocks (state_of tables).held
     → let first = opened blocks clock (state_of tables).words (state_of tables).held in
-    AskAsSessions actions first turns → AreOf a turns → phase ((run first (events_of turns)).seats a) ≡ Rests
+    AskAsSessions actions first turns → AreOf a turns → known_stage ((run first (events_of turns)).seats a) ≡ Rests
     → IsInOrder a (committed_of a actions first turns) tables (run first (events_of turns))

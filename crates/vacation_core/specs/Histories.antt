@@ -9,8 +9,8 @@ use Rattle.vac_model.specs.Balanced.{IsBalanced}
 use Rattle.vac_model.specs.Holdings.{Holdings}
 use Rattle.client_sessions.specs.declared.entry.Entry.{Entry}
 use Rattle.client_sessions.specs.Holding.{state_of}
-use Rattle.vacation_core.specs.Asking.{Actions, AskAsSessions, Turn, events_of}
-use Rattle.actor_laws.specs.Phases.{Phase, phase}
+use Rattle.vacation_core.specs.ClientWorlds.{Actions, AskAsSessions, Turn, events_of}
+use Rattle.actor_laws.specs.KnownStages.{KnownStage, known_stage}
 use Rattle.vacation_core.specs.Serial.{begun_all, committed_of}
 
 -- the turns that a world has taken since it opened on these tables, its locations in these blocks
@@ -48,7 +48,7 @@ abbrev pub done_in : ℕ → History → List Action
 done_in a h = committed_of a h.actions (opening_of h) h.turns
 
 -- The transaction of client a stands at p and is to do this action, and the client has committed these.
-pub record IsAt (a : ℕ) (p : Phase Entry) (action : Action) (done : List Action) (h : History) : Type 0 where
-  pub stands : phase ((world_in h).seats a) ≡ p
+pub record IsAt (a : ℕ) (p : KnownStage Entry) (action : Action) (done : List Action) (h : History) : Type 0 where
+  pub stands : known_stage ((world_in h).seats a) ≡ p
   pub does : action_in a h ≡ action
   pub has : done_in a h ≡ done

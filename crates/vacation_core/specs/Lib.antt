@@ -1,7 +1,7 @@
 pub mod Served
 pub mod Costs
 pub mod Alone
-pub mod Asking
+pub mod ClientWorlds
 pub mod Serial
 pub mod Histories
 pub mod Rooms
@@ -14,7 +14,7 @@ pub mod Laws
 pub mod Clients
 pub mod Running
 pub mod PlayOpenings
-pub mod Told
+pub mod CommittedAnswers
 pub mod Traces
 pub mod Unmet
 pub use Rattle.client_sessions.specs.Holding

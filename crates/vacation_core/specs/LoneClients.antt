@@ -21,12 +21,12 @@ use Rattle.client_sessions.specs.Sessions.{SessionProgram, session}
 use Rattle.step_world.specs.Parts.{IsWorld}
 use Rattle.step_world.specs.declared.parts.Parts.{Parts}
 use Rattle.vacation_core.specs.Alone.{AreOf}
-use Rattle.vacation_core.specs.Asking.{events_of}
+use Rattle.vacation_core.specs.ClientWorlds.{events_of}
 use Rattle.vacation_core.specs.Histories.{History, IsAt, IsLawful, world_in}
-use Rattle.actor_laws.specs.Phases.{Phase, Rests, Begins, Stands, Calls}
+use Rattle.actor_laws.specs.KnownStages.{KnownStage, Rests, Begins, Stands, Calls}
 
 -- whether a commit may still be asked for
-abbrev pub may_commit : Phase Entry → ℕ
+abbrev pub may_commit : KnownStage Entry → ℕ
 may_commit Begins = 1
 may_commit (Stands calls) = 1
 may_commit (Calls calls call) = 1
@@ -34,7 +34,7 @@ may_commit p = 0
 
 -- Actor a alone has done anything since the world opened at clock 0 on these tables, of which c are the parts: it has begun n sessions. Its
 -- transaction stands at p and is to do this action, and it has committed these.
-pub record IsClient (a : ℕ) (tables : Holdings) (n : ℕ) (p : Phase Entry) (action : Action) (done : List Action)
+pub record IsClient (a : ℕ) (tables : Holdings) (n : ℕ) (p : KnownStage Entry) (action : Action) (done : List Action)
     (c : Parts Entry) : Type 0 where
   pub history : History
   pub opening : history.tables ≡ tables
@@ -59,7 +59,7 @@ AreAll action calls = (reply : ActionReply) × Follows (session action) calls (A
 
 -- What may be asked for an action, where the transaction stands at p after these calls and was begun for the old one; a session more is
 -- below the limit of the clock.
-abbrev pub IsDue : ℕ → (old action : Action) → List (Call Entry × Reply Entry) → Phase Entry → Request Entry → Type 0
+abbrev pub IsDue : ℕ → (old action : Action) → List (Call Entry × Reply Entry) → KnownStage Entry → Request Entry → Type 0
 IsDue n old action calls p request.Begin = IsAllowed action × (p ≡ Rests) × (n + 1 < clock_limit)
 IsDue n old action calls p (request.Call call) = IsAllowed action × (old ≡ action) × (p ≡ Stands calls) × IsNext action calls call
 IsDue n old action calls p request.Commit = (old ≡ action) × (p ≡ Stands calls) × AreAll action calls
@@ -71,7 +71,7 @@ begun n request.Begin = n + 1
 begun n q = n
 
 -- Where a transaction stands after this answer to a request, and whether it has committed: each request is answered, and none refused.
-abbrev pub Leads : List (Call Entry × Reply Entry) → Request Entry → Notice Entry → Phase Entry → (commits : Bool) → Type 0
+abbrev pub Leads : List (Call Entry × Reply Entry) → Request Entry → Notice Entry → KnownStage Entry → (commits : Bool) → Type 0
 Leads calls request.Begin (Answered b (answer.Begun rv)) p false = p ≡ Stands []
 Leads calls (request.Call call) (Answered b (answer.Replied r)) p false = p ≡ Stands (calls ++ (call, r) ∷ [])
 Leads calls request.Commit (Answered b (answer.Committed n)) p true = p ≡ Rests
@@ -80,7 +80,7 @@ Leads calls q n p commits = ⊥
 -- The client has asked q after these calls, for an action, and was answered n last.
 pub record Comes (a : ℕ) (tables : Holdings) (k : ℕ) (calls : List (Call Entry × Reply Entry)) (q : Request Entry) (n : Notice Entry)
     (action : Action) (done : List Action) (c : Parts Entry) : Type 0 where
-  pub at : Phase Entry
+  pub at : KnownStage Entry
   pub commits : Bool
   pub leads : Leads calls q n at commits
   pub client : IsClient a tables k at action (if commits then done ++ action ∷ [] else done) c
@@ -89,5 +89,5 @@ pub record Comes (a : ℕ) (tables : Holdings) (k : ℕ) (calls : List (Call Ent
 -- left.
 abbrev pub IsAnswered : Parts Entry → ℕ → Request Entry → Parts Entry → Notice Entry → Type 0
 IsAnswered c a q d n =
-    (tables : Holdings) (k : ℕ) (calls : List (Call Entry × Reply Entry)) (p : Phase Entry) (old action : Action) (done : List Action)
+    (tables : Holdings) (k : ℕ) (calls : List (Call Entry × Reply Entry)) (p : KnownStage Entry) (old action : Action) (done : List Action)
     → IsClient a tables k p old done c → IsDue k old action calls p q → Comes a tables (begun k q) calls q n action done d

@@ -20,7 +20,7 @@ use Rattle.vac_model.specs.Holdings.{Holdings}
 use Rattle.seq_model.specs.Programs.{Asks, Answers, GivesUp, after, replies_of}
 use Rattle.client_sessions.specs.declared.entry.Entry.{Entry}
 use Rattle.client_sessions.specs.Sessions.{SessionProgram, session}
-use Rattle.vacation_core.specs.Asking.{at_idle}
+use Rattle.vacation_core.specs.ClientWorlds.{at_idle}
 use Rattle.vacation_core.specs.Histories.{History, action_in, later, world_in}
 use Rattle.vacation_core.specs.declared.events.VacEvent.{VacEvent}
 use Rattle.vacation_core.specs.declared.events.VacEvent.TheVariants.{Start, Step, Starve}

@@ -4,7 +4,7 @@ use Rattle.replay_log.specs.Collections.{Suit}
 use Rattle.replay_log.specs.Contents.{Block, HaveStripes}
 use Rattle.replay_log.specs.WorldProgress.{whose}
 use Rattle.replay_log.specs.Worlds.{happens, opened, run}
-use Rattle.vacation_core.specs.Asking.{Actions, AskAsSessions, MayHappen, Turn, events_of}
+use Rattle.vacation_core.specs.ClientWorlds.{Actions, AskAsSessions, MayHappen, Turn, events_of}
 use Rattle.vacation_core.specs.Serial.{begun_all}
 use Rattle.actor_laws.specs.Beside.{BeginsNoReader, RefusesAsMistaken}
 use Rattle.vac_model.specs.Actions.{IsAllowed}

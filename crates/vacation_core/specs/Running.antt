@@ -18,7 +18,7 @@ use Rattle.seq_model.specs.Programs.{Asks, after, replies_of}
 use Rattle.client_sessions.specs.declared.entry.Entry.{Entry}
 use Rattle.client_sessions.specs.Sessions.{SessionProgram, session}
 use Rattle.vacation_core.specs.Histories.{IsLawful, action_in, done_in, world_in}
-use Rattle.actor_laws.specs.Phases.{Phase, Rests, Begins, Stands, Calls, Commits, Committed, Ends, CallMoves, IsMistaken, phase}
+use Rattle.actor_laws.specs.KnownStages.{KnownStage, Rests, Begins, Stands, Calls, Commits, Committed, Ends, CallMoves, IsMistaken, known_stage}
 use Rattle.vacation_core.specs.Clients.{asks_next}
 use Rattle.vacation_core.specs.Plays.{Play, aborts, asks_on, if_replied, left_of, seat_in}
 use Rattle.vacation_core.specs.declared.client.Client.{Client}
@@ -35,7 +35,7 @@ IsOpen None action fault = ⊥
 IsOpen (Some o) action fault = (o.session ≡ action) × (o.fault ≡ fault)
 
 -- What a client keeps that stands so between events: its session, and what it has committed. The last step answers it the commit.
-abbrev pub KeepsAt : Phase Entry → Client → Action → Option Refusal → List Action → Type 0
+abbrev pub KeepsAt : KnownStage Entry → Client → Action → Option Refusal → List Action → Type 0
 KeepsAt Rests c action fault done = (c.current ≡ None) × (c.done ≡ done)
 KeepsAt Begins c action fault done = IsOpenWith c.current action fault [] × (c.done ≡ done)
 KeepsAt (Stands calls) c action fault done = ⊥
@@ -45,7 +45,7 @@ KeepsAt Committed c action fault done = IsOpen c.current action fault × (c.done
 KeepsAt Ends c action fault done = IsOpen c.current action fault × (c.done ≡ done)
 
 -- What a client keeps that has just been answered n, and stands so now.
-abbrev pub HearsAt : Notice Entry → Phase Entry → Client → Action → Option Refusal → List Action → Type 0
+abbrev pub HearsAt : Notice Entry → KnownStage Entry → Client → Action → Option Refusal → List Action → Type 0
 HearsAt Quiet to c action fault done = KeepsAt to c action fault done
 HearsAt (Answered b (answer.Begun rv)) to c action fault done =
     (to ≡ Stands []) × IsOpenWith c.current action fault [] × (c.done ≡ done)
@@ -61,19 +61,19 @@ HearsAt (Refused b cause) to c action fault done =
 
 -- The client of actor a, in this play.
 pub record IsClient (c : Client) (a : ℕ) (p : Play) : Type 0 where
-  pub at : Phase Entry
-  pub stands : phase (seat_in a p) ≡ at
+  pub at : KnownStage Entry
+  pub stands : known_stage (seat_in a p) ≡ at
   pub keeps : KeepsAt at c (action_in a p.history) (p.faults a) (done_in a p.history)
 
 -- and once it was answered n
 pub record IsHearing (n : Notice Entry) (c : Client) (a : ℕ) (p : Play) : Type 0 where
-  pub to : Phase Entry
-  pub stands : phase (seat_in a p) ≡ to
+  pub to : KnownStage Entry
+  pub stands : known_stage (seat_in a p) ≡ to
   pub hears : HearsAt n to c (action_in a p.history) (p.faults a) (done_in a p.history)
 
 -- and where it is to ask, after these calls
 pub record IsAsking (calls : List (Call Entry × Reply Entry)) (c : Client) (a : ℕ) (p : Play) : Type 0 where
-  pub stands : phase (seat_in a p) ≡ Stands calls
+  pub stands : known_stage (seat_in a p) ≡ Stands calls
   pub current : IsOpenWith c.current (action_in a p.history) (p.faults a) (replies_of calls)
   pub done : c.done ≡ done_in a p.history
 
@@ -108,7 +108,7 @@ pub record Hears (i : ℕ) (n : Notice Entry) (v : VacWorld) (p : Play) : Type 0
 
 -- The client at place i was refused a request: its transaction has ended, or stands open.
 pub record IsRefused (c : Client) (a : ℕ) (p : Play) : Type 0 where
-  pub stands : (phase (seat_in a p) ≡ Rests) ⊎ ((calls : List (Call Entry × Reply Entry)) × (phase (seat_in a p) ≡ Stands calls))
+  pub stands : (known_stage (seat_in a p) ≡ Rests) ⊎ ((calls : List (Call Entry × Reply Entry)) × (known_stage (seat_in a p) ≡ Stands calls))
   pub current : IsOpen c.current (action_in a p.history) (p.faults a)
   pub done : c.done ≡ done_in a p.history
 
@@ -130,7 +130,7 @@ RepliesWithin n made = Unit {0}
 -- It aborts its transaction for this cause, where it has one; and else nothing has happened.
 abbrev pub Abandons : ℕ → Refusal → Play → Bool → VacWorld → Type 0
 Abandons i cause p true v = ((seat_in (i + 1) p).stage ≡ Open) × IsPlay v (aborts (i + 1) cause p)
-Abandons i cause p false v = (phase (seat_in (i + 1) p) ≡ Rests) × Refusing i v p
+Abandons i cause p false v = (known_stage (seat_in (i + 1) p) ≡ Rests) × Refusing i v p
 
 -- The running world is that of a play in which the client at place i is to ask, and the result of what it asks is this play. It has asked k
 -- requests since its last answer, and there was room for their calls.
@@ -150,10 +150,10 @@ pub record Called (i k : ℕ) (call : Call Entry) (n : Notice Entry) (v : VacWor
   pub play : Play
   pub calls : List (Call Entry × Reply Entry)
   pub next : Reply Entry → SessionProgram
-  pub at : Phase Entry
+  pub at : KnownStage Entry
   pub on : IsOn v play
   pub others : Others i v play
-  pub stands : phase (seat_in (i + 1) play) ≡ at
+  pub stands : known_stage (seat_in (i + 1) play) ≡ at
   pub moves : CallMoves calls call n at
   pub own : (c : Client) → slice_get v.clients.items i ≡ Some c → IsCalling calls c (i + 1) play
   pub left : after (session (action_in (i + 1) play.history)) (replies_of calls) ≡ Asks call next
@@ -167,7 +167,7 @@ GoesOn i k to true v = AsksOn i (k + 1) v to
 GoesOn i k to false v = IsPlay v to
 
 -- there is a client at place i
-pub record HasPlace (i : ℕ) (v : VacWorld) : Type 0 where
+pub record HasPosition (i : ℕ) (v : VacWorld) : Type 0 where
   pub inside : i < ACTORS
   pub count : length v.clients.items ≡ ACTORS
 

@@ -17,7 +17,7 @@ use Rattle.client_sessions.specs.declared.entry.Entry.{Entry}
 use Rattle.client_sessions.specs.Holding.{state_of}
 use Rattle.client_sessions.specs.Runs.{AreDone, AreSessions, Deal, after_deals}
 use Rattle.client_sessions.specs.Sessions.{session}
-use Rattle.vacation_core.specs.Asking.{Actions, AskAsSessions, Turn, begun, events_of}
+use Rattle.vacation_core.specs.ClientWorlds.{Actions, AskAsSessions, Turn, begun, events_of}
 
 -- what each actor's transaction is to do after these events
 abbrev pub begun_all : Actions → World Entry → List Turn → Actions

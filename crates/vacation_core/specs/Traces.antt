@@ -7,7 +7,7 @@ use Rattle.client_sessions.specs.Runs.{after_deals}
 use Rattle.vacation_core.specs.Histories.{opening_of, world_in}
 use Rattle.vacation_core.specs.Serial.{IsSerialSessions}
 use Rattle.vacation_core.specs.Plays.{Play}
-use Rattle.vacation_core.specs.Told.{told_all}
+use Rattle.vacation_core.specs.CommittedAnswers.{told_all}
 use Rattle.vacation_core.specs.declared.run.VacTrace.{VacTrace}
 
 -- The trace has the result of the play. The sessions that committed were answered as their actions are, one after another, in commit order,

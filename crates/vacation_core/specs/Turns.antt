@@ -11,7 +11,7 @@ use Rattle.vac_model.specs.Actions.{IsAllowed}
 use Rattle.vac_model.specs.Holdings.{Holdings}
 use Rattle.client_sessions.specs.declared.entry.Entry.{Entry}
 use Rattle.step_world.specs.declared.parts.Parts.{Parts}
-use Rattle.actor_laws.specs.Phases.{Rests, Stands}
+use Rattle.actor_laws.specs.KnownStages.{Rests, Stands}
 use Rattle.vacation_core.specs.LoneClients.{AreAll, IsClient, IsNext}
 use Rattle.vacation_core.specs.declared.session.TheConstants.{CLIENT}
 

@@ -4,7 +4,7 @@ use Rattle.seq_model.specs.declared.refusal.Refusal.{Refusal}
 use Rattle.step_core.specs.Shown.{is_actor}
 use Rattle.replay_log.specs.Contents.{Block, HaveStripes}
 use Rattle.replay_log.specs.Collections.{Suit}
-use Rattle.actor_laws.specs.Phases.{IsMistaken}
+use Rattle.actor_laws.specs.KnownStages.{IsMistaken}
 use Rattle.vac_model.specs.Balanced.{IsBalanced}
 use Rattle.vac_model.specs.Holdings.{Holdings}
 use Rattle.client_sessions.specs.Holding.{state_of}

@@ -1,7 +1,7 @@
 //! The results of the sessions that committed.
 ghost use Rattle.std.specs.Prelude.{◌≡◌, ◌+◌, ◌<◌, ◌^◌, IsSome, List, replicate, length, IfOk, MatchOption, slice_get};
 ghost use Rattle.client_sessions.specs.Runs.{Deal};
-ghost use Rattle.vacation_core.specs.Told.{AreOwn, HaveFirst, HaveOwn, IsToldOne, sessions_of, told_all};
+ghost use Rattle.vacation_core.specs.CommittedAnswers.{AreOwn, HaveFirst, HaveOwn, IsToldOne, sessions_of, told_all};
 
 use crate::client::Client;
 use client_sessions::{Entry, Session};

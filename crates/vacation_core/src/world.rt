@@ -4,16 +4,16 @@ ghost use Rattle.conflict.specs.Refusals.{IsStripeCount};
 ghost use Rattle.seq_model.specs.declared.call.Call.{Call as ACall};
 ghost use Rattle.seq_model.specs.declared.event.Answer.TheVariants as answer;
 ghost use Rattle.seq_model.specs.declared.event.Notice.TheVariants.{Answered, Refused};
-ghost use Rattle.step_world.specs.Feeds.{Feeds, IsPlaceOf};
+ghost use Rattle.step_world.specs.Feeds.{Feeds, IsPositionOf};
 ghost use Rattle.seq_model.specs.declared.job.Ask.TheVariants as ask;
-ghost use Rattle.actor_laws.specs.Phases.{Rests, phase};
+ghost use Rattle.actor_laws.specs.KnownStages.{Rests, known_stage};
 ghost use Rattle.vac_model.specs.Actions.{IsAllowed};
 ghost use Rattle.vac_model.specs.Balanced.{IsBalanced};
 ghost use Rattle.vacation_core.specs.declared.events.VacEvent.TheVariants as happening;
 ghost use Rattle.vacation_core.specs.PlayOpenings.{AreNew, unplayed_on};
 ghost use Rattle.vacation_core.specs.Plays.{AreAllowed, IsMoveOf, MayHappen, Play, begins, ends, hears, played, played_all, seat_in};
 ghost use Rattle.vacation_core.specs.Plays.{takes, takes_if_actor};
-ghost use Rattle.vacation_core.specs.Running.{AsksNext, AsksOn, Abandons, Called, GoesOn, HasPlace, HasPlay, Hears, IsPlay, Mistaken, Refusing};
+ghost use Rattle.vacation_core.specs.Running.{AsksNext, AsksOn, Abandons, Called, GoesOn, HasPosition, HasPlay, Hears, IsPlay, Mistaken, Refusing};
 
 use crate::client::Client;
 use crate::events::VacEvent;
@@ -33,14 +33,14 @@ const REQUEST_LIMIT: u32 = 4097;
 pub struct VacWorld {
     pub(crate) alloc: Global,
     pub(crate) world: World<Entry>,
-    /// Each at the place before its number.
+    /// Each at the position before its number.
     pub(crate) clients: Vec<Client>,
     pub(crate) aborted: Items<(u32, Refusal)>,
 }
 
-/// The place of the client of this number, where it is one of the actors.
-fn place_of(actor: u32) -> Option<usize>
-    ensures { IsPlaceOf actor result }
+/// The position of the client of this number, where it is one of the actors.
+fn position_of(actor: u32) -> Option<usize>
+    ensures { IsPositionOf actor result }
 {
     let number = actor as usize;
     if number == 0 || number > ACTORS {
@@ -49,7 +49,7 @@ fn place_of(actor: u32) -> Option<usize>
     Some(number - 1)
 }
 
-/// The number of the client at this place.
+/// The number of the client at this position.
 fn actor_at(i: usize) -> u32
     requires { i < ACTORS }
     ensures { result ≡ i + 1 }
@@ -108,11 +108,11 @@ impl VacWorld {
         self.world.feed(event)
     }
 
-    /// A call of the session at this place was refused, for which it aborts its transaction, where it has one.
+    /// A call of the session at this position was refused, for which it aborts its transaction, where it has one.
     fn give_up(&mut self, i: usize, cause: Refusal) -> Result<bool, Memory>
-        requires { HasPlace i self.old }
+        requires { HasPosition i self.old }
         ensures ok { IfOk result (λ gives_up. (p : Play) → Refusing i self.old p → Abandons i cause p gives_up self.new) }
-        ensures place { HasPlace i self.new }
+        ensures place { HasPosition i self.new }
     {
         let actor = actor_at(i);
         let notice = self.feed(Event::Ask(actor, Request::Abort))?;
@@ -124,12 +124,12 @@ impl VacWorld {
         Ok(true)
     }
 
-    /// A call of the session at this place has this answer at once: whether it is a reply.
+    /// A call of the session at this position has this answer at once: whether it is a reply.
     fn replied(&mut self, i: usize, answer: Answer<Entry>) -> Result<bool, Memory>
-        requires { HasPlace i self.old }
+        requires { HasPosition i self.old }
         ensures ok { IfOk result (λ more. (k b : ℕ) (call : ACall Entry) (to : Play) → Called i k call (Answered b answer) self.old to
             → GoesOn i k to more self.new) }
-        ensures place { HasPlace i self.new }
+        ensures place { HasPosition i self.new }
     {
         match answer {
             Answer::Replied(reply) => {
@@ -140,12 +140,12 @@ impl VacWorld {
         }
     }
 
-    /// A call of the session at this place has this notice at once: whether it is a reply.
+    /// A call of the session at this position has this notice at once: whether it is a reply.
     fn called(&mut self, i: usize, notice: Notice<Entry>) -> Result<bool, Memory>
-        requires { HasPlace i self.old }
+        requires { HasPosition i self.old }
         ensures ok { IfOk result (λ more. (k : ℕ) (call : ACall Entry) (to : Play) → Called i k call notice self.old to
             → GoesOn i k to more self.new) }
-        ensures place { HasPlace i self.new }
+        ensures place { HasPosition i self.new }
     {
         match notice {
             Notice::Quiet => Ok(false),
@@ -157,12 +157,12 @@ impl VacWorld {
         }
     }
 
-    /// A call of the session at this place: whether it was answered at once.
+    /// A call of the session at this position: whether it was answered at once.
     fn call(&mut self, i: usize, call: Call<Entry>) -> Result<bool, Memory>
-        requires place { HasPlace i self.old }
+        requires place { HasPosition i self.old }
         requires asks { AsksNext i self.old (ask.Call call) }
         ensures ok { IfOk result (λ more. (k : ℕ) (to : Play) → AsksOn i k self.old to → GoesOn i k to more self.new) }
-        ensures place { HasPlace i self.new }
+        ensures place { HasPosition i self.new }
     {
         let actor = actor_at(i);
         let notice = self.feed(Event::Ask(actor, Request::Call(call)))?;
@@ -170,21 +170,21 @@ impl VacWorld {
     }
 
     fn commit(&mut self, i: usize) -> Result<(), Memory>
-        requires place { HasPlace i self.old }
+        requires place { HasPosition i self.old }
         requires asks { AsksNext i self.old ask.Done }
         ensures ok { OnOk result ((k : ℕ) (to : Play) → AsksOn i k self.old to → IsPlay self.new to) }
-        ensures place { HasPlace i self.new }
+        ensures place { HasPosition i self.new }
     {
         let actor = actor_at(i);
         let _notice = self.feed(Event::Ask(actor, Request::Commit))?;
         Ok(())
     }
 
-    /// The next request of the session at this place: whether it was answered at once.
+    /// The next request of the session at this position: whether it was answered at once.
     fn ask_next(&mut self, i: usize) -> Result<bool, Memory>
-        requires { HasPlace i self.old }
+        requires { HasPosition i self.old }
         ensures ok { IfOk result (λ more. (k : ℕ) (to : Play) → AsksOn i k self.old to → GoesOn i k to more self.new) }
-        ensures place { HasPlace i self.new }
+        ensures place { HasPosition i self.new }
     {
         let ask = self.clients[i].next()?;
         match ask {
@@ -197,10 +197,10 @@ impl VacWorld {
         }
     }
 
-    /// The requests of the session at this place, up to the first that is not answered at once. There are no more of them than a
+    /// The requests of the session at this position, up to the first that is not answered at once. There are no more of them than a
     /// transaction may have calls, and one.
     fn go_on(&mut self, i: usize) -> Result<(), Memory>
-        requires { HasPlace i self.old }
+        requires { HasPosition i self.old }
         ensures { OnOk result ((to : Play) → AsksOn i 0 self.old to → IsPlay self.new to) }
     {
         for _ in 0..REQUEST_LIMIT {
@@ -212,9 +212,9 @@ impl VacWorld {
         Ok(())
     }
 
-    /// The transaction of the session at this place was aborted, as it asked for.
+    /// The transaction of the session at this position was aborted, as it asked for.
     fn hear_end(&mut self, i: usize) -> Result<(), Memory>
-        requires { HasPlace i self.old }
+        requires { HasPosition i self.old }
         ensures { OnOk result ((p : Play) (b : ℕ) → Hears i (Answered b answer.Aborted) self.old p
             → IsPlay self.new (hears (i + 1) (Answered b answer.Aborted) p)) }
     {
@@ -225,9 +225,9 @@ impl VacWorld {
         }
     }
 
-    /// The session at this place has committed.
+    /// The session at this position has committed.
     fn hear_commit(&mut self, i: usize) -> Result<(), Memory>
-        requires { HasPlace i self.old }
+        requires { HasPosition i self.old }
         ensures { OnOk result ((p : Play) (b n : ℕ) → Hears i (Answered b (answer.Committed n)) self.old p
             → IsPlay self.new (hears (i + 1) (Answered b (answer.Committed n)) p)) }
     {
@@ -235,7 +235,7 @@ impl VacWorld {
     }
 
     fn hear_answer(&mut self, i: usize, actor: u32, answer: Answer<Entry>) -> Result<(), Memory>
-        requires { HasPlace i self.old }
+        requires { HasPosition i self.old }
         ensures { OnOk result ((p : Play) → Hears i (Answered actor answer) self.old p
             → IsPlay self.new (hears (i + 1) (Answered actor answer) p)) }
     {
@@ -250,10 +250,10 @@ impl VacWorld {
         }
     }
 
-    /// The session at this place, whose request was refused, has ended without a commit.
+    /// The session at this position, whose request was refused, has ended without a commit.
     fn end_refused(&mut self, i: usize, cause: Refusal) -> Result<(), Memory>
-        requires { HasPlace i self.old }
-        ensures { OnOk result ((p : Play) → phase (seat_in (i + 1) p) ≡ Rests → Refusing i self.old p
+        requires { HasPosition i self.old }
+        ensures { OnOk result ((p : Play) → known_stage (seat_in (i + 1) p) ≡ Rests → Refusing i self.old p
             → IsPlay self.new (ends (i + 1) cause p)) }
     {
         let actor = actor_at(i);
@@ -263,7 +263,7 @@ impl VacWorld {
 
     /// A refusal of a call that leaves the transaction open.
     fn hear_mistake(&mut self, i: usize, actor: u32, cause: Refusal) -> Result<(), Memory>
-        requires { HasPlace i self.old }
+        requires { HasPosition i self.old }
         ensures { OnOk result ((p : Play) → Hears i (Refused actor cause) self.old p
             → IsPlay self.new (hears (i + 1) (Refused actor cause) p)) }
     {
@@ -275,7 +275,7 @@ impl VacWorld {
     }
 
     fn hear_refusal(&mut self, i: usize, actor: u32, cause: Refusal) -> Result<(), Memory>
-        requires { HasPlace i self.old }
+        requires { HasPosition i self.old }
         ensures { OnOk result ((p : Play) → Hears i (Refused actor cause) self.old p
             → IsPlay self.new (hears (i + 1) (Refused actor cause) p)) }
     {
@@ -285,9 +285,9 @@ impl VacWorld {
         self.end_refused(i, cause)
     }
 
-    /// What the client at this place does after this notice.
+    /// What the client at this position does after this notice.
     fn hear(&mut self, i: usize, notice: Notice<Entry>) -> Result<(), Memory>
-        requires { HasPlace i self.old }
+        requires { HasPosition i self.old }
         ensures { OnOk result ((p : Play) → Hears i notice self.old p → IsPlay self.new (hears (i + 1) notice p)) }
     {
         match notice {
@@ -297,9 +297,9 @@ impl VacWorld {
         }
     }
 
-    /// An event of the session that is under way at this place.
+    /// An event of the session that is under way at this position.
     fn take_at(&mut self, i: usize, event: Event<Entry>) -> Result<(), Memory>
-        requires place { HasPlace i self.old }
+        requires place { HasPosition i self.old }
         requires own { IsMoveOf (i + 1) event }
         ensures { OnOk result ((p : Play) → IsPlay self.old p → IsPlay self.new (takes (i + 1) event p)) }
     {
@@ -316,14 +316,14 @@ impl VacWorld {
         requires own { IsMoveOf actor event }
         ensures { OnOk result ((p : Play) → IsPlay self.old p → IsPlay self.new (takes_if_actor actor event p)) }
     {
-        match place_of(actor) {
+        match position_of(actor) {
             Some(i) => self.take_at(i, event),
             None => Ok(()),
         }
     }
 
     fn begin(&mut self, i: usize, action: &Action) -> Result<(), Memory>
-        requires place { HasPlace i self.old }
+        requires place { HasPosition i self.old }
         requires allowed { IsAllowed action.now }
         ensures { OnOk result ((p : Play) → IsPlay self.old p → IsPlay self.new (begins (i + 1) action.now p)) }
     {
@@ -342,7 +342,7 @@ impl VacWorld {
         requires allowed { IsAllowed action.now }
         ensures { OnOk result ((p : Play) → IsPlay self.old p → IsPlay self.new (played p (happening.Start actor action.now))) }
     {
-        match place_of(actor) {
+        match position_of(actor) {
             Some(i) => self.begin(i, action),
             None => self.end(actor, Refusal::NoSuch),
         }

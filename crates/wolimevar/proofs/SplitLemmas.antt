@@ -4,10 +4,10 @@ use Rattle.std.specs.Prelude.{max}
 use Rattle.std.proofs.lemmas.List.{append-nil}
 use Rattle.tx_table.specs.declared.seat.Seat.{Seat}
 use Rattle.tx_table.specs.declared.table.TxTable.{TxTable}
-use Rattle.tx_table.specs.declared.view.View.{View}
+use Rattle.tx_table.specs.declared.view.SeatKnowledge.{SeatKnowledge}
 use Rattle.tx_table.specs.Seated.{actor, view}
 use Rattle.tx_table.specs.Shown.{both_of, left_of, right_of}
-use Rattle.tx_turns.specs.Requested.{requests_of}
+use Rattle.tx_turns.specs.RequestHistory.{requests_of}
 use Rattle.tx_engine.specs.declared.seats.TxSeat.{TxSeat}
 use Rattle.tx_engine.specs.Ready.{IsReady}
 use Rattle.wolimevar.specs.Splits.{HasLeft, IsUnused}
@@ -19,10 +19,10 @@ module _ {V : Type 0} where
   pub left_one : (s u : Seat V) → 1 < (view s).shares → view u ≡ left_of 1 (view s) → u.last ≡ s.last → requests_of u ≡ requests_of s
       → HasLeft 1 s u
   left_one s u fewer left last asked =
-      let e : (view u).shares ≡ (view s).shares - 1 = ap (λ (w : View V). w.shares) left in
+      let e : (view u).shares ≡ (view s).shares - 1 = ap (λ (w : SeatKnowledge V). w.shares) left in
       record {
         shares = omega (arith, fewer, e);
-        receipts = ap (λ (w : View V). w.receipts) left;
+        receipts = ap (λ (w : SeatKnowledge V). w.receipts) left;
         last = last;
         asked = asked;
       }
@@ -31,8 +31,8 @@ module _ {V : Type 0} where
       → own.seat.last ≡ 0 → IsUnused t own
   split_unused t s own ready right last = record {
     ready = ready;
-    share = ap (λ (w : View V). w.shares) right;
-    none = ap (λ (w : View V). w.receipts) right;
+    share = ap (λ (w : SeatKnowledge V). w.shares) right;
+    none = ap (λ (w : SeatKnowledge V). w.receipts) right;
     last = last;
   }
 
@@ -41,12 +41,12 @@ module _ {V : Type 0} where
       → view u ≡ both_of (view s) (actor own.seat) (view own.seat) → u.last ≡ max s.last own.seat.last
       → requests_of u ≡ requests_of s → HasLeft 1 u s
   joined_unused t s u own unused both last asked =
-      let e : (view u).shares ≡ (view s).shares + (view own.seat).shares = ap (λ (w : View V). w.shares) both in
+      let e : (view u).shares ≡ (view s).shares + (view own.seat).shares = ap (λ (w : SeatKnowledge V). w.shares) both in
       let share = unused.share in
       let zero = unused.last in
       record {
         shares = omega (arith, e, share);
-        receipts = sym (ap (λ (w : View V). w.receipts) both ∙ ap (λ rs. (view s).receipts ++ rs) unused.none ∙ append-nil (view s).receipts);
+        receipts = sym (ap (λ (w : SeatKnowledge V). w.receipts) both ∙ ap (λ rs. (view s).receipts ++ rs) unused.none ∙ append-nil (view s).receipts);
         last = omega (arith, last, zero);
         asked = sym asked;
       }

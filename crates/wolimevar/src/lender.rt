@@ -7,7 +7,7 @@ ghost use Rattle.std.specs.Arc.{arc_value};
 ghost use Rattle.seq_model.specs.declared.refusal.Refusal.TheVariants.{Memory as OutOfMemory, TooLong};
 ghost use Rattle.tx_table.specs.Seated.{view};
 ghost use Rattle.tx_table.specs.declared.view.TheConstants.{SHARES};
-ghost use Rattle.tx_turns.specs.Requested.{requests_of};
+ghost use Rattle.tx_turns.specs.RequestHistory.{requests_of};
 ghost use Rattle.tx_engine.specs.Ready.{IsReady};
 ghost use Rattle.tx_client.specs.Backs.{IsBack, shares_at};
 ghost use Rattle.wolimevar.specs.Homes.{IsHomeOf};

@@ -6,7 +6,7 @@
 ghost use Rattle.std.specs.Prelude.{◌≡◌, ℕ, ◌+◌, ◌<◌, ◌≤◌, ◌++◌, [], All, IfErr, IfOk, OnErr, OnOk, Some, length, map, slice_index_or};
 ghost use Rattle.std.specs.Vec.{vec_capacity};
 ghost use Rattle.tx_table.specs.Seated.{actor, view};
-ghost use Rattle.tx_turns.specs.Requested.{requests_of};
+ghost use Rattle.tx_turns.specs.RequestHistory.{requests_of};
 ghost use Rattle.tx_engine.specs.Ready.{IsReady};
 ghost use Rattle.tx_client.specs.Frames.{AreBy};
 ghost use Rattle.wolimevar.specs.Sessions.{IsFinished, HaveServed, IsServed, IsWhy, IsWaiting, joined, receipts_at};

@@ -2,7 +2,7 @@
 ghost use Rattle.std.specs.Prelude.{◌≡◌, ◌<◌, ◌≤◌, ◌++◌, ◌∷◌, [], IfErr, IfOk, OnErr, OnOk, false, length, max, true};
 ghost use Rattle.seq_model.specs.declared.refusal.Refusal.TheVariants.{Ahead};
 ghost use Rattle.tx_table.specs.declared.view.TheConstants.{SHARES};
-ghost use Rattle.tx_client.specs.Asked.{HasAsked};
+ghost use Rattle.tx_client.specs.RequestKinds.{HasAsked};
 ghost use Rattle.tx_client.specs.Ends.{IsAbortBy};
 ghost use Rattle.wolimevar.specs.Sessions.{HaveServed, IsWhy};
 ghost use Rattle.wolimevar.specs.Stores.{IsLeftBy};

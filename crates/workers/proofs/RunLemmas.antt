@@ -24,12 +24,12 @@ use Rattle.tx_table.specs.declared.table.TxTable.{TxTable}
 use Rattle.tx_table.specs.Ends.{homes_of, row_of}
 use Rattle.tx_table.specs.Seated.{actor, contents_in, opening_of, view}
 use Rattle.tx_table.specs.Shown.{ShowsWorld, total}
-use Rattle.tx_table.specs.declared.view.View.{View}
+use Rattle.tx_table.specs.declared.view.SeatKnowledge.{SeatKnowledge}
 use Rattle.tx_engine.specs.Closing.{IsLeftBy, state_of as held_by}
 use Rattle.tx_engine.specs.Ready.{IsReady}
 use Rattle.tx_engine.specs.declared.seats.TxSeat.{TxSeat}
 use Rattle.vacation_core.specs.Served.{HaveSame, IsWhole, Receipt, records_in}
-use Rattle.vacation_core.proofs.ServedLemmas.{receipts_are_actions}
+use Rattle.vacation_core.proofs.ReceiptLemmas.{receipts_are_actions}
 use Rattle.job_workers.specs.declared.report.Report.{Report}
 use Rattle.job_workers.specs.Reports.{HasRun, IsReportOf}
 use Rattle.tx_engine.specs.Tasks.{Outcome, records_of}
@@ -179,7 +179,7 @@ served_so tables stripes lists jobs t tries s u r report state balanced allowed 
     let o = outcomes_in t tries s u lists report reported in
     let ran = run_of tables lists report (view u.seat).receipts state t tries s u reported balanced allowed
     (subst
-    (λ (v : View Entry). records_of u ≡ map (λ e. e.1) v.receipts ++ flat_map (λ (rs : List (Record Entry)). rs) report.receipts)
+    (λ (v : SeatKnowledge Entry). records_of u ≡ map (λ e. e.1) v.receipts ++ flat_map (λ (rs : List (Record Entry)). rs) report.receipts)
     opened.seat_is run.records)
     (subst (λ (c : Contents Entry). IsWhatRemains c (view u.seat).receipts state) opened.contents (remains t u state closes)) in
     let were : RanAndClosed t tries lists report state =

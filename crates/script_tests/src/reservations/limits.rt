@@ -4,7 +4,7 @@ use super::prints::print_reply;
 use seq_model::{Items, Memory, Refusal, Value};
 use std::alloc::Global;
 use vac_model::{
-    Action, ActionReply, Ask, Booking, Change, Customer, Each, Item, Kind, Part, Tables, Wait,
+    Action, ActionReply, Ask, Booking, Change, Customer, Each, Item, Kind, KindReply, Tables, Wait,
     part_of,
 };
 
@@ -70,7 +70,7 @@ fn add_places(who: &mut Customer, bookings: u64, waits: u64) -> Result<(), Memor
 }
 
 // What the customer is answered who asks for one unit of flight 2, of which so many are free.
-fn part_for(who: &Customer, free: u64) -> Part {
+fn part_for(who: &Customer, free: u64) -> KindReply {
     let item = Item {
         total: 1,
         used: 1,
@@ -90,7 +90,7 @@ pub fn answer_places(text: &mut String, tables: &Tables, numbers: &[u64]) -> Res
     let parts = Each {
         car: part_for(&who, 1),
         flight: part_for(&who, 0),
-        room: Part::Nothing,
+        room: KindReply::Nothing,
     };
     print_reply(text, tables, ActionReply::Reserved(parts))
 }

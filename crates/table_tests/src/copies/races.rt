@@ -44,7 +44,7 @@ const PUTS: [Plan; 4] = [
     },
 ];
 
-/// The copy at this place is refused, of all that so many workers make, up to four, who put a value each; whether one was. One job is
+/// The copy at this position is refused, of all that so many workers make, up to four, who put a value each; whether one was. One job is
 /// missed as `Memory` then, and else none is; the seat commits after it.
 pub fn race<R: Threads + Wait + Sync>(
     rt: &R,

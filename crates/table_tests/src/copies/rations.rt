@@ -9,7 +9,7 @@ use std::sync::Arc;
 use std::sync::atomic::{AtomicBool, AtomicU64, Ordering};
 use tx_engine::Pause;
 
-/// The place of a copy that no run makes.
+/// The position of a copy that no run makes.
 const NEVER: u64 = u64::MAX;
 
 /// Which copy is the refused one, of all that are made from some moment on; and for how many steps a value waits as it is dropped.
@@ -48,7 +48,7 @@ impl Ration {
         })
     }
 
-    /// From now on the copy at this place is refused, counted from 0.
+    /// From now on the copy at this position is refused, counted from 0.
     pub fn refuse(&self, place: u64) {
         self.copies.made.store(0, Ordering::SeqCst);
         self.copies.refused.store(place, Ordering::SeqCst);

@@ -8,7 +8,7 @@ use seq_model::{Record, Refusal};
 use tx_engine::TxSeat;
 use tx_table::TxTable;
 
-/// The transaction is run with the copy at this place refused; whether one was. It is answered as `Memory` then, and else it
+/// The transaction is run with the copy at this position refused; whether one was. It is answered as `Memory` then, and else it
 /// commits; the same seat commits the next one.
 pub fn refuse(
     table: &TxTable<Rationed>,

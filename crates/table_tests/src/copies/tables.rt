@@ -23,9 +23,9 @@ pub type Made = Result<bool, Refusal>;
 /// What is done at a table.
 #[derive(Clone, Copy)]
 pub enum Work {
-    /// The copy at this place is refused, of all that are made at a seat.
+    /// The copy at this position is refused, of all that are made at a seat.
     Refused(u64),
-    /// The copy at this place is refused, of all that so many workers make, two or four.
+    /// The copy at this position is refused, of all that so many workers make, two or four.
     Raced(u64, usize),
     /// A worker's commit is held.
     Held,

@@ -8,7 +8,7 @@ use step_world::World;
 /// No request of the transaction has so many steps.
 const STEPS: u64 = 1_000;
 
-/// Runs the transaction with the copy at this place refused; whether one was. It is answered as `Memory` then, and so is all that
+/// Runs the transaction with the copy at this position refused; whether one was. It is answered as `Memory` then, and so is all that
 /// the world is asked after it; else the transaction commits, and what the world holds is what it leaves. `NotIdle` where it isn't so.
 pub fn is_refused(alloc: Global, place: u64) -> Result<bool, Refusal> {
     let ration = Ration::new(alloc)?;

@@ -34,7 +34,7 @@ pub fn print_receipt<V>(text: &mut String, receipt: &Record<V>) -> Result<(), Me
     Ok(())
 }
 
-/// The place of a collection.
+/// The position of a collection.
 pub fn print_block(text: &mut String, block: Block) -> Result<(), Memory> {
     let Block {
         kind,

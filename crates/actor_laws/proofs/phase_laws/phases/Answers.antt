@@ -1,4 +1,4 @@
-use Rattle.actor_laws.proofs.PhaseLemmas.{asks_move, steps_move}
+use Rattle.actor_laws.proofs.KnownStageLemmas.{asks_move, steps_move}
 use Rattle.actor_laws.proofs.phase_laws.phases.Goals as goal
 
 pub returns-clause-steps : goal.returns-clause-steps

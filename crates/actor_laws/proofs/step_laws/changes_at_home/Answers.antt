@@ -1,4 +1,4 @@
-use Rattle.actor_laws.proofs.Turned.{same_changes, home_same}
+use Rattle.actor_laws.proofs.StepResult.{same_changes, home_same}
 use Rattle.actor_laws.proofs.step_laws.changes_at_home.Goals as goal
 
 pub returns : goal.returns

@@ -1,4 +1,4 @@
-use Rattle.actor_laws.proofs.Turned.{try_turned, put_turned, home_turned}
+use Rattle.actor_laws.proofs.StepResult.{try_turned, put_turned, home_turned}
 use Rattle.actor_laws.proofs.step_laws.gate_becomes.Goals as goal
 
 pub returns : goal.returns

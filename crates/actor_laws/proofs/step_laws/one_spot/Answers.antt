@@ -1,4 +1,4 @@
-use Rattle.actor_laws.proofs.Spots.{one_spot}
+use Rattle.actor_laws.proofs.StepTargets.{one_spot}
 use Rattle.actor_laws.proofs.step_laws.one_spot.Goals as goal
 
 pub returns : goal.returns

@@ -1,4 +1,4 @@
-use Rattle.actor_laws.proofs.Turned.{word_turned}
+use Rattle.actor_laws.proofs.StepResult.{word_turned}
 use Rattle.actor_laws.proofs.step_laws.word_becomes.Goals as goal
 
 pub returns : goal.returns

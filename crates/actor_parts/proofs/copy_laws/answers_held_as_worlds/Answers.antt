@@ -1,4 +1,4 @@
-use Rattle.actor_parts.proofs.KeepsLemmas.{answers_held}
+use Rattle.actor_parts.proofs.CopyInWorldLemmas.{answers_held}
 use Rattle.actor_parts.proofs.copy_laws.answers_held_as_worlds.Goals as goal
 
 pub returns : goal.returns

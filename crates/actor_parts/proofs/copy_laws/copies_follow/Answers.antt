@@ -1,5 +1,5 @@
-use Rattle.actor_parts.proofs.CopiesLemmas.{follows_answered, follows_accepted, follows_learnt, follows_moved, follows_others}
-use Rattle.actor_parts.proofs.CopiesLemmas.{follows_pieces}
+use Rattle.actor_parts.proofs.PrivateCopyLemmas.{follows_answered, follows_accepted, follows_learnt, follows_moved, follows_others}
+use Rattle.actor_parts.proofs.PrivateCopyLemmas.{follows_pieces}
 use Rattle.actor_parts.proofs.copy_laws.copies_follow.Goals as goal
 
 pub returns-clause-answered : goal.returns-clause-answered

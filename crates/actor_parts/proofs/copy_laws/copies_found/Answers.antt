@@ -1,4 +1,4 @@
-use Rattle.actor_parts.proofs.CopyingLemmas.{alike_by_parts, mixed_parts, touched_alike}
+use Rattle.actor_parts.proofs.CopyByPartsLemmas.{alike_by_parts, mixed_parts, touched_alike}
 use Rattle.actor_parts.proofs.copy_laws.copies_found.Goals as goal
 
 pub returns-clause-alike : goal.returns-clause-alike

@@ -1,4 +1,4 @@
-use Rattle.actor_parts.proofs.CopyingLemmas.{puts_back}
+use Rattle.actor_parts.proofs.CopyByPartsLemmas.{puts_back}
 use Rattle.actor_parts.proofs.copy_laws.puts_back_as_worlds.Goals as goal
 
 pub returns : goal.returns

@@ -1,6 +1,6 @@
 use Rattle.std.proofs.Common.{rules, subst, List, ℕ}
 use Rattle.command_line.specs.Ends.{HasBegun, line_of}
-use Rattle.command_line.proofs.ToldLemmas.{line_begun}
+use Rattle.command_line.proofs.OutputLemmas.{line_begun}
 use Rattle.command_line.proofs.tool.fault.Goals as goal
 
 pub returns-then-tell-clause-told : goal.returns-then-tell-clause-told

@@ -1,6 +1,6 @@
 use Rattle.std.proofs.Common.{◌+◌, rules, arith}
 use Rattle.std.proofs.KnownBytes.{Appends-kept}
-use Rattle.command_line.proofs.ToldLemmas.{begun_with, broken_off, written_on}
+use Rattle.command_line.proofs.OutputLemmas.{begun_with, broken_off, written_on}
 use Rattle.command_line.proofs.tool.tell.Goals as goal
 
 pub loop-written-preserved : goal.loop-written-preserved

@@ -1,5 +1,5 @@
 use Rattle.std.proofs.lemmas.Result.{err_from_is_err_and}
-use Rattle.command_line.proofs.ToldLemmas.{memory_is_cause}
+use Rattle.command_line.proofs.OutputLemmas.{memory_is_cause}
 use Rattle.command_line.proofs.work.read_file.Goals as goal
 
 pub returns-in_err-extend_from_slice-clause-refused : goal.returns-in_err-extend_from_slice-clause-refused

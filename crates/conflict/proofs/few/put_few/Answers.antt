@@ -8,14 +8,14 @@ pub returns-then-place-len-clause-contents : goal.returns-then-place-len-clause-
 returns-then-place-len-clause-contents g c =
     let k = c.args.key in
     let es = c.args.few.now.items in
-    let at : c.place_of-place.result ≡ place k es = c.place_of-place.ensures ∙ ap (place k) c.as_slice.ensures.value in
-    let within : c.place_of-place.result < length es = omega (arith, c.if-place-len.true, c.len.ensures, c.args.few.now.ok) in
-    put_at k c.args.value es c.place_of-place.result c.index_mut.result.now at within c.index_mut.ensures.value
+    let at : c.position_of-place.result ≡ place k es = c.position_of-place.ensures ∙ ap (place k) c.as_slice.ensures.value in
+    let within : c.position_of-place.result < length es = omega (arith, c.if-place-len.true, c.len.ensures, c.args.few.now.ok) in
+    put_at k c.args.value es c.position_of-place.result c.index_mut.result.now at within c.index_mut.ensures.value
 
 pub returns-else-place-len-clause-contents : goal.returns-else-place-len-clause-contents
 returns-else-place-len-clause-contents g c =
     let k = c.args.key in
     let es = c.args.few.now.items in
-    let at : c.place_of-place.result ≡ place k es = c.place_of-place.ensures ∙ ap (place k) c.as_slice.ensures.value in
+    let at : c.position_of-place.result ≡ place k es = c.position_of-place.ensures ∙ ap (place k) c.as_slice.ensures.value in
     let past : length es ≤ place k es = omega (arith, c.if-place-len.false, c.len.ensures, c.args.few.now.ok) in
     ap (map.from_entries {R = nat_cmp}) c.push_reserved.ensures.items ∙ insert_last k c.args.value es past

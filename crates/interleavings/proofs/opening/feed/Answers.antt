@@ -1,4 +1,4 @@
-use Rattle.step_world.proofs.FedLemmas.{well_fed}
+use Rattle.step_world.proofs.ReachedLemmas.{well_fed}
 use Rattle.interleavings.proofs.opening.feed.Goals as goal
 
 pub returns : goal.returns

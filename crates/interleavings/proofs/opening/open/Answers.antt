@@ -6,7 +6,7 @@ use Rattle.actor_parts.specs.Openings.{world_of}
 use Rattle.step_world.specs.declared.parts.Parts.{Parts}
 use Rattle.step_world.specs.Parts.{HasWorld, IsWorld}
 use Rattle.step_world.specs.Reached.{IsReached}
-use Rattle.step_world.proofs.FedLemmas.{opened_well}
+use Rattle.step_world.proofs.ReachedLemmas.{opened_well}
 use Rattle.session_text.proofs.ScriptRunLemmas.{refused_as}
 use Rattle.interleavings.proofs.opening.open.Goals as goal
 

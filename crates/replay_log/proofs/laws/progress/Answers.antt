@@ -3,7 +3,7 @@ use Rattle.replay_log.proofs.SizeLemmas.{world_small, world_soon}
 use Rattle.replay_log.proofs.DueLemmas.{step_due}
 use Rattle.replay_log.proofs.EventLemmas.{run_linked, opened_linked}
 use Rattle.replay_log.proofs.StarveLemmas.{starve_no_further}
-use Rattle.replay_log.proofs.AnsweredLemmas.{answer_rests, always_few, answered}
+use Rattle.replay_log.proofs.AnswerBoundLemmas.{answer_rests, always_few, answered}
 use Rattle.replay_log.specs.Worlds.{run, opened}
 use Rattle.replay_log.proofs.laws.progress.Goals as goal
 

@@ -1,6 +1,6 @@
 use Rattle.std.proofs.Common.{◌≡◌, ◌≤◌, false, length, get_or, Some, count_by, sym, subst, arith, rules}
 use Rattle.std.proofs.lemmas.Grind.{common_steps}
-use Rattle.seq_model.specs.Turns.{writes_at}
+use Rattle.seq_model.specs.Ranks.{writes_at}
 use Rattle.seq_model.specs.Audit.{IsLeastDouble}
 use Rattle.seq_model.proofs.AuditLemmas.{least_double}
 use Rattle.seq_model.proofs.ReplayLemmas.{found_turn, past_all}

@@ -1,7 +1,7 @@
 use Rattle.std.proofs.Common.{◌≡◌, take, ap, sym, ◌∙◌, arith}
 use Rattle.std.proofs.lemmas.List.{take_all}
-use Rattle.seq_model.specs.Turns.{turns_from, sort_turns}
-use Rattle.seq_model.proofs.TurnLemmas.{sorted_turns}
+use Rattle.seq_model.specs.Ranks.{ranks_from, sort_ranks}
+use Rattle.seq_model.proofs.RankLemmas.{sorted_turns}
 use Rattle.seq_model.proofs.AuditLemmas.{turns_run_order}
 use Rattle.seq_model.proofs.ReplayLemmas.{turns_step}
 use Rattle.seq_model.proofs.auditing.turns_of.Goals as goal
@@ -17,5 +17,5 @@ returns g c =
     (omega arith) in
     record {
       turns = sorted_turns c.loop-place.turns.items c.sort.new.self.items c.in_ok-sort.ensures.sorted c.sort.ensures.stable
-          ∙ ap sort_turns (c.loop-place.invariant ∙ ap (λ l. turns_from 0 l) all) ∙ sym (turns_run_order 0 c.args.records.now);
+          ∙ ap sort_ranks (c.loop-place.invariant ∙ ap (λ l. ranks_from 0 l) all) ∙ sym (turns_run_order 0 c.args.records.now);
     }

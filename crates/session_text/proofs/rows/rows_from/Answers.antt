@@ -2,7 +2,7 @@ use Rattle.std.proofs.Common.{subst, get_or, take_all, arith, List, ℕ}
 use Rattle.seq_model.specs.declared.event.Event.{Event}
 use Rattle.seq_model.specs.declared.event.Event.TheVariants.{Ask}
 use Rattle.seq_model.specs.declared.event.Request.TheVariants.{Begin}
-use Rattle.step_world.proofs.FedLemmas.{well_fed}
+use Rattle.step_world.proofs.ReachedLemmas.{well_fed}
 use Rattle.session_text.specs.Rows.{AreFed}
 use Rattle.session_text.proofs.RowLemmas.{fed_item, fed_none}
 use Rattle.session_text.proofs.rows.rows_from.Goals as goal

@@ -1,7 +1,7 @@
 use Rattle.std.proofs.Common.{refl, subst}
 use Rattle.std.specs.Prelude.{IfOk, ℕ}
 use Rattle.seq_model.specs.Contents.{Contents}
-use Rattle.step_world.proofs.FedLemmas.{opened_well}
+use Rattle.step_world.proofs.ReachedLemmas.{opened_well}
 use Rattle.actor_parts.specs.Openings.{world_of}
 use Rattle.std.proofs.lemmas.Result.{IfOk-weaker}
 use Rattle.session_text.specs.Rows.{AreRowsOf, first_of}

@@ -1,10 +1,10 @@
 use Rattle.std.proofs.Common.{refl}
-use Rattle.conflict.specs.Places.{none_some}
+use Rattle.std.proofs.lemmas.Option.{none-some}
 use Rattle.shadow.proofs.LengthLemmas.{counted_accepted, counted_added, len_answered}
 use Rattle.shadow.proofs.laws.lengths.Goals as goal
 
 pub returns-clause-map : goal.returns-clause-map
-returns-clause-map g c = λ m. (refl, λ t e. absurd (none_some t e))
+returns-clause-map g c = λ m. (refl, λ t e. absurd (none-some t e))
 
 pub returns-clause-added : goal.returns-clause-added
 returns-clause-added g c = counted_added

@@ -1,7 +1,7 @@
 use Rattle.std.proofs.Common.{refl, subst}
 use Rattle.actor_parts.specs.Openings.{world_of}
 use Rattle.step_world.specs.Feeds.{Feeds, fed_all}
-use Rattle.step_world.proofs.FedLemmas.{fits_as, has_all, has_one, memory_refused}
+use Rattle.step_world.proofs.ReachedLemmas.{fits_as, has_all, has_one, memory_refused}
 use Rattle.step_world.proofs.TraceLemmas.{serial_at}
 use Rattle.step_world.proofs.world.run_world.Goals as goal
 

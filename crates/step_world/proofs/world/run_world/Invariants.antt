@@ -1,6 +1,6 @@
 use Rattle.std.proofs.Common.{take}
 use Rattle.actor_parts.specs.Openings.{world_of}
-use Rattle.step_world.proofs.FedLemmas.{HasFed}
+use Rattle.step_world.proofs.ReachedLemmas.{HasFed}
 use Rattle.step_world.proofs.world.run_world.Given as goal
 
 abbrev pub invariant-loop-event : goal.invariant-loop-event

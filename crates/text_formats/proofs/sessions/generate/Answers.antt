@@ -2,7 +2,7 @@ use Rattle.std.proofs.Common.{arith, ◌≡◌, ◌∙◌, ◌∷◌, [], subst,
 use Rattle.std.specs.Prelude.{All}
 use Rattle.std.proofs.lemmas.List.Elements.{All-append, All-cons, All-nil}
 use Rattle.vac_model.specs.Actions.{IsAllowed}
-use Rattle.text_formats.specs.Drawing.{session_drawn}
+use Rattle.text_formats.specs.DrawnActions.{session_drawn}
 use Rattle.text_formats.proofs.DrawLemmas.{counted, drawn_on}
 use Rattle.text_formats.proofs.sessions.generate.Goals as goal
 

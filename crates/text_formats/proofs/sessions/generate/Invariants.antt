@@ -4,7 +4,7 @@ use Rattle.rand_core.specs.Steps.{stream_of, steps_u32}
 use Rattle.rand_pcg.specs.Pcg.{pcg32}
 use Rattle.vac_model.specs.Actions.{IsAllowed}
 use Rattle.text_formats.specs.Draws.{stream_for, times}
-use Rattle.text_formats.specs.Drawing.{session_drawn}
+use Rattle.text_formats.specs.DrawnActions.{session_drawn}
 use Rattle.text_formats.proofs.sessions.generate.Given as goal
 
 abbrev pub invariant-loop : goal.invariant-loop

@@ -1,5 +1,5 @@
 use Rattle.std.proofs.Common.{arith, ◌≡◌, length}
-use Rattle.text_formats.specs.Drawing.{ask_drawn}
+use Rattle.text_formats.specs.DrawnActions.{ask_drawn}
 use Rattle.text_formats.proofs.DrawLemmas.{counted, drawn_on}
 use Rattle.text_formats.proofs.sessions.reservation.Goals as goal
 

@@ -1,6 +1,6 @@
 use Rattle.rand.specs.Draw.{Gives}
 use Rattle.text_formats.specs.Draws.{times}
-use Rattle.text_formats.specs.Drawing.{ask_drawn}
+use Rattle.text_formats.specs.DrawnActions.{ask_drawn}
 use Rattle.text_formats.proofs.sessions.reservation.Given as goal
 
 abbrev pub invariant-loop : goal.invariant-loop

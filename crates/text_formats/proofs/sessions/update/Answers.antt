@@ -2,7 +2,7 @@ use Rattle.std.proofs.Common.{arith, ◌≡◌, length, ◌∷◌, [], subst, sy
 use Rattle.std.specs.Prelude.{All}
 use Rattle.std.proofs.lemmas.List.Elements.{All-append, All-cons, All-nil}
 use Rattle.vac_model.specs.Actions.{IsAmountWithin}
-use Rattle.text_formats.specs.Drawing.{change_drawn}
+use Rattle.text_formats.specs.DrawnActions.{change_drawn}
 use Rattle.text_formats.proofs.DrawLemmas.{counted, drawn_on}
 use Rattle.text_formats.proofs.sessions.update.Goals as goal
 

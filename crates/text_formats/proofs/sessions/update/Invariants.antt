@@ -2,7 +2,7 @@ use Rattle.std.specs.Prelude.{All}
 use Rattle.rand.specs.Draw.{Gives}
 use Rattle.vac_model.specs.Actions.{IsAmountWithin}
 use Rattle.text_formats.specs.Draws.{times}
-use Rattle.text_formats.specs.Drawing.{change_drawn}
+use Rattle.text_formats.specs.DrawnActions.{change_drawn}
 use Rattle.text_formats.proofs.sessions.update.Given as goal
 
 abbrev pub invariant-loop : goal.invariant-loop

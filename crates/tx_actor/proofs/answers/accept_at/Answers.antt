@@ -1,8 +1,7 @@
 use Rattle.std.proofs.Common.{length, refl, sym, ap, ◌∙◌}
-use Rattle.std.proofs.lemmas.Option.{slice_get_read}
+use Rattle.std.proofs.lemmas.Option.{slice_get_read, same_Some}
 use Rattle.conflict.specs.declared.outcome.Outcome.{Outcome}
 use Rattle.tx_actor.proofs.AnswerLemmas.{accepted_at}
-use Rattle.tx_actor.proofs.PreparesLemmas.{same_outcome}
 use Rattle.tx_actor.proofs.answers.accept_at.Goals as goal
 
 pub accept-requires : goal.accept-requires
@@ -23,4 +22,4 @@ returns-clause-accepted g c =
 pub returns-clause-reply : goal.returns-clause-reply
 returns-clause-reply g c x is =
     c.replace.ensures.value
-    ∙ (c.accept.ensures.reply ∙ ap (λ (q : Outcome g.row.V.Denot). q.reply) (same_outcome c.in-Some.found x (sym c.in-Some.is ∙ is)))
+    ∙ (c.accept.ensures.reply ∙ ap (λ (q : Outcome g.row.V.Denot). q.reply) (same_Some c.in-Some.found x (sym c.in-Some.is ∙ is)))

@@ -1,4 +1,4 @@
-use Rattle.tx_actor.proofs.OwnsLemmas.{of_blocks, owns_accepted, owns_by, owns_nothing}
+use Rattle.tx_actor.proofs.CopyListLemmas.{of_blocks, owns_accepted, owns_by, owns_nothing}
 use Rattle.std.proofs.Common.{Some, refl}
 use Rattle.tx_actor.proofs.laws.copies_stay_own.Goals as goal
 

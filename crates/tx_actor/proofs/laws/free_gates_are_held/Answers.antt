@@ -1,11 +1,11 @@
 use Rattle.std.proofs.Common.{ℕ, true, [], refl}
 use Rattle.replay_log.specs.Worlds as worlds
 use Rattle.tx_actor.specs.Running.{asked_of, at, seat_of, stage_of}
-use Rattle.tx_actor.specs.declared.actor.Told.TheVariants as told
+use Rattle.tx_actor.specs.declared.actor.ActorNotice.TheVariants as told
 use Rattle.tx_actor.specs.declared.actor.Stage.TheVariants as stage
 use Rattle.tx_actor.proofs.DispatchLemmas.{by_result, tried_at}
 use Rattle.tx_actor.proofs.RunsLemmas.{tried_free}
-use Rattle.tx_actor.proofs.KeepingLemmas.{keeps_room}
+use Rattle.tx_actor.proofs.ActorBoundsLemmas.{keeps_room}
 use Rattle.tx_actor.proofs.laws.free_gates_are_held.Goals as goal
 
 pub returns : goal.returns

@@ -1,5 +1,5 @@
-use Rattle.tx_actor.proofs.HearLemmas.{keeps_call, may_hear}
-use Rattle.actor_parts.proofs.LoadingLemmas.{loads_reached}
+use Rattle.tx_actor.proofs.LoadInWorldLemmas.{keeps_call, may_hear}
+use Rattle.actor_parts.proofs.LoadInWorldLemmas.{loads_reached}
 use Rattle.tx_actor.proofs.laws.loads_as_worlds.Goals as goal
 
 pub returns-clause-reached : goal.returns-clause-reached

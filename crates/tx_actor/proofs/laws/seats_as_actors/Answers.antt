@@ -1,4 +1,4 @@
-use Rattle.tx_actor.proofs.SeatedLemmas.{seats_actors}
+use Rattle.tx_actor.proofs.SeatByStageLemmas.{seats_actors}
 use Rattle.tx_actor.proofs.laws.seats_as_actors.Goals as goal
 
 pub returns : goal.returns

@@ -1,15 +1,14 @@
 use Rattle.std.proofs.Common.{Some, length, refl, sym, ap, subst, ◌∙◌}
-use Rattle.std.proofs.lemmas.Option.{slice_get_read}
+use Rattle.std.proofs.lemmas.Option.{slice_get_read, same_Some}
 use Rattle.std.proofs.Math.ListN.{set}
-use Rattle.actor_parts.specs.declared.copies.CopyOf.{CopyOf}
-use Rattle.actor_parts.specs.Copies.{holds_call}
+use Rattle.actor_parts.specs.declared.copies.CopyOfCollection.{CopyOfCollection}
+use Rattle.actor_parts.specs.PrivateCopy.{holds_call}
 use Rattle.actor_parts.proofs.AlikeLemmas.{kept_set}
 use Rattle.actor_parts.proofs.OutcomeLemmas.{answered_op}
-use Rattle.actor_parts.proofs.TakingLemmas.{some_copy}
 use Rattle.tx_actor.specs.Answers.{IsAcceptedAt}
 use Rattle.tx_actor.specs.Straight.{put_outcome}
 use Rattle.tx_actor.proofs.AnswerLemmas.{accepted_at}
-use Rattle.tx_actor.proofs.AskedLemmas.{on_err}
+use Rattle.tx_actor.proofs.ShadowAfterRequestLemmas.{on_err}
 use Rattle.tx_actor.proofs.straight.put_in.Goals as goal
 
 pub put_on_key-requires : goal.put_on_key-requires
@@ -27,8 +26,8 @@ returns-clause-accepted g c d there =
     let at = slice_get_read cs (length cs) c.args.place here refl c.requires.place c.index_mut.ensures.value in
     let can = c.requires.can here at in
     let o = put_outcome here.copied c.args.op.now in
-    let same = some_copy here d (sym at ∙ there) in
-    subst (λ (z : CopyOf g.row.V.Denot). IsAcceptedAt c.args.place (Some (put_outcome z.copied c.args.op.now)) cs
+    let same = same_Some here d (sym at ∙ there) in
+    subst (λ (z : CopyOfCollection g.row.V.Denot). IsAcceptedAt c.args.place (Some (put_outcome z.copied c.args.op.now)) cs
     (set cs c.args.place (record { collection = here.collection; copied = c.put_on_key.new.copied }))) same
     (accepted_at c.args.place (Some o) o cs here c.put_on_key.new.copied refl c.requires.place c.index_mut.ensures.value
     c.in_ok-replies.ensures.accepted (ap (holds_call here.copied) (answered_op here.copied c.args.op.now o can.answer) ∙ can.held))
@@ -38,8 +37,8 @@ returns-clause-replies g c d there =
     let cs = c.args.copies.now.items in
     let here = c.index_mut.result.now in
     let at = slice_get_read cs (length cs) c.args.place here refl c.requires.place c.index_mut.ensures.value in
-    let same = some_copy here d (sym at ∙ there) in
-    let reply = ap (λ (z : CopyOf g.row.V.Denot). (put_outcome z.copied c.args.op.now).reply) same in
+    let same = same_Some here d (sym at ∙ there) in
+    let reply = ap (λ (z : CopyOfCollection g.row.V.Denot). (put_outcome z.copied c.args.op.now).reply) same in
     (c.in_ok-replies.ensures.replies.0 ∙ reply, c.in_ok-replies.ensures.replies.1 ∙ reply)
 
 pub returns-in_err-replies-clause-err : goal.returns-in_err-replies-clause-err

@@ -2,14 +2,14 @@ use Rattle.std.proofs.Common.{◌≡◌, Ok, Err, true, false, subst}
 use Rattle.std.specs.Prelude.{IfOk}
 use Rattle.tx_table.specs.Seated.{opening_of}
 use Rattle.tx_turns.specs.Driven.{is_declared}
-use Rattle.tx_turns.specs.Requested.{requests_of}
+use Rattle.tx_turns.specs.RequestHistory.{requests_of}
 use Rattle.tx_engine.specs.declared.seats.TxSeat.{TxSeat}
 use Rattle.tx_engine.specs.Requests.{HasAskedToBegin, KeepsReceipts}
 use Rattle.tx_engine.proofs.RequestLemmas.{then_keeps}
-use Rattle.tx_client.specs.Asked.{HasAsked}
+use Rattle.tx_client.specs.RequestKinds.{HasAsked}
 use Rattle.tx_client.specs.Ends.{EndsAs}
 use Rattle.tx_client.specs.Frames.{calls_made}
-use Rattle.tx_client.proofs.AskedLemmas.{asks_to_begin, then_asks}
+use Rattle.tx_client.proofs.RequestKindLemmas.{asks_to_begin, then_asks}
 use Rattle.tx_client.proofs.EndLemmas.{attempted, ok_then, refused}
 use Rattle.tx_client.proofs.attempts.attempt.Goals as goal
 

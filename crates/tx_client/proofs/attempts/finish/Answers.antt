@@ -1,7 +1,7 @@
 use Rattle.std.proofs.Common.{refl, sym}
 use Rattle.tx_table.specs.Seated.{opening_of}
 use Rattle.tx_client.specs.Frames.{calls_made}
-use Rattle.tx_client.proofs.AskedLemmas.{abort_asks, finish_asks}
+use Rattle.tx_client.proofs.RequestKindLemmas.{abort_asks, finish_asks}
 use Rattle.tx_client.proofs.EndLemmas.{committed, aborted, refused}
 use Rattle.tx_client.proofs.attempts.finish.Goals as goal
 

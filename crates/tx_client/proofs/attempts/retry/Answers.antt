@@ -5,7 +5,7 @@ use Rattle.seq_model.specs.Refusals.{IsConflict}
 use Rattle.seq_model.specs.declared.failure.Failure.{Failure}
 use Rattle.seq_model.specs.declared.failure.Failure.TheVariants.{Refused}
 use Rattle.tx_client.specs.Ends.{HasGainedNone}
-use Rattle.tx_client.proofs.AskedLemmas.{then_asks}
+use Rattle.tx_client.proofs.RequestKindLemmas.{then_asks}
 use Rattle.tx_client.proofs.EndLemmas.{gained_none, then_ends}
 use Rattle.tx_client.proofs.TallyLemmas.{first_end, next_end}
 use Rattle.tx_client.proofs.attempts.retry.Goals as goal

@@ -1,8 +1,8 @@
 use Rattle.std.proofs.Common.{◌≡◌, ◌≤◌}
 use Rattle.std.specs.Prelude.{IfOk, false, max, true}
-use Rattle.tx_turns.specs.Requested.{requests_of}
+use Rattle.tx_turns.specs.RequestHistory.{requests_of}
 use Rattle.tx_engine.specs.Ready.{IsReady}
-use Rattle.tx_client.specs.Asked.{HasAsked}
+use Rattle.tx_client.specs.RequestKinds.{HasAsked}
 use Rattle.tx_client.specs.Ends.{EndsAs}
 use Rattle.tx_client.proofs.TallyLemmas.{AreSoFar}
 use Rattle.tx_client.proofs.attempts.retry.Given as goal

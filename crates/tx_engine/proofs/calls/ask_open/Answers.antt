@@ -2,7 +2,7 @@ use Rattle.std.proofs.Common.{◌≡◌, true, [], ◌∷◌, ◌++◌, None, su
 use Rattle.seq_model.specs.declared.event.Request.TheVariants.{Abort}
 use Rattle.tx_table.specs.Seated.{opening_of}
 use Rattle.tx_turns.specs.Driven.{is_declared}
-use Rattle.tx_turns.specs.Requested.{requests_of}
+use Rattle.tx_turns.specs.RequestHistory.{requests_of}
 use Rattle.tx_engine.specs.Requests.{HasAborted, IsLastAborted}
 use Rattle.tx_engine.proofs.calls.ask_open.Goals as goal
 

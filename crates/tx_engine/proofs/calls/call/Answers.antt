@@ -2,16 +2,16 @@ use Rattle.std.proofs.Common.{◌∙◌, ◌≢◌, refl, subst, sym, rules}
 use Rattle.std.specs.Prelude.{Err}
 use Rattle.seq_model.specs.declared.event.Request.TheVariants as request
 use Rattle.seq_model.specs.declared.refusal.Refusal.{Refusal}
-use Rattle.tx_actor.specs.declared.actor.Told.{Told}
-use Rattle.tx_actor.specs.declared.actor.Told.TheVariants as told
+use Rattle.tx_actor.specs.declared.actor.ActorNotice.{ActorNotice}
+use Rattle.tx_actor.specs.declared.actor.ActorNotice.TheVariants as told
 use Rattle.tx_table.specs.Seated.{opening_of}
 use Rattle.tx_engine.proofs.AskLemmas.{aborted_for, asked_for}
 use Rattle.tx_engine.proofs.RequestLemmas.{asks_one, begins_none}
 use Rattle.tx_engine.proofs.CallLemmas.{at_once, call_starved, call_told, calls_on, driven_calls}
 use Rattle.tx_engine.specs.Requests.{CallsTo}
-use Rattle.tx_turns.proofs.RequestedLemmas.{same_begins}
+use Rattle.tx_turns.proofs.RequestHistoryLemmas.{same_begins}
 use Rattle.tx_turns.proofs.RestLemmas.{bare_out}
-use Rattle.tx_turns.specs.Asked.{Answers}
+use Rattle.tx_turns.specs.RequestStep.{Answers}
 use Rattle.tx_engine.proofs.calls.call.Goals as goal
 
 pub driven_call-requires-clause-calls : goal.driven_call-requires-clause-calls
@@ -21,7 +21,7 @@ driven_call-requires-clause-calls g c = (
     c.args.call,
     calls_on c.args.table.now c.args.seat.now c.ask_open.new.seat c.args.call c.requires.open
         c.in-Ok-Quiet.ensures.asked c.args.actor.now c.requires.drives.ties c.requires.open.0 c.requires.open.1
-        (subst (λ (n : Told _). Answers (opening_of c.args.table.now) c.args.seat.now
+        (subst (λ (n : ActorNotice _). Answers (opening_of c.args.table.now) c.args.seat.now
         (request.Call c.args.call) n) c.in-Ok-Quiet.field-0-is c.in-Ok-Quiet.ensures.answers),
   ),
 )
@@ -36,7 +36,7 @@ pub returns-in-Ok-Quiet-clause-calls : goal.returns-in-Ok-Quiet-clause-calls
 returns-in-Ok-Quiet-clause-calls g c =
     driven_calls c.args.table.now c.args.seat.now c.ask_open.new.seat c.args.call c.requires.open
     c.in-Ok-Quiet.ensures.asked c.args.actor.now c.driven_call.new.seat c.driven_call.result c.requires.drives.ties
-    (subst (λ (n : Told _). Answers (opening_of c.args.table.now) c.args.seat.now
+    (subst (λ (n : ActorNotice _). Answers (opening_of c.args.table.now) c.args.seat.now
     (request.Call c.args.call) n) c.in-Ok-Quiet.field-0-is c.in-Ok-Quiet.ensures.answers)
     (bare_out c.args.table.now c.driven_call.new.seat c.driven_call.new.actor c.driven_call.ensures.drives.own
     ∙ sym (bare_out c.args.table.now c.ask_open.new.seat c.ask_open.new.actor c.ask_open.ensures.drives.own))

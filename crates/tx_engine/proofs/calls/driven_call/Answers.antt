@@ -1,5 +1,5 @@
 use Rattle.std.proofs.Common.{subst}
-use Rattle.tx_actor.specs.declared.actor.Told.{Told}
+use Rattle.tx_actor.specs.declared.actor.ActorNotice.{ActorNotice}
 use Rattle.tx_table.specs.Seated.{opening_of}
 use Rattle.tx_engine.proofs.CallLemmas.{call_said, under_call}
 use Rattle.tx_turns.specs.Driven.{Driven, seat_in}
@@ -18,6 +18,6 @@ reply_told-requires g c =
 pub returns-clause-driven : goal.returns-clause-driven
 returns-clause-driven g c = (
   c.drive_call-told.result.1,
-  subst (λ (n : Told _). Driven (opening_of c.args.table.now) c.args.seat.now c.drive_call-told.new.seat n c.drive_call-told.result.1)
+  subst (λ (n : ActorNotice _). Driven (opening_of c.args.table.now) c.args.seat.now c.drive_call-told.new.seat n c.drive_call-told.result.1)
       c.reply_told.ensures c.drive_call-told.ensures.driven,
 )

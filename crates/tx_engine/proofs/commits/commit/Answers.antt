@@ -5,7 +5,7 @@ use Rattle.tx_table.specs.Seated.{opening_of}
 use Rattle.tx_engine.proofs.AskLemmas.{aborted_for, asked_for}
 use Rattle.tx_engine.proofs.RequestLemmas.{asks_one, begins_none}
 use Rattle.tx_engine.proofs.CommitLemmas.{commit_asked, commit_told, commits_to, starved_commit, under_commits}
-use Rattle.tx_turns.proofs.RequestedLemmas.{same_begins}
+use Rattle.tx_turns.proofs.RequestHistoryLemmas.{same_begins}
 use Rattle.tx_turns.proofs.RestLemmas.{bare_out}
 use Rattle.tx_turns.specs.Driven.{seat_in}
 use Rattle.tx_engine.proofs.commits.commit.Goals as goal

@@ -4,7 +4,7 @@ use Rattle.replay_log.specs.WorldTries.{InVain, tried_at}
 use Rattle.replay_log.specs.Worlds.{gate_tries, run}
 use Rattle.tx_table.specs.Seated.{opening_of}
 use Rattle.tx_engine.proofs.SeatLemmas.{is_calm}
-use Rattle.tx_engine.proofs.TriedLemmas.{tried_in_vain}
+use Rattle.tx_engine.proofs.BusyGateLemmas.{tried_in_vain}
 use Rattle.tx_engine.proofs.laws.busy_gates_were_tried_64_times.Goals as goal
 
 pub returns : goal.returns

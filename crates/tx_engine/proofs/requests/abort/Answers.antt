@@ -2,7 +2,7 @@ use Rattle.std.proofs.Common.{◌∙◌, refl, sym}
 use Rattle.seq_model.specs.declared.event.Request.TheVariants.{Abort}
 use Rattle.tx_table.specs.Seated.{opening_of}
 use Rattle.tx_turns.proofs.GivenUpLemmas.{under_ends}
-use Rattle.tx_turns.proofs.RequestedLemmas.{same_begins}
+use Rattle.tx_turns.proofs.RequestHistoryLemmas.{same_begins}
 use Rattle.tx_turns.proofs.RestLemmas.{bare_out}
 use Rattle.tx_turns.specs.Driven.{seat_in}
 use Rattle.tx_engine.proofs.RequestLemmas.{abort_ends, abort_noted, abort_own, abort_told, asked_keeps, asked_reader, asks_one, begins_none}

@@ -1,6 +1,6 @@
 use Rattle.std.proofs.Common.{◌∙◌, sym}
 use Rattle.tx_table.specs.Seated.{opening_of}
-use Rattle.tx_turns.proofs.RequestedLemmas.{same_begins}
+use Rattle.tx_turns.proofs.RequestHistoryLemmas.{same_begins}
 use Rattle.tx_turns.proofs.RestLemmas.{bare_out}
 use Rattle.tx_turns.specs.Driven.{is_declared, seat_in}
 use Rattle.tx_engine.proofs.RequestLemmas.{begin_told, begins, begins_to, begun_by, under_begins}

@@ -1,4 +1,4 @@
-use Rattle.tx_machine.proofs.Answered.{step_other}
+use Rattle.tx_machine.proofs.AnswerBound.{step_other}
 use Rattle.tx_machine.proofs.Cells.{step_cell, step_becomes, step_learns, ask_cell}
 use Rattle.tx_machine.proofs.laws.one_word.Goals as goal
 

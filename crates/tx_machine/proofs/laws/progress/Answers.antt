@@ -1,7 +1,7 @@
 use Rattle.tx_machine.specs.World.{run, start}
 use Rattle.tx_machine.proofs.Schedules.{reached}
 use Rattle.tx_machine.proofs.Progress.{progress}
-use Rattle.tx_machine.proofs.Answered.{answered}
+use Rattle.tx_machine.proofs.AnswerBound.{answered}
 use Rattle.tx_machine.proofs.Due.{leaves_due}
 use Rattle.tx_machine.proofs.Short.{few}
 use Rattle.tx_machine.proofs.laws.progress.Goals as goal

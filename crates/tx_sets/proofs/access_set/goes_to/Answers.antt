@@ -1,6 +1,6 @@
 use Rattle.std.proofs.Common.{ℕ, ◌<◌, ◌-◌, length, ap, arith, get_or}
 use Rattle.std.proofs.lemmas.List.{get_or_default}
-use Rattle.tx_sets.proofs.PlaceLemmas.{between}
+use Rattle.tx_sets.proofs.PositionLemmas.{between}
 use Rattle.tx_sets.proofs.access_set.goes_to.Goals as goal
 use Rattle.tx_sets.proofs.access_set.goes_to.Goals.{else-at-gt0-via-then-at-gt0+else-entries-at}
 use Rattle.tx_sets.proofs.access_set.goes_to.Goals.{else-at-gt0-via-else-at-gt0}

@@ -2,7 +2,7 @@ use Rattle.replay_log.specs.Worlds.{ask_idle}
 use Rattle.seq_model.specs.declared.event.Request.TheVariants.{Begin}
 use Rattle.tx_actor.specs.Running.{seat_of}
 use Rattle.tx_actor.specs.declared.actor.Stage.TheVariants.{Idle}
-use Rattle.tx_turns.proofs.AskedLemmas.{anywhere, asked, at_its_stage}
+use Rattle.tx_turns.proofs.LoneRequestLemmas.{anywhere, asked, at_its_stage}
 use Rattle.tx_turns.specs.Ties.{laid_in}
 use Rattle.tx_turns.proofs.asks.ask_begin.Goals as goal
 
@@ -10,9 +10,9 @@ pub returns-clause-ties : goal.returns-clause-ties
 returns-clause-ties g c =
     let t = c.args.table.now in
     let r = c.args.actor.now in
-    (asked t c.args.seat.now c.ask.new.self r c.begins.new.self c.begins.result Begin
+    (asked t c.args.seat.now c.ask.new.self r c.start.new.self c.start.result Begin
     (λ a w. ask_idle w a (seat_of r) Begin) c.requires.ties
-    (c.ask.ensures.same.0, c.ask.ensures.same.1, c.ask.ensures.asked) ((c.begins.ensures.keeps (laid_in t)).running c.requires.ties.running)
+    (c.ask.ensures.same.0, c.ask.ensures.same.1, c.ask.ensures.asked) ((c.start.ensures.keeps (laid_in t)).running c.requires.ties.running)
     (at_its_stage r Idle Begin c.requires.idle)
-    (anywhere (laid_in t) r c.begins.new.self c.begins.result (λ a w. ask_idle w a (seat_of r) Begin)
-    (λ a w runs. c.begins.ensures.does a w runs.1))).0
+    (anywhere (laid_in t) r c.start.new.self c.start.result (λ a w. ask_idle w a (seat_of r) Begin)
+    (λ a w runs. c.start.ensures.does a w runs.1))).0

@@ -8,10 +8,10 @@ returns-in_err-gates_on-clause-wants g c =
     let o = opening_of c.args.table.now in
     let s = c.args.seat.now in
     let d = c.args.made.now in
-    let locked = joins o s s c.locked_on.new.seat c.locked_on.result true c.locked_on.new.said d d d c.if-not-locked_on.false
-    (stands o s d) (c.locked_on.ensures.leads d) in
-    let checked = joins o s c.locked_on.new.seat c.checked_on.new.seat c.checked_on.result true c.checked_on.new.said d d d
-    c.if-not-checked_on.false locked (c.checked_on.ensures.leads d) in
+    let locked = joins o s s c.lock_left.new.seat c.lock_left.result true c.lock_left.new.said d d d c.if-not-lock_left.false
+    (stands o s d) (c.lock_left.ensures.leads d) in
+    let checked = joins o s c.lock_left.new.seat c.check_left.new.seat c.check_left.result true c.check_left.new.said d d d
+    c.if-not-check_left.false locked (c.check_left.ensures.leads d) in
     failed c.from_residual.result (λ f was. c.in_err-gates_on.ensures.wants d f (checked f was))
 
 pub returns-in_err-first_stored_on-clause-wants : goal.returns-in_err-first_stored_on-clause-wants
@@ -19,11 +19,11 @@ returns-in_err-first_stored_on-clause-wants g c =
     let o = opening_of c.args.table.now in
     let s = c.args.seat.now in
     let d = c.args.made.now in
-    let locked = joins o s s c.locked_on.new.seat c.locked_on.result true c.locked_on.new.said d d d c.if-not-locked_on.false
-    (stands o s d) (c.locked_on.ensures.leads d) in
-    let checked = joins o s c.locked_on.new.seat c.checked_on.new.seat c.checked_on.result true c.checked_on.new.said d d d
-    c.if-not-checked_on.false locked (c.checked_on.ensures.leads d) in
-    let gated = joins o s c.checked_on.new.seat c.gates_on.new.seat c.in_ok-gates_on.field-0 true c.gates_on.new.said d d d
+    let locked = joins o s s c.lock_left.new.seat c.lock_left.result true c.lock_left.new.said d d d c.if-not-lock_left.false
+    (stands o s d) (c.lock_left.ensures.leads d) in
+    let checked = joins o s c.lock_left.new.seat c.check_left.new.seat c.check_left.result true c.check_left.new.said d d d
+    c.if-not-check_left.false locked (c.check_left.ensures.leads d) in
+    let gated = joins o s c.check_left.new.seat c.gates_on.new.seat c.in_ok-gates_on.field-0 true c.gates_on.new.said d d d
     c.if-not-branch.false checked (c.in_ok-gates_on.ensures.leads d) in
     failed c.from_residual-in_err-first_stored_on.result (λ f was. c.in_err-first_stored_on.ensures.wants f (gated f was))
 
@@ -33,16 +33,16 @@ returns-clause-leads g c =
     let s = c.args.seat.now in
     let d = c.args.made.now in
     let e = c.first_stored_on.new.made in
-    let locked = joins o s s c.locked_on.new.seat c.locked_on.result true c.locked_on.new.said d d d c.if-not-locked_on.false
-    (stands o s d) (c.locked_on.ensures.leads d) in
-    let checked = joins o s c.locked_on.new.seat c.checked_on.new.seat c.checked_on.result true c.checked_on.new.said d d d
-    c.if-not-checked_on.false locked (c.checked_on.ensures.leads d) in
-    let gated = joins o s c.checked_on.new.seat c.gates_on.new.seat c.in_ok-gates_on.field-0 true c.gates_on.new.said d d d
+    let locked = joins o s s c.lock_left.new.seat c.lock_left.result true c.lock_left.new.said d d d c.if-not-lock_left.false
+    (stands o s d) (c.lock_left.ensures.leads d) in
+    let checked = joins o s c.lock_left.new.seat c.check_left.new.seat c.check_left.result true c.check_left.new.said d d d
+    c.if-not-check_left.false locked (c.check_left.ensures.leads d) in
+    let gated = joins o s c.check_left.new.seat c.gates_on.new.seat c.in_ok-gates_on.field-0 true c.gates_on.new.said d d d
     c.if-not-branch.false checked (c.in_ok-gates_on.ensures.leads d) in
     let first = joins o s c.gates_on.new.seat c.first_stored_on.new.seat c.in_ok-first_stored_on.field-0 true
     c.first_stored_on.new.said d d e c.if-not-branch-2.false gated c.in_ok-first_stored_on.ensures.leads in
-    let stored = joins o s c.first_stored_on.new.seat c.stored_on.new.seat c.stored_on.result true c.stored_on.new.said d e e
-    c.if-not-stored_on.false first (c.stored_on.ensures.leads e) in
-    let home = joins o s c.stored_on.new.seat c.homes_on.new.seat c.homes_on.result true c.homes_on.new.said d e e
+    let stored = joins o s c.first_stored_on.new.seat c.store_left.new.seat c.store_left.result true c.store_left.new.said d e e
+    c.if-not-store_left.false first (c.store_left.ensures.leads e) in
+    let home = joins o s c.store_left.new.seat c.homes_on.new.seat c.homes_on.result true c.homes_on.new.said d e e
     c.if-not-homes_on.false stored (c.homes_on.ensures.leads e) in
-    λ f was. c.released_on.ensures.leads e f (home f was)
+    λ f was. c.release_left.ensures.leads e f (home f was)

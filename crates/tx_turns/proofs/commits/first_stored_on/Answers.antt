@@ -1,7 +1,7 @@
 use Rattle.std.proofs.Common.{Option, subst, sym}
 use Rattle.seq_model.specs.declared.record.Record.{Record}
 use Rattle.actor_parts.specs.declared.next.Next.{Next}
-use Rattle.tx_actor.specs.declared.actor.Told.{Told}
+use Rattle.tx_actor.specs.declared.actor.ActorNotice.{ActorNotice}
 use Rattle.tx_table.specs.Seated.{opening_of}
 use Rattle.tx_turns.specs.Driven.{Driven, WantsMemory}
 use Rattle.tx_turns.proofs.DrivenLemmas.{driven_on}
@@ -10,7 +10,7 @@ use Rattle.tx_turns.proofs.commits.first_stored_on.Goals as goal
 
 pub returns-in-Ok-clause-leads : goal.returns-in-Ok-clause-leads
 returns-in-Ok-clause-leads g c = λ s h.
-    subst (λ (z : Told _ × Option (Record _)). Driven (opening_of c.args.table.now) s c.store_next.new.seat z.0 z.1)
+    subst (λ (z : ActorNotice _ × Option (Record _)). Driven (opening_of c.args.table.now) s c.store_next.new.seat z.0 z.1)
     (λ i. (c.report.ensures.told i, sym c.keep.ensures i))
     (driven_on c.args.table.now s c.args.seat.now c.store_next.new.seat c.args.actor.now c.in-Ok.told c.args.made.now c.requires.ties h
     c.in-Ok.ensures.turned c.in-Ok.receipt c.in-Ok.ensures.receipt)

@@ -1,5 +1,5 @@
 use Rattle.replay_log.specs.WorldProgress.{left_of}
-use Rattle.tx_actor.specs.declared.actor.Told.TheVariants as told
+use Rattle.tx_actor.specs.declared.actor.ActorNotice.TheVariants as told
 use Rattle.tx_table.specs.Seated.{actor, acts, opening_of}
 use Rattle.tx_turns.specs.Straight.{LeadsAll}
 use Rattle.tx_turns.specs.Ties.{Ties}

@@ -1,8 +1,8 @@
 use Rattle.std.proofs.Common.{Bool, List, None, Option, ap, sym, subst, ◌∙◌}
 use Rattle.replay_log.specs.declared.base.Base.{Base}
 use Rattle.seq_model.specs.declared.record.Record.{Record}
-use Rattle.tx_actor.specs.declared.actor.Told.{Told}
-use Rattle.tx_actor.specs.declared.actor.Told.TheVariants as told
+use Rattle.tx_actor.specs.declared.actor.ActorNotice.{ActorNotice}
+use Rattle.tx_actor.specs.declared.actor.ActorNotice.TheVariants as told
 use Rattle.tx_table.specs.Seated.{opening_of}
 use Rattle.tx_turns.specs.Own.{HasOwn}
 use Rattle.tx_turns.proofs.DrivenLemmas.{driven_on}
@@ -29,14 +29,14 @@ turns-preserved-else-not-steps_on g c =
       c.steps_on.ensures.ties,
       subst (λ (bs : List (Base _)). HasOwn c.args.table.now c.steps_on.new.seat c.steps_on.new.actor bs) c.as_slice.ensures.value
           c.steps_on.ensures.own,
-      λ s h. subst (λ (k : Told _). Driven o s c.steps_on.new.seat k c.turns.kept)
+      λ s h. subst (λ (k : ActorNotice _). Driven o s c.steps_on.new.seat k c.turns.kept)
           (ap (λ (b : Bool). told_in b c.steps_on.new.said) c.if-not-steps_on.false)
           (c.steps_on.ensures.leads.driven s c.turns.kept (c.turns.invariant.2 s h)),
     )
 
 pub returns-then-not-steps_on-clause-leads : goal.returns-then-not-steps_on-clause-leads
 returns-then-not-steps_on-clause-leads g c = λ s h.
-    subst (λ (k : Told _). Driven (opening_of c.args.table.now) s c.steps_on.new.seat k c.turns.kept)
+    subst (λ (k : ActorNotice _). Driven (opening_of c.args.table.now) s c.steps_on.new.seat k c.turns.kept)
     (ap (λ (b : Bool). told_in b c.steps_on.new.said) c.if-not-steps_on.true)
     (c.steps_on.ensures.leads.driven s c.turns.kept (c.turns.invariant.2 s h))
 
@@ -54,7 +54,7 @@ pub turns-preserved-else-not-quiet : goal.turns-preserved-else-not-quiet
 turns-preserved-else-not-quiet g c = (
   c.turn_on_gate.ensures.ties,
   c.turn_on_gate.ensures.own,
-  λ s h. subst (λ (k : Told _). Driven (opening_of c.args.table.now) s c.turn_on_gate.new.seat k c.turns.kept)
+  λ s h. subst (λ (k : ActorNotice _). Driven (opening_of c.args.table.now) s c.turn_on_gate.new.seat k c.turns.kept)
       (ap (λ (b : Bool). told_in b c.turn_on_gate.new.said) c.if-not-quiet.false)
       (driven_on c.args.table.now s c.turns.seat c.turn_on_gate.new.seat c.turns.actor
       (told_in c.in-Ok.quiet c.turn_on_gate.new.said) c.turns.kept
@@ -63,7 +63,7 @@ turns-preserved-else-not-quiet g c = (
 
 pub returns-then-not-quiet-clause-leads : goal.returns-then-not-quiet-clause-leads
 returns-then-not-quiet-clause-leads g c = λ s h.
-    subst (λ (k : Told _). Driven (opening_of c.args.table.now) s c.turn_on_gate.new.seat k c.turns.kept)
+    subst (λ (k : ActorNotice _). Driven (opening_of c.args.table.now) s c.turn_on_gate.new.seat k c.turns.kept)
     (ap (λ (b : Bool). told_in b c.turn_on_gate.new.said) c.if-not-quiet.true)
     (driven_on c.args.table.now s c.turns.seat c.turn_on_gate.new.seat c.turns.actor
     (told_in c.in-Ok.quiet c.turn_on_gate.new.said) c.turns.kept
@@ -95,7 +95,7 @@ turns-preserved g c =
     let made = c.in-Ok-turn_apart.ensures.receipt in (
       c.turn_apart.ensures.ties,
       c.turn_apart.ensures.own,
-      λ s h. subst (λ (k : Told _ × Option (Record _)). Driven o s c.turn_apart.new.seat k.0 k.1)
+      λ s h. subst (λ (k : ActorNotice _ × Option (Record _)). Driven o s c.turn_apart.new.seat k.0 k.1)
           (λ i. (quiet i, sym made.2 i))
           (driven_on c.args.table.now s c.turns.seat c.turn_apart.new.seat c.turns.actor
           (told_in c.in-Ok-turn_apart.silent c.turn_apart.new.said) c.turns.kept
@@ -106,7 +106,7 @@ pub returns-then-not-silent-clause-leads : goal.returns-then-not-silent-clause-l
 returns-then-not-silent-clause-leads g c = λ s h.
     let said = ap (λ (b : Bool). told_in b c.turn_apart.new.said) c.if-not-silent.true in
     let made = c.in-Ok-turn_apart.ensures.receipt in
-    subst (λ (k : Told _ × Option (Record _)). Driven (opening_of c.args.table.now) s c.turn_apart.new.seat k.0 k.1)
+    subst (λ (k : ActorNotice _ × Option (Record _)). Driven (opening_of c.args.table.now) s c.turn_apart.new.seat k.0 k.1)
     (λ i. (said i, sym made.2 i))
     (driven_on c.args.table.now s c.turns.seat c.turn_apart.new.seat c.turns.actor
     (told_in c.in-Ok-turn_apart.silent c.turn_apart.new.said) c.turns.kept

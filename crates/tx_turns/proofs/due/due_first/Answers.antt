@@ -1,5 +1,5 @@
 use Rattle.std.proofs.Common.{◌∙◌, arith}
-use Rattle.tx_turns.proofs.DueLemmas.{at_place, first_is}
+use Rattle.tx_turns.proofs.NextStepLemmas.{at_place, first_is}
 use Rattle.tx_turns.proofs.due.due_first.Goals as goal
 
 pub returns-clause-deed : goal.returns-clause-deed

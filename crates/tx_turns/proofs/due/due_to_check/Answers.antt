@@ -1,5 +1,5 @@
 use Rattle.std.proofs.Common.{◌∙◌, arith}
-use Rattle.tx_turns.proofs.DueLemmas.{at_place, check_is, checked_is}
+use Rattle.tx_turns.proofs.NextStepLemmas.{at_place, check_is, checked_is}
 use Rattle.tx_turns.proofs.due.due_to_check.Goals as goal
 
 pub returns-then-i-len-clause-deed : goal.returns-then-i-len-clause-deed

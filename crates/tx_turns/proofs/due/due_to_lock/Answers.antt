@@ -1,5 +1,5 @@
 use Rattle.std.proofs.Common.{◌∙◌, arith}
-use Rattle.tx_turns.proofs.DueLemmas.{at_place, lock_is, stamp_is}
+use Rattle.tx_turns.proofs.NextStepLemmas.{at_place, lock_is, stamp_is}
 use Rattle.tx_turns.proofs.due.due_to_lock.Goals as goal
 
 pub returns-then-i-len-clause-deed : goal.returns-then-i-len-clause-deed

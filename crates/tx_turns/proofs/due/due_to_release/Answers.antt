@@ -1,5 +1,5 @@
 use Rattle.std.proofs.Common.{◌∙◌, refl, ◌<◌, length, arith}
-use Rattle.tx_turns.proofs.DueLemmas.{at_place, release_is}
+use Rattle.tx_turns.proofs.NextStepLemmas.{at_place, release_is}
 use Rattle.tx_turns.proofs.due.due_to_release.Goals as goal
 
 pub returns-clause-deed : goal.returns-clause-deed

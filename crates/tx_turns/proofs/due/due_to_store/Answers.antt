@@ -1,5 +1,5 @@
 use Rattle.std.proofs.Common.{◌∙◌, arith}
-use Rattle.tx_turns.proofs.DueLemmas.{at_place, store_is, stored_is}
+use Rattle.tx_turns.proofs.NextStepLemmas.{at_place, store_is, stored_is}
 use Rattle.tx_turns.proofs.due.due_to_store.Goals as goal
 
 pub returns-then-i-len-clause-deed : goal.returns-then-i-len-clause-deed

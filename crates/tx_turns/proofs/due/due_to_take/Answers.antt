@@ -1,6 +1,6 @@
 use Rattle.std.proofs.Common.{refl}
 use Rattle.step_core.proofs.CellMoves.{place_fits}
-use Rattle.tx_turns.proofs.DueLemmas.{at_place}
+use Rattle.tx_turns.proofs.NextStepLemmas.{at_place}
 use Rattle.tx_turns.proofs.due.due_to_take.Goals as goal
 
 pub returns-clause-deed : goal.returns-clause-deed

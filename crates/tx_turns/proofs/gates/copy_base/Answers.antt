@@ -1,18 +1,18 @@
 use Rattle.std.proofs.Common.{Option, [], inl, length, subst, sym}
 use Rattle.tx_actor.specs.declared.actor.Stage.TheVariants as stage
-use Rattle.tx_actor.specs.declared.actor.Told.TheVariants.{Quiet}
+use Rattle.tx_actor.specs.declared.actor.ActorNotice.TheVariants.{Quiet}
 use Rattle.tx_actor.specs.declared.actor.TxActor.{TxActor}
-use Rattle.tx_actor.specs.declared.taking.Taken.{Taken}
+use Rattle.tx_actor.specs.declared.taking.KeyedCall.{KeyedCall}
 use Rattle.actor_parts.specs.Blocks.{BlocksView}
 use Rattle.tx_actor.proofs.NameLemmas.{named_copy}
-use Rattle.tx_actor.proofs.HavingLemmas.{asks_nothing}
+use Rattle.tx_actor.proofs.CopiesByStageLemmas.{asks_nothing}
 use Rattle.tx_actor.specs.Copying.{CanCopyAt}
-use Rattle.tx_actor.specs.Keeping.{IsRunning}
+use Rattle.tx_actor.specs.ActorBounds.{IsRunning}
 use Rattle.tx_actor.specs.Running.{at}
 use Rattle.tx_actor.specs.Taking.{AreTakenAt}
 use Rattle.tx_table.specs.Seated.{blocks_in, opening_of}
 use Rattle.tx_turns.specs.Ties.{Turned}
-use Rattle.tx_turns.proofs.AskedLemmas.{starved}
+use Rattle.tx_turns.proofs.LoneRequestLemmas.{starved}
 use Rattle.tx_turns.proofs.TurnLemmas.{laid_as}
 use Rattle.tx_turns.specs.Own.{HasOwn}
 use Rattle.tx_turns.proofs.CopyLemmas.{copy_can, copy_first, lifted, lifted_behind, lifted_on, none_same}
@@ -32,7 +32,7 @@ takes-requires g c =
     let front = first_here bs c.front.result.now
     (some_held t s r k [] bs (copy_first r.stage k c.requires.due) c.requires.own) c.front.ensures in
     subst (λ (z : BlocksView). CanCopyAt z r c.front.result.now r.stage) (sym laid)
-    (copy_can c.copied_as_worlds.ensures c.copies_go_on.ensures c.sizes_copies.ensures.sizes c.copies_stay_own.ensures.blocks
+    (copy_can c.excerpts_as_worlds.ensures c.copies_go_on.ensures c.sizes_copies.ensures.sizes c.copies_stay_own.ensures.blocks
     c.copies_by_stage.ensures.others t s r k bs front.0 c.front.result.now c.requires.due c.requires.ties c.requires.own front.1)
 
 pub front-requires : goal.front-requires
@@ -71,11 +71,11 @@ put_gate-requires-clause-due g c =
     (copy_first r.stage c.args.k c.requires.due) c.requires.own c.first-base.ensures).0
 
 -- the gate is back
-pub goes_on_taken-requires : goal.goes_on_taken-requires
-goes_on_taken-requires g c =
+pub continue_or_wait-requires : goal.continue_or_wait-requires
+continue_or_wait-requires g c =
     let call = lifted (record {
       steps = c.steps_as_worlds.ensures;
-      taken = c.copied_as_worlds.ensures;
+      taken = c.excerpts_as_worlds.ensures;
       on = c.copies_go_on.ensures;
       sized = c.sizes_copies.ensures.sizes;
       of = c.copies_stay_own.ensures.blocks;
@@ -90,7 +90,7 @@ pub returns-in-Ok-clause-turned : goal.returns-in-Ok-clause-turned
 returns-in-Ok-clause-turned g c =
     (lifted_on (record {
       steps = c.steps_as_worlds.ensures;
-      taken = c.copied_as_worlds.ensures;
+      taken = c.excerpts_as_worlds.ensures;
       on = c.copies_go_on.ensures;
       sized = c.sizes_copies.ensures.sizes;
       of = c.copies_stay_own.ensures.blocks;
@@ -99,14 +99,14 @@ returns-in-Ok-clause-turned g c =
     c.in-Ok-Some.taken _ c.blocks-blocks.result.now (laid_as c.args.table.now c.blocks-blocks.result.now c.blocks-blocks.ensures.words
     c.blocks-blocks.ensures.blocks) c.requires.due c.requires.ties c.requires.own c.front.ensures c.in-Ok-Some.field-0-is
     c.in-Ok-Some.ensures.ok
-    c.copied_stay_own.ensures c.put_gate.new.seat c.goes_on_taken.new.self c.in-Ok.told c.first-base.new.bases.items c.first-base.result
-    c.first-base.ensures c.put_gate.ensures c.in-Ok.ensures.ok c.goes_on_taken.ensures.keeps).1
+    c.taken_parts_are_own.ensures c.put_gate.new.seat c.continue_or_wait.new.self c.in-Ok.told c.first-base.new.bases.items c.first-base.result
+    c.first-base.ensures c.put_gate.ensures c.in-Ok.ensures.ok c.continue_or_wait.ensures.keeps).1
 
 pub returns-in-Ok-clause-ties : goal.returns-in-Ok-clause-ties
 returns-in-Ok-clause-ties g c =
     (lifted_on (record {
       steps = c.steps_as_worlds.ensures;
-      taken = c.copied_as_worlds.ensures;
+      taken = c.excerpts_as_worlds.ensures;
       on = c.copies_go_on.ensures;
       sized = c.sizes_copies.ensures.sizes;
       of = c.copies_stay_own.ensures.blocks;
@@ -115,14 +115,14 @@ returns-in-Ok-clause-ties g c =
     c.in-Ok-Some.taken _ c.blocks-blocks.result.now (laid_as c.args.table.now c.blocks-blocks.result.now c.blocks-blocks.ensures.words
     c.blocks-blocks.ensures.blocks) c.requires.due c.requires.ties c.requires.own c.front.ensures c.in-Ok-Some.field-0-is
     c.in-Ok-Some.ensures.ok
-    c.copied_stay_own.ensures c.put_gate.new.seat c.goes_on_taken.new.self c.in-Ok.told c.first-base.new.bases.items c.first-base.result
-    c.first-base.ensures c.put_gate.ensures c.in-Ok.ensures.ok c.goes_on_taken.ensures.keeps).0
+    c.taken_parts_are_own.ensures c.put_gate.new.seat c.continue_or_wait.new.self c.in-Ok.told c.first-base.new.bases.items c.first-base.result
+    c.first-base.ensures c.put_gate.ensures c.in-Ok.ensures.ok c.continue_or_wait.ensures.keeps).0
 
 pub returns-in-Ok-clause-own : goal.returns-in-Ok-clause-own
 returns-in-Ok-clause-own g c =
     (lifted_on (record {
       steps = c.steps_as_worlds.ensures;
-      taken = c.copied_as_worlds.ensures;
+      taken = c.excerpts_as_worlds.ensures;
       on = c.copies_go_on.ensures;
       sized = c.sizes_copies.ensures.sizes;
       of = c.copies_stay_own.ensures.blocks;
@@ -131,14 +131,14 @@ returns-in-Ok-clause-own g c =
     c.in-Ok-Some.taken _ c.blocks-blocks.result.now (laid_as c.args.table.now c.blocks-blocks.result.now c.blocks-blocks.ensures.words
     c.blocks-blocks.ensures.blocks) c.requires.due c.requires.ties c.requires.own c.front.ensures c.in-Ok-Some.field-0-is
     c.in-Ok-Some.ensures.ok
-    c.copied_stay_own.ensures c.put_gate.new.seat c.goes_on_taken.new.self c.in-Ok.told c.first-base.new.bases.items c.first-base.result
-    c.first-base.ensures c.put_gate.ensures c.in-Ok.ensures.ok c.goes_on_taken.ensures.keeps).2
+    c.taken_parts_are_own.ensures c.put_gate.new.seat c.continue_or_wait.new.self c.in-Ok.told c.first-base.new.bases.items c.first-base.result
+    c.first-base.ensures c.put_gate.ensures c.in-Ok.ensures.ok c.continue_or_wait.ensures.keeps).2
 
-pub returns-in-Err-goes_on_taken-clause-ties : goal.returns-in-Err-goes_on_taken-clause-ties
-returns-in-Err-goes_on_taken-clause-ties g c =
+pub returns-in-Err-continue_or_wait-clause-ties : goal.returns-in-Err-continue_or_wait-clause-ties
+returns-in-Err-continue_or_wait-clause-ties g c =
     (lifted_behind (record {
       steps = c.steps_as_worlds.ensures;
-      taken = c.copied_as_worlds.ensures;
+      taken = c.excerpts_as_worlds.ensures;
       on = c.copies_go_on.ensures;
       sized = c.sizes_copies.ensures.sizes;
       of = c.copies_stay_own.ensures.blocks;
@@ -147,15 +147,15 @@ returns-in-Err-goes_on_taken-clause-ties g c =
     c.in-Ok-Some.taken _ c.blocks-blocks.result.now (laid_as c.args.table.now c.blocks-blocks.result.now c.blocks-blocks.ensures.words
     c.blocks-blocks.ensures.blocks) c.requires.due c.requires.ties c.requires.own c.front.ensures c.in-Ok-Some.field-0-is
     c.in-Ok-Some.ensures.ok
-    c.put_gate.new.seat c.refuse.new.seat c.goes_on_taken.new.self c.first-base.new.bases.items c.first-base.result c.first-base.ensures
-    c.put_gate.ensures c.refuse.ensures c.in-Err-goes_on_taken.ensures.err c.goes_on_taken.ensures.keeps
-    (asks_nothing c.takes.new.self c.goes_on_taken.new.self c.in-Err-goes_on_taken.ensures.leaves)).0
+    c.put_gate.new.seat c.refuse.new.seat c.continue_or_wait.new.self c.first-base.new.bases.items c.first-base.result c.first-base.ensures
+    c.put_gate.ensures c.refuse.ensures c.in-Err-continue_or_wait.ensures.err c.continue_or_wait.ensures.keeps
+    (asks_nothing c.takes.new.self c.continue_or_wait.new.self c.in-Err-continue_or_wait.ensures.leaves)).0
 
-pub returns-in-Err-goes_on_taken-clause-starved : goal.returns-in-Err-goes_on_taken-clause-starved
-returns-in-Err-goes_on_taken-clause-starved g c =
+pub returns-in-Err-continue_or_wait-clause-starved : goal.returns-in-Err-continue_or_wait-clause-starved
+returns-in-Err-continue_or_wait-clause-starved g c =
     (lifted_behind (record {
       steps = c.steps_as_worlds.ensures;
-      taken = c.copied_as_worlds.ensures;
+      taken = c.excerpts_as_worlds.ensures;
       on = c.copies_go_on.ensures;
       sized = c.sizes_copies.ensures.sizes;
       of = c.copies_stay_own.ensures.blocks;
@@ -164,15 +164,15 @@ returns-in-Err-goes_on_taken-clause-starved g c =
     c.in-Ok-Some.taken _ c.blocks-blocks.result.now (laid_as c.args.table.now c.blocks-blocks.result.now c.blocks-blocks.ensures.words
     c.blocks-blocks.ensures.blocks) c.requires.due c.requires.ties c.requires.own c.front.ensures c.in-Ok-Some.field-0-is
     c.in-Ok-Some.ensures.ok
-    c.put_gate.new.seat c.refuse.new.seat c.goes_on_taken.new.self c.first-base.new.bases.items c.first-base.result c.first-base.ensures
-    c.put_gate.ensures c.refuse.ensures c.in-Err-goes_on_taken.ensures.err c.goes_on_taken.ensures.keeps
-    (asks_nothing c.takes.new.self c.goes_on_taken.new.self c.in-Err-goes_on_taken.ensures.leaves)).1
+    c.put_gate.new.seat c.refuse.new.seat c.continue_or_wait.new.self c.first-base.new.bases.items c.first-base.result c.first-base.ensures
+    c.put_gate.ensures c.refuse.ensures c.in-Err-continue_or_wait.ensures.err c.continue_or_wait.ensures.keeps
+    (asks_nothing c.takes.new.self c.continue_or_wait.new.self c.in-Err-continue_or_wait.ensures.leaves)).1
 
-pub returns-in-Err-goes_on_taken-clause-own : goal.returns-in-Err-goes_on_taken-clause-own
-returns-in-Err-goes_on_taken-clause-own g c =
+pub returns-in-Err-continue_or_wait-clause-own : goal.returns-in-Err-continue_or_wait-clause-own
+returns-in-Err-continue_or_wait-clause-own g c =
     (lifted_behind (record {
       steps = c.steps_as_worlds.ensures;
-      taken = c.copied_as_worlds.ensures;
+      taken = c.excerpts_as_worlds.ensures;
       on = c.copies_go_on.ensures;
       sized = c.sizes_copies.ensures.sizes;
       of = c.copies_stay_own.ensures.blocks;
@@ -181,9 +181,9 @@ returns-in-Err-goes_on_taken-clause-own g c =
     c.in-Ok-Some.taken _ c.blocks-blocks.result.now (laid_as c.args.table.now c.blocks-blocks.result.now c.blocks-blocks.ensures.words
     c.blocks-blocks.ensures.blocks) c.requires.due c.requires.ties c.requires.own c.front.ensures c.in-Ok-Some.field-0-is
     c.in-Ok-Some.ensures.ok
-    c.put_gate.new.seat c.refuse.new.seat c.goes_on_taken.new.self c.first-base.new.bases.items c.first-base.result c.first-base.ensures
-    c.put_gate.ensures c.refuse.ensures c.in-Err-goes_on_taken.ensures.err c.goes_on_taken.ensures.keeps
-    (asks_nothing c.takes.new.self c.goes_on_taken.new.self c.in-Err-goes_on_taken.ensures.leaves)).2
+    c.put_gate.new.seat c.refuse.new.seat c.continue_or_wait.new.self c.first-base.new.bases.items c.first-base.result c.first-base.ensures
+    c.put_gate.ensures c.refuse.ensures c.in-Err-continue_or_wait.ensures.err c.continue_or_wait.ensures.keeps
+    (asks_nothing c.takes.new.self c.continue_or_wait.new.self c.in-Err-continue_or_wait.ensures.leaves)).2
 
 -- nothing was taken
 pub copy_here-requires-clause-own : goal.copy_here-requires-clause-own
@@ -195,7 +195,7 @@ copy_here-requires-clause-own g c =
     let base = c.front.result.now in
     let m = c.takes.new.self in
     let same = none_same v r m base c.args.k c.requires.due
-    (subst (λ (o : Option (Taken g.row.V.Denot)). AreTakenAt v r m base o r.stage) c.in-Ok-None.field-0-is c.in-Ok-None.ensures.ok) in
+    (subst (λ (o : Option (KeyedCall g.row.V.Denot)). AreTakenAt v r m base o r.stage) c.in-Ok-None.field-0-is c.in-Ok-None.ensures.ok) in
     subst (λ (z : TxActor g.row.V.Denot). HasOwn t s z c.args.bases.now.items) (sym same) c.requires.own
 
 pub returns-in_ok-told-in-Ok-None-clause-turned : goal.returns-in_ok-told-in-Ok-None-clause-turned
@@ -207,7 +207,7 @@ returns-in_ok-told-in-Ok-None-clause-turned g c =
     let m = c.takes.new.self in
     let n = c.in_ok-told-in-Ok-None.told in
     let same = none_same v r m base c.args.k c.requires.due
-    (subst (λ (o : Option (Taken g.row.V.Denot)). AreTakenAt v r m base o r.stage) c.in-Ok-None.field-0-is c.in-Ok-None.ensures.ok) in
+    (subst (λ (o : Option (KeyedCall g.row.V.Denot)). AreTakenAt v r m base o r.stage) c.in-Ok-None.field-0-is c.in-Ok-None.ensures.ok) in
     subst (λ (z : TxActor g.row.V.Denot). Turned (opening_of c.args.table.now) s z c.copy_here.new.seat n) same
     c.in_ok-told-in-Ok-None.ensures.turned
 

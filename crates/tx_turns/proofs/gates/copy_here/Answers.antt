@@ -1,20 +1,20 @@
 use Rattle.std.proofs.Common.{[], length, subst, sym}
 use Rattle.replay_log.specs.declared.base.Base.{Base}
-use Rattle.tx_actor.specs.declared.actor.Told.TheVariants.{Quiet}
+use Rattle.tx_actor.specs.declared.actor.ActorNotice.TheVariants.{Quiet}
 use Rattle.actor_parts.specs.Blocks.{BlocksView}
 use Rattle.tx_actor.proofs.NameLemmas.{named_copy}
 use Rattle.tx_actor.specs.Copying.{CanCopyAt, HasTakenAt, StepsOnAt}
-use Rattle.tx_actor.specs.Keeping.{IsRunning}
+use Rattle.tx_actor.specs.ActorBounds.{IsRunning}
 use Rattle.tx_table.specs.Seated.{blocks_in}
-use Rattle.tx_turns.proofs.AskedLemmas.{starved}
+use Rattle.tx_turns.proofs.LoneRequestLemmas.{starved}
 use Rattle.tx_turns.proofs.TurnLemmas.{laid_as}
 use Rattle.tx_turns.proofs.CopyLemmas.{copy_can, copy_first, copy_reads, copy_tied}
 use Rattle.tx_turns.proofs.EventLemmas.{starve_own}
 use Rattle.tx_turns.proofs.GateLemmas.{copy_due, first_here, first_out, front_same, held_base, may_put, some_held}
 use Rattle.tx_turns.proofs.gates.copy_here.Goals as goal
 
-pub copied-requires : goal.copied-requires
-copied-requires g c =
+pub copy_at_gate-requires : goal.copy_at_gate-requires
+copy_at_gate-requires g c =
     let t = c.args.table.now in
     let s = c.args.seat.now in
     let r = c.args.actor.now in
@@ -24,7 +24,7 @@ copied-requires g c =
     let front = first_here bs c.front.result.now
     (some_held t s r k [] bs (copy_first r.stage k c.requires.due) c.requires.own) c.front.ensures in
     subst (λ (v : BlocksView). CanCopyAt v r c.front.result.now r.stage) (sym laid)
-    (copy_can c.copied_as_worlds.ensures c.copies_go_on.ensures c.sizes_copies.ensures.sizes c.copies_stay_own.ensures.blocks
+    (copy_can c.excerpts_as_worlds.ensures c.copies_go_on.ensures c.sizes_copies.ensures.sizes c.copies_stay_own.ensures.blocks
     c.copies_by_stage.ensures.others t s r k bs front.0 c.front.result.now c.requires.due c.requires.ties c.requires.own front.1)
 
 pub front-requires : goal.front-requires
@@ -70,14 +70,14 @@ returns-in-Ok-clause-turned g c =
     let k = c.args.k in
     let bs = c.args.bases.now.items in
     let laid = laid_as t c.blocks-2.result.now c.blocks-2.ensures.words c.blocks-2.ensures.blocks in
-    let q = c.copied.new.self in
+    let q = c.copy_at_gate.new.self in
     let b = c.first-base.result in
     let front = first_here bs c.front.result.now
     (some_held t s r k [] bs (copy_first r.stage k c.requires.due) c.requires.own) c.front.ensures in
     let same = front_same bs c.front.result.now b front.0 c.first-base.new.bases.items front.1 c.first-base.ensures in
     let running = subst (λ (v : BlocksView). IsRunning v r → IsRunning v q) laid
     (c.in-Ok.ensures.keeps (copy_reads c.copies_go_on.ensures t s r k c.requires.due c.requires.ties)).running c.requires.ties.running in
-    (copy_tied c.steps_as_worlds.ensures c.copied_stay_own.ensures c.copied_as_worlds.ensures c.copies_go_on.ensures
+    (copy_tied c.steps_as_worlds.ensures c.taken_parts_are_own.ensures c.excerpts_as_worlds.ensures c.copies_go_on.ensures
     c.sizes_copies.ensures.sizes c.copies_stay_own.ensures.blocks c.copies_by_stage.ensures.others t s c.put_gate.new.seat r q
     c.in-Ok.told k bs
     c.first-base.new.bases.items b c.requires.due c.requires.ties c.requires.own c.first-base.ensures c.put_gate.ensures
@@ -93,14 +93,14 @@ returns-in-Ok-clause-ties g c =
     let k = c.args.k in
     let bs = c.args.bases.now.items in
     let laid = laid_as t c.blocks-2.result.now c.blocks-2.ensures.words c.blocks-2.ensures.blocks in
-    let q = c.copied.new.self in
+    let q = c.copy_at_gate.new.self in
     let b = c.first-base.result in
     let front = first_here bs c.front.result.now
     (some_held t s r k [] bs (copy_first r.stage k c.requires.due) c.requires.own) c.front.ensures in
     let same = front_same bs c.front.result.now b front.0 c.first-base.new.bases.items front.1 c.first-base.ensures in
     let running = subst (λ (v : BlocksView). IsRunning v r → IsRunning v q) laid
     (c.in-Ok.ensures.keeps (copy_reads c.copies_go_on.ensures t s r k c.requires.due c.requires.ties)).running c.requires.ties.running in
-    (copy_tied c.steps_as_worlds.ensures c.copied_stay_own.ensures c.copied_as_worlds.ensures c.copies_go_on.ensures
+    (copy_tied c.steps_as_worlds.ensures c.taken_parts_are_own.ensures c.excerpts_as_worlds.ensures c.copies_go_on.ensures
     c.sizes_copies.ensures.sizes c.copies_stay_own.ensures.blocks c.copies_by_stage.ensures.others t s c.put_gate.new.seat r q
     c.in-Ok.told k bs
     c.first-base.new.bases.items b c.requires.due c.requires.ties c.requires.own c.first-base.ensures c.put_gate.ensures
@@ -116,14 +116,14 @@ returns-in-Ok-clause-own g c =
     let k = c.args.k in
     let bs = c.args.bases.now.items in
     let laid = laid_as t c.blocks-2.result.now c.blocks-2.ensures.words c.blocks-2.ensures.blocks in
-    let q = c.copied.new.self in
+    let q = c.copy_at_gate.new.self in
     let b = c.first-base.result in
     let front = first_here bs c.front.result.now
     (some_held t s r k [] bs (copy_first r.stage k c.requires.due) c.requires.own) c.front.ensures in
     let same = front_same bs c.front.result.now b front.0 c.first-base.new.bases.items front.1 c.first-base.ensures in
     let running = subst (λ (v : BlocksView). IsRunning v r → IsRunning v q) laid
     (c.in-Ok.ensures.keeps (copy_reads c.copies_go_on.ensures t s r k c.requires.due c.requires.ties)).running c.requires.ties.running in
-    (copy_tied c.steps_as_worlds.ensures c.copied_stay_own.ensures c.copied_as_worlds.ensures c.copies_go_on.ensures
+    (copy_tied c.steps_as_worlds.ensures c.taken_parts_are_own.ensures c.excerpts_as_worlds.ensures c.copies_go_on.ensures
     c.sizes_copies.ensures.sizes c.copies_stay_own.ensures.blocks c.copies_by_stage.ensures.others t s c.put_gate.new.seat r q
     c.in-Ok.told k bs
     c.first-base.new.bases.items b c.requires.due c.requires.ties c.requires.own c.first-base.ensures c.put_gate.ensures
@@ -139,7 +139,7 @@ returns-in-Err-clause-ties g c =
     let k = c.args.k in
     let bs = c.args.bases.now.items in
     let laid = laid_as t c.blocks-2.result.now c.blocks-2.ensures.words c.blocks-2.ensures.blocks in
-    let q = c.copied.new.self in
+    let q = c.copy_at_gate.new.self in
     let running = subst (λ (v : BlocksView). IsRunning v r → IsRunning v q) laid
     (c.in-Err.ensures.keeps (copy_reads c.copies_go_on.ensures t s r k c.requires.due c.requires.ties)).running c.requires.ties.running in
     let done = starved t s c.refuse.new.seat r q Quiet c.requires.ties c.refuse.ensures running
@@ -154,7 +154,7 @@ returns-in-Err-clause-starved g c =
     let k = c.args.k in
     let bs = c.args.bases.now.items in
     let laid = laid_as t c.blocks-2.result.now c.blocks-2.ensures.words c.blocks-2.ensures.blocks in
-    let q = c.copied.new.self in
+    let q = c.copy_at_gate.new.self in
     let running = subst (λ (v : BlocksView). IsRunning v r → IsRunning v q) laid
     (c.in-Err.ensures.keeps (copy_reads c.copies_go_on.ensures t s r k c.requires.due c.requires.ties)).running c.requires.ties.running in
     let done = starved t s c.refuse.new.seat r q Quiet c.requires.ties c.refuse.ensures running
@@ -169,7 +169,7 @@ returns-in-Err-clause-own g c =
     let k = c.args.k in
     let bs = c.args.bases.now.items in
     let laid = laid_as t c.blocks-2.result.now c.blocks-2.ensures.words c.blocks-2.ensures.blocks in
-    let q = c.copied.new.self in
+    let q = c.copy_at_gate.new.self in
     let running = subst (λ (v : BlocksView). IsRunning v r → IsRunning v q) laid
     (c.in-Err.ensures.keeps (copy_reads c.copies_go_on.ensures t s r k c.requires.due c.requires.ties)).running c.requires.ties.running in
     let done = starved t s c.refuse.new.seat r q Quiet c.requires.ties c.refuse.ensures running

@@ -47,7 +47,7 @@ put_gate-requires-clause-due g c =
 pub returns-clause-turned : goal.returns-clause-turned
 returns-clause-turned g c =
     let r = c.args.actor.now in
-    let h = c.put_gate-2 in
+    let h = c.on_gate_put in
     (put_tied c.steps_as_worlds.ensures c.events_keep_copies.ensures.steps c.copies_by_stage.ensures.others c.args.table.now c.args.seat.now
     c.put_gate.new.seat r h.new.self h.result c.args.k c.args.bases.now.items c.first-base.new.bases.items c.first-base.result
     c.requires.due
@@ -58,7 +58,7 @@ returns-clause-turned g c =
 pub returns-clause-ties : goal.returns-clause-ties
 returns-clause-ties g c =
     let r = c.args.actor.now in
-    let h = c.put_gate-2 in
+    let h = c.on_gate_put in
     (put_tied c.steps_as_worlds.ensures c.events_keep_copies.ensures.steps c.copies_by_stage.ensures.others c.args.table.now c.args.seat.now
     c.put_gate.new.seat r h.new.self h.result c.args.k c.args.bases.now.items c.first-base.new.bases.items c.first-base.result
     c.requires.due
@@ -69,7 +69,7 @@ returns-clause-ties g c =
 pub returns-clause-own : goal.returns-clause-own
 returns-clause-own g c =
     let r = c.args.actor.now in
-    let h = c.put_gate-2 in
+    let h = c.on_gate_put in
     (put_tied c.steps_as_worlds.ensures c.events_keep_copies.ensures.steps c.copies_by_stage.ensures.others c.args.table.now c.args.seat.now
     c.put_gate.new.seat r h.new.self h.result c.args.k c.args.bases.now.items c.first-base.new.bases.items c.first-base.result
     c.requires.due

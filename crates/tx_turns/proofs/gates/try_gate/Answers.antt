@@ -30,36 +30,36 @@ pub returns-in-Some-clause-turned : goal.returns-in-Some-clause-turned
 returns-in-Some-clause-turned g c =
     let r = c.args.actor.now in
     (try_won c.steps_as_worlds.ensures c.events_keep_copies.ensures.steps c.copies_by_stage.ensures.others c.args.table.now c.args.seat.now
-    c.take_gate.new.seat r c.tried_gate.new.self c.tried_gate.result c.args.k c.args.bases.now.items c.in-Some.base c.requires.due
-    c.requires.ties c.requires.own c.in-Some.ensures.0 c.in-Some.ensures.1 c.tried_gate.ensures.does
-    ((c.tried_gate.ensures.keeps (laid_in c.args.table.now)).running c.requires.ties.running)
-    (c.tried_gate.ensures.leaves (quiet_try (stage_of r.stage) c.args.k c.requires.due))).1
+    c.take_gate.new.seat r c.on_gate_tried.new.self c.on_gate_tried.result c.args.k c.args.bases.now.items c.in-Some.base c.requires.due
+    c.requires.ties c.requires.own c.in-Some.ensures.0 c.in-Some.ensures.1 c.on_gate_tried.ensures.does
+    ((c.on_gate_tried.ensures.keeps (laid_in c.args.table.now)).running c.requires.ties.running)
+    (c.on_gate_tried.ensures.leaves (quiet_try (stage_of r.stage) c.args.k c.requires.due))).1
 
 pub returns-in-Some-clause-ties : goal.returns-in-Some-clause-ties
 returns-in-Some-clause-ties g c =
     let r = c.args.actor.now in
     (try_won c.steps_as_worlds.ensures c.events_keep_copies.ensures.steps c.copies_by_stage.ensures.others c.args.table.now c.args.seat.now
-    c.take_gate.new.seat r c.tried_gate.new.self c.tried_gate.result c.args.k c.args.bases.now.items c.in-Some.base c.requires.due
-    c.requires.ties c.requires.own c.in-Some.ensures.0 c.in-Some.ensures.1 c.tried_gate.ensures.does
-    ((c.tried_gate.ensures.keeps (laid_in c.args.table.now)).running c.requires.ties.running)
-    (c.tried_gate.ensures.leaves (quiet_try (stage_of r.stage) c.args.k c.requires.due))).0
+    c.take_gate.new.seat r c.on_gate_tried.new.self c.on_gate_tried.result c.args.k c.args.bases.now.items c.in-Some.base c.requires.due
+    c.requires.ties c.requires.own c.in-Some.ensures.0 c.in-Some.ensures.1 c.on_gate_tried.ensures.does
+    ((c.on_gate_tried.ensures.keeps (laid_in c.args.table.now)).running c.requires.ties.running)
+    (c.on_gate_tried.ensures.leaves (quiet_try (stage_of r.stage) c.args.k c.requires.due))).0
 
 pub returns-in-Some-clause-own : goal.returns-in-Some-clause-own
 returns-in-Some-clause-own g c =
     let r = c.args.actor.now in
     let b = c.in-Some.base in
-    subst (λ bs. HasOwn c.args.table.now c.take_gate.new.seat c.tried_gate.new.self bs)
+    subst (λ bs. HasOwn c.args.table.now c.take_gate.new.seat c.on_gate_tried.new.self bs)
     (sym (c.push_reserved.ensures.items ∙ ap (λ bs. bs ++ b ∷ []) c.reserve.ensures.items))
     ((try_won c.steps_as_worlds.ensures c.events_keep_copies.ensures.steps c.copies_by_stage.ensures.others c.args.table.now c.args.seat.now
-    c.take_gate.new.seat r c.tried_gate.new.self c.tried_gate.result c.args.k c.args.bases.now.items b c.requires.due
-    c.requires.ties c.requires.own c.in-Some.ensures.0 c.in-Some.ensures.1 c.tried_gate.ensures.does
-    ((c.tried_gate.ensures.keeps (laid_in c.args.table.now)).running c.requires.ties.running)
-    (c.tried_gate.ensures.leaves (quiet_try (stage_of r.stage) c.args.k c.requires.due))).2)
+    c.take_gate.new.seat r c.on_gate_tried.new.self c.on_gate_tried.result c.args.k c.args.bases.now.items b c.requires.due
+    c.requires.ties c.requires.own c.in-Some.ensures.0 c.in-Some.ensures.1 c.on_gate_tried.ensures.does
+    ((c.on_gate_tried.ensures.keeps (laid_in c.args.table.now)).running c.requires.ties.running)
+    (c.on_gate_tried.ensures.leaves (quiet_try (stage_of r.stage) c.args.k c.requires.due))).2)
 
 pub returns-in-None-clause-turned : goal.returns-in-None-clause-turned
 returns-in-None-clause-turned g c =
     let r = c.args.actor.now in
-    let h = c.tried_gate-in-None in
+    let h = c.on_gate_tried-in-None in
     (try_lost c.steps_as_worlds.ensures c.events_keep_copies.ensures.steps c.copies_by_stage.ensures.others c.args.table.now c.args.seat.now
     c.take_gate.new.seat r h.new.self h.result c.args.k c.args.bases.now.items c.requires.due c.requires.ties c.requires.own
     c.in-None.ensures
@@ -69,7 +69,7 @@ returns-in-None-clause-turned g c =
 pub returns-in-None-clause-ties : goal.returns-in-None-clause-ties
 returns-in-None-clause-ties g c =
     let r = c.args.actor.now in
-    let h = c.tried_gate-in-None in
+    let h = c.on_gate_tried-in-None in
     (try_lost c.steps_as_worlds.ensures c.events_keep_copies.ensures.steps c.copies_by_stage.ensures.others c.args.table.now c.args.seat.now
     c.take_gate.new.seat r h.new.self h.result c.args.k c.args.bases.now.items c.requires.due c.requires.ties c.requires.own
     c.in-None.ensures
@@ -79,7 +79,7 @@ returns-in-None-clause-ties g c =
 pub returns-in-None-clause-own : goal.returns-in-None-clause-own
 returns-in-None-clause-own g c =
     let r = c.args.actor.now in
-    let h = c.tried_gate-in-None in
+    let h = c.on_gate_tried-in-None in
     subst (λ bs. HasOwn c.args.table.now c.take_gate.new.seat h.new.self bs) (sym c.reserve.ensures.items)
     ((try_lost c.steps_as_worlds.ensures c.events_keep_copies.ensures.steps c.copies_by_stage.ensures.others c.args.table.now
     c.args.seat.now

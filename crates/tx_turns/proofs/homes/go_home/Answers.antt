@@ -4,13 +4,13 @@ use Rattle.replay_log.specs.Base.{IsPreparedFor, after, editions_of, locations_o
 use Rattle.replay_log.specs.Log.{AreRaised}
 use Rattle.std.specs.declared.alloc.Global.{Global}
 use Rattle.std.specs.declared.vec.Vec.{Vec}
-use Rattle.actor_parts.specs.declared.copies.CopyOf.{CopyOf}
-use Rattle.actor_parts.specs.Kept.{copy_of}
+use Rattle.actor_parts.specs.declared.copies.CopyOfCollection.{CopyOfCollection}
+use Rattle.actor_parts.specs.CopyList.{copy_of}
 use Rattle.actor_parts.specs.Logs.{changes_had, locations_had}
 use Rattle.actor_parts.specs.Dispatch.{is_loading}
 use Rattle.tx_actor.proofs.HomeLemmas.{quiet_home, recorded_home}
 use Rattle.tx_actor.proofs.NameLemmas.{named_home}
-use Rattle.tx_actor.specs.Having.{KeepsFrom}
+use Rattle.tx_actor.specs.CopiesByStage.{KeepsFrom}
 use Rattle.tx_actor.specs.Running.{stage_of}
 use Rattle.tx_actor.specs.declared.actor.Stage.{Stage}
 use Rattle.tx_actor.specs.declared.actor.TxActor.{TxActor}
@@ -85,20 +85,20 @@ returns-clause-turned g c =
     let t = c.args.table.now in
     let r = c.args.actor.now in
     let p = c.folds.new.self in
-    let q = c.went_home.new.self in
+    let q = c.on_base_returned.new.self in
     let at : p.stage ≡ r.stage = ap (λ (z : TxActor g.row.V.Denot). z.stage) c.folds.ensures.rest in
-    let copies = ap (λ (z : Vec (CopyOf g.row.V.Denot) Global). z.items) c.went_home.ensures.copies in
+    let copies = ap (λ (z : Vec (CopyOfCollection g.row.V.Denot) Global). z.items) c.on_base_returned.ensures.copies in
     let recorded = recorded_home r.stage c.args.k c.requires.due in
     let quiet = quiet_home (stage_of r.stage) c.args.k c.requires.due in
     let keep = subst (λ (g : Stage _). KeepsFrom q.stage g q.copies.items q.copies.items) at
     (subst (λ cs. KeepsFrom q.stage p.stage cs q.copies.items) (sym copies)
-    (c.went_home.ensures.leaves (ap (λ (g : Stage _). is_loading (stage_of g)) at ∙ quiet))) in
+    (c.on_base_returned.ensures.leaves (ap (λ (g : Stage _). is_loading (stage_of g)) at ∙ quiet))) in
     (home_tied c.steps_as_worlds.ensures c.goes_on_as_worlds.ensures c.copies_stay.ensures.events c.copies_stay.ensures.stays
-    c.copies_by_stage.ensures.others t c.args.seat.now c.put_gate.new.seat r p q c.went_home.result c.args.k c.args.bases.now.items
+    c.copies_by_stage.ensures.others t c.args.seat.now c.put_gate.new.seat r p q c.on_base_returned.result c.args.k c.args.bases.now.items
     c.first-base.new.bases.items c.first-base.result c.requires.due c.requires.ties c.requires.own c.first-base.ensures c.put_gate.ensures
-    (c.folds.ensures.stands recorded) at c.went_home.ensures.does
-    (λ j other. ap (λ z. copy_of z.items j) c.went_home.ensures.copies ∙ c.folds.ensures.others j other) keep
-    ((c.went_home.ensures.keeps (laid_in t)).running
+    (c.folds.ensures.stands recorded) at c.on_base_returned.ensures.does
+    (λ j other. ap (λ z. copy_of z.items j) c.on_base_returned.ensures.copies ∙ c.folds.ensures.others j other) keep
+    ((c.on_base_returned.ensures.keeps (laid_in t)).running
     ((c.folds.ensures.keeps recorded (laid_in t)).running c.requires.ties.running))).1
 
 pub returns-clause-ties : goal.returns-clause-ties
@@ -106,20 +106,20 @@ returns-clause-ties g c =
     let t = c.args.table.now in
     let r = c.args.actor.now in
     let p = c.folds.new.self in
-    let q = c.went_home.new.self in
+    let q = c.on_base_returned.new.self in
     let at : p.stage ≡ r.stage = ap (λ (z : TxActor g.row.V.Denot). z.stage) c.folds.ensures.rest in
-    let copies = ap (λ (z : Vec (CopyOf g.row.V.Denot) Global). z.items) c.went_home.ensures.copies in
+    let copies = ap (λ (z : Vec (CopyOfCollection g.row.V.Denot) Global). z.items) c.on_base_returned.ensures.copies in
     let recorded = recorded_home r.stage c.args.k c.requires.due in
     let quiet = quiet_home (stage_of r.stage) c.args.k c.requires.due in
     let keep = subst (λ (g : Stage _). KeepsFrom q.stage g q.copies.items q.copies.items) at
     (subst (λ cs. KeepsFrom q.stage p.stage cs q.copies.items) (sym copies)
-    (c.went_home.ensures.leaves (ap (λ (g : Stage _). is_loading (stage_of g)) at ∙ quiet))) in
+    (c.on_base_returned.ensures.leaves (ap (λ (g : Stage _). is_loading (stage_of g)) at ∙ quiet))) in
     (home_tied c.steps_as_worlds.ensures c.goes_on_as_worlds.ensures c.copies_stay.ensures.events c.copies_stay.ensures.stays
-    c.copies_by_stage.ensures.others t c.args.seat.now c.put_gate.new.seat r p q c.went_home.result c.args.k c.args.bases.now.items
+    c.copies_by_stage.ensures.others t c.args.seat.now c.put_gate.new.seat r p q c.on_base_returned.result c.args.k c.args.bases.now.items
     c.first-base.new.bases.items c.first-base.result c.requires.due c.requires.ties c.requires.own c.first-base.ensures c.put_gate.ensures
-    (c.folds.ensures.stands recorded) at c.went_home.ensures.does
-    (λ j other. ap (λ z. copy_of z.items j) c.went_home.ensures.copies ∙ c.folds.ensures.others j other) keep
-    ((c.went_home.ensures.keeps (laid_in t)).running
+    (c.folds.ensures.stands recorded) at c.on_base_returned.ensures.does
+    (λ j other. ap (λ z. copy_of z.items j) c.on_base_returned.ensures.copies ∙ c.folds.ensures.others j other) keep
+    ((c.on_base_returned.ensures.keeps (laid_in t)).running
     ((c.folds.ensures.keeps recorded (laid_in t)).running c.requires.ties.running))).0
 
 pub returns-clause-own : goal.returns-clause-own
@@ -127,18 +127,18 @@ returns-clause-own g c =
     let t = c.args.table.now in
     let r = c.args.actor.now in
     let p = c.folds.new.self in
-    let q = c.went_home.new.self in
+    let q = c.on_base_returned.new.self in
     let at : p.stage ≡ r.stage = ap (λ (z : TxActor g.row.V.Denot). z.stage) c.folds.ensures.rest in
-    let copies = ap (λ (z : Vec (CopyOf g.row.V.Denot) Global). z.items) c.went_home.ensures.copies in
+    let copies = ap (λ (z : Vec (CopyOfCollection g.row.V.Denot) Global). z.items) c.on_base_returned.ensures.copies in
     let recorded = recorded_home r.stage c.args.k c.requires.due in
     let quiet = quiet_home (stage_of r.stage) c.args.k c.requires.due in
     let keep = subst (λ (g : Stage _). KeepsFrom q.stage g q.copies.items q.copies.items) at
     (subst (λ cs. KeepsFrom q.stage p.stage cs q.copies.items) (sym copies)
-    (c.went_home.ensures.leaves (ap (λ (g : Stage _). is_loading (stage_of g)) at ∙ quiet))) in
+    (c.on_base_returned.ensures.leaves (ap (λ (g : Stage _). is_loading (stage_of g)) at ∙ quiet))) in
     (home_tied c.steps_as_worlds.ensures c.goes_on_as_worlds.ensures c.copies_stay.ensures.events c.copies_stay.ensures.stays
-    c.copies_by_stage.ensures.others t c.args.seat.now c.put_gate.new.seat r p q c.went_home.result c.args.k c.args.bases.now.items
+    c.copies_by_stage.ensures.others t c.args.seat.now c.put_gate.new.seat r p q c.on_base_returned.result c.args.k c.args.bases.now.items
     c.first-base.new.bases.items c.first-base.result c.requires.due c.requires.ties c.requires.own c.first-base.ensures c.put_gate.ensures
-    (c.folds.ensures.stands recorded) at c.went_home.ensures.does
-    (λ j other. ap (λ z. copy_of z.items j) c.went_home.ensures.copies ∙ c.folds.ensures.others j other) keep
-    ((c.went_home.ensures.keeps (laid_in t)).running
+    (c.folds.ensures.stands recorded) at c.on_base_returned.ensures.does
+    (λ j other. ap (λ z. copy_of z.items j) c.on_base_returned.ensures.copies ∙ c.folds.ensures.others j other) keep
+    ((c.on_base_returned.ensures.keeps (laid_in t)).running
     ((c.folds.ensures.keeps recorded (laid_in t)).running c.requires.ties.running))).2

@@ -42,8 +42,8 @@ pub again-requires-clause-calls : goal.again-requires-clause-calls
 again-requires-clause-calls g c =
     c.requires.ties.running.fits.place.3
 
-pub has_found-requires : goal.has_found-requires
-has_found-requires g c =
+pub on_found-requires : goal.on_found-requires
+on_found-requires g c =
     record {
       prepared = found_may (record {
         steps = c.steps_as_worlds.ensures;
@@ -71,11 +71,11 @@ returns-in-Ok g c =
     c.args.value c.load_lock-found.result c.again.new.self c.in-Ok.told c.requires.ties c.load_lock-found.ensures
     c.again.ensures.actor
     c.in-Ok.ensures.answer c.again.ensures.room c.again.ensures.keeps.fits
-    c.has_found.new.self c.has_found.result c.requires.small c.requires.own c.has_found.ensures.does
-    (c.has_found.ensures.keeps (laid_in c.args.table.now)) c.has_found.ensures.goes
+    c.on_found.new.self c.on_found.result c.requires.small c.requires.own c.on_found.ensures.does
+    (c.on_found.ensures.keeps (laid_in c.args.table.now)) c.on_found.ensures.goes
 
-pub loaded-requires : goal.loaded-requires
-loaded-requires g c =
+pub on_load_step-requires : goal.on_load_step-requires
+on_load_step-requires g c =
     let r = at c.args.actor.now (stage.Loading c.args.call c.args.left) in
     record {
       prepared = (loading_hears (record {
@@ -103,10 +103,10 @@ returns-in-Err g c =
       others = c.copies_by_stage.ensures.others;
       keep = c.loads_keep_running.ensures;
     }) c.args.table.now c.args.seat.now c.load_lock-found.new.seat
-    (at_place r (Again c.args.location c.args.version c.args.value)) c.loaded.new.self c.again.new.self (Err c.in-Err.cause) c.loaded.result
+    (at_place r (Again c.args.location c.args.version c.args.value)) c.on_load_step.new.self c.again.new.self (Err c.in-Err.cause) c.on_load_step.result
     []
     refl c.requires.small c.requires.ties c.requires.own
     (again_steps (opening_of c.args.table.now) c.args.seat.now c.load_lock-found.new.seat c.args.actor.now.words c.again.new.self
     c.args.location c.args.version c.args.value c.load_lock-found.result (Err c.in-Err.cause) c.load_lock-found.ensures
     c.again.ensures.actor c.in-Err.ensures.answer) (λ _. c.again.ensures.room) c.again.ensures.keeps.fits
-    c.loaded.ensures.does (c.loaded.ensures.keeps (laid_in c.args.table.now)).running c.loaded.ensures.goes
+    c.on_load_step.ensures.does (c.on_load_step.ensures.keeps (laid_in c.args.table.now)).running c.on_load_step.ensures.goes

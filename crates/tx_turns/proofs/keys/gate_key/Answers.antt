@@ -2,7 +2,7 @@ use Rattle.std.proofs.Common.{◌≡◌, ℕ, List, refl, sym, ap, subst, length
 use Rattle.replay_log.specs.declared.base.Base.{Base}
 use Rattle.actor_parts.specs.declared.next.Next.TheVariants as next
 use Rattle.tx_actor.specs.Running.{at}
-use Rattle.tx_actor.specs.declared.actor.Asked.{Asked}
+use Rattle.tx_actor.specs.declared.actor.CollectionCall.{CollectionCall}
 use Rattle.tx_actor.specs.declared.actor.Stage.TheVariants as stage
 use Rattle.tx_actor.proofs.NameLemmas.{named_try}
 use Rattle.tx_table.specs.Seated.{blocks_in}
@@ -25,7 +25,7 @@ take_gate-requires-clause-collection g c =
     let asked = c.args.asked in
     let r = at p (stage.Trying asked c.args.tries) in
     let k = c.get.result.now.collection in
-    let same : k ≡ asked.collection = ap (λ (a : Asked g.row.V.Denot). a.collection) c.get.ensures in
+    let same : k ≡ asked.collection = ap (λ (a : CollectionCall g.row.V.Denot). a.collection) c.get.ensures in
     let due = ap (λ (j : ℕ). next.TryGate j) (sym same) in
     named_try r.stage k (length (blocks_in t)) due c.requires.ties.running.names
 
@@ -37,7 +37,7 @@ take_gate-requires-clause-due g c =
     let asked = c.args.asked in
     let r = at p (stage.Trying asked c.args.tries) in
     let k = c.get.result.now.collection in
-    let same : k ≡ asked.collection = ap (λ (a : Asked g.row.V.Denot). a.collection) c.get.ensures in
+    let same : k ≡ asked.collection = ap (λ (a : CollectionCall g.row.V.Denot). a.collection) c.get.ensures in
     let due = ap (λ (j : ℕ). next.TryGate j) (sym same) in
     try_due c.steps_as_worlds.ensures t s r k due c.requires.ties
 
@@ -48,7 +48,7 @@ wait-requires g c =
     let asked = c.args.asked in
     let r = at p (stage.Trying asked c.args.tries) in
     let k = c.get.result.now.collection in
-    let same : k ≡ asked.collection = ap (λ (a : Asked g.row.V.Denot). a.collection) c.get.ensures in
+    let same : k ≡ asked.collection = ap (λ (a : CollectionCall g.row.V.Denot). a.collection) c.get.ensures in
     let due = ap (λ (j : ℕ). next.TryGate j) (sym same) in
     named_try r.stage k (length (blocks_in t)) due c.requires.ties.running.names
 
@@ -59,7 +59,7 @@ take_key-requires-clause-ties g c =
     let p = c.args.actor.now in
     let asked = c.args.asked in
     let k = c.get.result.now.collection in
-    let same : k ≡ asked.collection = ap (λ (a : Asked g.row.V.Denot). a.collection) c.get.ensures in
+    let same : k ≡ asked.collection = ap (λ (a : CollectionCall g.row.V.Denot). a.collection) c.get.ensures in
     let won = gate_won c.free_gates_are_held.ensures c.steps_as_worlds.ensures c.events_keep_copies.ensures.steps
     c.copies_by_stage.ensures.others
     t s c.take_gate.new.seat p asked c.args.tries k c.in-Some.base same c.requires.ties c.requires.own c.in-Some.ensures.0
@@ -73,7 +73,7 @@ take_key-requires-clause-own g c =
     let p = c.args.actor.now in
     let asked = c.args.asked in
     let k = c.get.result.now.collection in
-    let same : k ≡ asked.collection = ap (λ (a : Asked g.row.V.Denot). a.collection) c.get.ensures in
+    let same : k ≡ asked.collection = ap (λ (a : CollectionCall g.row.V.Denot). a.collection) c.get.ensures in
     let won = gate_won c.free_gates_are_held.ensures c.steps_as_worlds.ensures c.events_keep_copies.ensures.steps
     c.copies_by_stage.ensures.others
     t s c.take_gate.new.seat p asked c.args.tries k c.in-Some.base same c.requires.ties c.requires.own c.in-Some.ensures.0
@@ -87,12 +87,12 @@ returns-in-None-clause-led g c =
     let p = c.args.actor.now in
     let asked = c.args.asked in
     let k = c.get.result.now.collection in
-    let same : k ≡ asked.collection = ap (λ (a : Asked g.row.V.Denot). a.collection) c.get.ensures in
-    subst (λ (bs : List (Base g.row.V.Denot)). HasDriven t s c.take_gate.new.seat c.tried_gate.new.self c.tried_gate.result bs)
+    let same : k ≡ asked.collection = ap (λ (a : CollectionCall g.row.V.Denot). a.collection) c.get.ensures in
+    subst (λ (bs : List (Base g.row.V.Denot)). HasDriven t s c.take_gate.new.seat c.on_gate_tried.new.self c.on_gate_tried.result bs)
     (sym c.requires.none)
     (gate_lost c.steps_as_worlds.ensures c.events_keep_copies.ensures.steps c.copies_by_stage.ensures.others t s c.take_gate.new.seat p
-    c.tried_gate.new.self c.tried_gate.result asked c.args.tries k same c.requires.ties c.requires.own c.in-None.ensures
-    c.tried_gate.ensures.does (c.tried_gate.ensures.keeps (laid_in t)) (c.tried_gate.ensures.leaves refl))
+    c.on_gate_tried.new.self c.on_gate_tried.result asked c.args.tries k same c.requires.ties c.requires.own c.in-None.ensures
+    c.on_gate_tried.ensures.does (c.on_gate_tried.ensures.keeps (laid_in t)) (c.on_gate_tried.ensures.leaves refl))
 
 pub returns-in-Some-clause-led : goal.returns-in-Some-clause-led
 returns-in-Some-clause-led g c =
@@ -101,7 +101,7 @@ returns-in-Some-clause-led g c =
     let p = c.args.actor.now in
     let asked = c.args.asked in
     let k = c.get.result.now.collection in
-    let same : k ≡ asked.collection = ap (λ (a : Asked g.row.V.Denot). a.collection) c.get.ensures in
+    let same : k ≡ asked.collection = ap (λ (a : CollectionCall g.row.V.Denot). a.collection) c.get.ensures in
     let won = gate_won c.free_gates_are_held.ensures c.steps_as_worlds.ensures c.events_keep_copies.ensures.steps
     c.copies_by_stage.ensures.others
     t s c.take_gate.new.seat p asked c.args.tries k c.in-Some.base same c.requires.ties c.requires.own c.in-Some.ensures.0
@@ -117,7 +117,7 @@ returns-in-Some-clause-stopped g c =
     let p = c.args.actor.now in
     let asked = c.args.asked in
     let k = c.get.result.now.collection in
-    let same : k ≡ asked.collection = ap (λ (a : Asked g.row.V.Denot). a.collection) c.get.ensures in
+    let same : k ≡ asked.collection = ap (λ (a : CollectionCall g.row.V.Denot). a.collection) c.get.ensures in
     let won = gate_won c.free_gates_are_held.ensures c.steps_as_worlds.ensures c.events_keep_copies.ensures.steps
     c.copies_by_stage.ensures.others
     t s c.take_gate.new.seat p asked c.args.tries k c.in-Some.base same c.requires.ties c.requires.own c.in-Some.ensures.0

@@ -1,13 +1,13 @@
 use Rattle.std.proofs.Common.{[], sym, subst}
 use Rattle.actor_parts.specs.Blocks.{BlocksView}
 use Rattle.tx_actor.specs.Taking.{WasTaken}
-use Rattle.tx_actor.proofs.HavingLemmas.{asks_nothing}
+use Rattle.tx_actor.proofs.CopiesByStageLemmas.{asks_nothing}
 use Rattle.tx_turns.proofs.TurnLemmas.{laid_as}
 use Rattle.tx_turns.proofs.KeyLemmas.{key_behind, key_copied, led_driven}
 use Rattle.tx_turns.proofs.keys.go_key.Goals as goal
 
-pub goes_on_key-requires : goal.goes_on_key-requires
-goes_on_key-requires g c =
+pub continue_keyed-requires : goal.continue_keyed-requires
+continue_keyed-requires g c =
     let t = c.args.table.now in
     let u = c.args.actor.now in
     let p = c.args.taken in
@@ -27,12 +27,12 @@ look_key-requires-clause-ties g c =
     let h = c.requires.put in
     let copied = key_copied (record {
       steps = c.steps_as_worlds.ensures;
-      taken = c.copied_as_worlds.ensures;
+      taken = c.excerpts_as_worlds.ensures;
       on = c.copies_go_on.ensures;
       sized = c.sizes_copies.ensures.sizes;
       of = c.copies_stay_own.ensures.blocks;
       others = c.copies_by_stage.ensures.others;
-    }) c.copied_stay_own.ensures t m u p v laid c.goes_on_key.new.self c.goes_on_key.new.said _ _ c.in-Ok-Some.field-0-is
+    }) c.taken_parts_are_own.ensures t m u p v laid c.continue_keyed.new.self c.continue_keyed.new.said _ _ c.in-Ok-Some.field-0-is
     c.in-Ok-Some.ensures.ok c.in-Ok-Some.ensures.keeps h in
     copied.ties
 
@@ -47,12 +47,12 @@ look_key-requires-clause-own g c =
     let h = c.requires.put in
     let copied = key_copied (record {
       steps = c.steps_as_worlds.ensures;
-      taken = c.copied_as_worlds.ensures;
+      taken = c.excerpts_as_worlds.ensures;
       on = c.copies_go_on.ensures;
       sized = c.sizes_copies.ensures.sizes;
       of = c.copies_stay_own.ensures.blocks;
       others = c.copies_by_stage.ensures.others;
-    }) c.copied_stay_own.ensures t m u p v laid c.goes_on_key.new.self c.goes_on_key.new.said _ _ c.in-Ok-Some.field-0-is
+    }) c.taken_parts_are_own.ensures t m u p v laid c.continue_keyed.new.self c.continue_keyed.new.said _ _ c.in-Ok-Some.field-0-is
     c.in-Ok-Some.ensures.ok c.in-Ok-Some.ensures.keeps h in
     copied.own
 
@@ -66,12 +66,12 @@ returns-in-Ok-Some-clause-led g c h =
     let laid = laid_as t v c.blocks-2.ensures.words c.blocks-2.ensures.blocks in
     let copied = key_copied (record {
       steps = c.steps_as_worlds.ensures;
-      taken = c.copied_as_worlds.ensures;
+      taken = c.excerpts_as_worlds.ensures;
       on = c.copies_go_on.ensures;
       sized = c.sizes_copies.ensures.sizes;
       of = c.copies_stay_own.ensures.blocks;
       others = c.copies_by_stage.ensures.others;
-    }) c.copied_stay_own.ensures t m u p v laid c.goes_on_key.new.self c.goes_on_key.new.said _ _ c.in-Ok-Some.field-0-is
+    }) c.taken_parts_are_own.ensures t m u p v laid c.continue_keyed.new.self c.continue_keyed.new.said _ _ c.in-Ok-Some.field-0-is
     c.in-Ok-Some.ensures.ok c.in-Ok-Some.ensures.keeps h in
     led_driven t h.seat m c.look_key.new.seat c.look_key.new.actor c.look_key.result [] copied.leads c.look_key.ensures
 
@@ -85,12 +85,12 @@ returns-in-Ok-None-clause-led g c h =
     let laid = laid_as t v c.blocks-2.ensures.words c.blocks-2.ensures.blocks in
     let copied = key_copied (record {
       steps = c.steps_as_worlds.ensures;
-      taken = c.copied_as_worlds.ensures;
+      taken = c.excerpts_as_worlds.ensures;
       on = c.copies_go_on.ensures;
       sized = c.sizes_copies.ensures.sizes;
       of = c.copies_stay_own.ensures.blocks;
       others = c.copies_by_stage.ensures.others;
-    }) c.copied_stay_own.ensures t m u p v laid c.goes_on_key.new.self c.goes_on_key.new.said _ _ c.in-Ok-None.field-0-is
+    }) c.taken_parts_are_own.ensures t m u p v laid c.continue_keyed.new.self c.continue_keyed.new.said _ _ c.in-Ok-None.field-0-is
     c.in-Ok-None.ensures.ok c.in-Ok-None.ensures.keeps h in
     copied
 
@@ -104,10 +104,10 @@ returns-in-Err-clause-stopped g c h =
     let laid = laid_as t v c.blocks-2.ensures.words c.blocks-2.ensures.blocks in
     key_behind (record {
       steps = c.steps_as_worlds.ensures;
-      taken = c.copied_as_worlds.ensures;
+      taken = c.excerpts_as_worlds.ensures;
       on = c.copies_go_on.ensures;
       sized = c.sizes_copies.ensures.sizes;
       of = c.copies_stay_own.ensures.blocks;
       others = c.copies_by_stage.ensures.others;
-    }) t m c.refuse.new.seat u p v laid c.goes_on_key.new.self c.refuse.ensures c.in-Err.ensures.err
-    c.in-Err.ensures.bounds (asks_nothing u c.goes_on_key.new.self c.in-Err.ensures.leaves) h
+    }) t m c.refuse.new.seat u p v laid c.continue_keyed.new.self c.refuse.ensures c.in-Err.ensures.err
+    c.in-Err.ensures.bounds (asks_nothing u c.continue_keyed.new.self c.in-Err.ensures.leaves) h

@@ -75,8 +75,8 @@ pub look-told-requires : goal.look-told-requires
 look-told-requires g c =
     record { place = refl }
 
-pub loaded-requires : goal.loaded-requires
-loaded-requires g c =
+pub on_load_step-requires : goal.on_load_step-requires
+on_load_step-requires g c =
     let r = at c.args.actor.now (stage.Loading c.args.call c.args.left) in
     record {
       prepared = (loading_hears (record {
@@ -104,9 +104,9 @@ returns g c =
       others = c.copies_by_stage.ensures.others;
       keep = c.loads_keep_running.ensures;
     }) c.args.table.now c.args.seat.now c.load_lock-found.new.seat
-    (at_place r (Look c.args.location)) c.loaded.new.self c.look-told.new.self c.look-told.result c.loaded.result []
+    (at_place r (Look c.args.location)) c.on_load_step.new.self c.look-told.new.self c.look-told.result c.on_load_step.result []
     refl c.requires.small c.requires.ties c.requires.own
     (look_steps (opening_of c.args.table.now) c.args.seat.now c.load_lock-found.new.seat c.args.actor.now.words c.look-told.new.self
     c.args.location c.load_lock-found.result c.look-told.result c.load_lock-found.ensures c.look-told.ensures.actor
     c.look-told.ensures.answer) (λ _. c.look-told.ensures.room) c.look-told.ensures.keeps.fits
-    c.loaded.ensures.does (c.loaded.ensures.keeps (laid_in c.args.table.now)).running c.loaded.ensures.goes
+    c.on_load_step.ensures.does (c.on_load_step.ensures.keeps (laid_in c.args.table.now)).running c.on_load_step.ensures.goes

@@ -3,20 +3,20 @@ use Rattle.replay_log.specs.declared.base.Base.{Base}
 use Rattle.actor_parts.specs.Blocks.{BlocksView}
 use Rattle.actor_parts.specs.declared.next.Next.TheVariants as next
 use Rattle.tx_actor.specs.Copying.{CanCopy}
-use Rattle.tx_actor.specs.Keeping.{IsRunning}
-use Rattle.tx_actor.specs.declared.actor.Told.TheVariants.{Quiet}
+use Rattle.tx_actor.specs.ActorBounds.{IsRunning}
+use Rattle.tx_actor.specs.declared.actor.ActorNotice.TheVariants.{Quiet}
 use Rattle.tx_actor.specs.declared.actor.TxActor.{TxActor}
 use Rattle.tx_actor.specs.Running.{at}
 use Rattle.tx_actor.specs.Taking.{AreTakenFor}
-use Rattle.tx_actor.specs.declared.actor.Asked.{Asked}
+use Rattle.tx_actor.specs.declared.actor.CollectionCall.{CollectionCall}
 use Rattle.tx_actor.specs.declared.actor.Stage.TheVariants as stage
-use Rattle.tx_actor.specs.declared.taking.Taken.{Taken}
+use Rattle.tx_actor.specs.declared.taking.KeyedCall.{KeyedCall}
 use Rattle.tx_actor.proofs.NameLemmas.{named_copy}
 use Rattle.tx_table.specs.Seated.{blocks_in}
 use Rattle.tx_table.specs.declared.seat.Seat.{Seat}
 use Rattle.tx_turns.proofs.GateLemmas.{copy_due, first_out, held_base, may_put}
 use Rattle.tx_turns.proofs.TurnLemmas.{laid_as}
-use Rattle.tx_turns.proofs.AskedLemmas.{starved}
+use Rattle.tx_turns.proofs.LoneRequestLemmas.{starved}
 use Rattle.tx_turns.specs.Straight.{HasDriven, HasStopped}
 use Rattle.tx_turns.proofs.KeyLemmas.{if_ok, in_hand, key_put, may_take, on_err, put_then, take_starved}
 use Rattle.tx_turns.proofs.keys.take_key.Goals as goal
@@ -32,7 +32,7 @@ takes_call-requires g c =
     let laid = laid_as t v c.blocks-2.ensures.words c.blocks-2.ensures.blocks in
     let can = may_take (record {
       steps = c.steps_as_worlds.ensures;
-      taken = c.copied_as_worlds.ensures;
+      taken = c.excerpts_as_worlds.ensures;
       on = c.copies_go_on.ensures;
       sized = c.sizes_copies.ensures.sizes;
       of = c.copies_stay_own.ensures.blocks;
@@ -53,7 +53,7 @@ put_gate-requires-clause-collection g c =
     let asked = c.args.asked in
     let r = at p (stage.Copying asked) in
     let k = c.get.result.now.collection in
-    let same : k ≡ asked.collection = ap (λ (a : Asked g.row.V.Denot). a.collection) c.get.ensures in
+    let same : k ≡ asked.collection = ap (λ (a : CollectionCall g.row.V.Denot). a.collection) c.get.ensures in
     let due = ap (λ (j : ℕ). next.Copy j) (sym same) in
     named_copy r.stage k (length (blocks_in t)) due c.requires.ties.running.names
 
@@ -64,7 +64,7 @@ put_gate-requires-clause-held g c =
     let asked = c.args.asked in
     let r = at p (stage.Copying asked) in
     let k = c.get.result.now.collection in
-    let same : k ≡ asked.collection = ap (λ (a : Asked g.row.V.Denot). a.collection) c.get.ensures in
+    let same : k ≡ asked.collection = ap (λ (a : CollectionCall g.row.V.Denot). a.collection) c.get.ensures in
     (first_out s r k [] c.requires.own.out (ap (λ (j : ℕ). j ∷ []) (sym same))).0
 
 pub put_gate-requires-clause-due : goal.put_gate-requires-clause-due
@@ -76,7 +76,7 @@ put_gate-requires-clause-due g c =
     let b = c.args.base in
     let r = at p (stage.Copying asked) in
     let k = c.get.result.now.collection in
-    let same : k ≡ asked.collection = ap (λ (a : Asked g.row.V.Denot). a.collection) c.get.ensures in
+    let same : k ≡ asked.collection = ap (λ (a : CollectionCall g.row.V.Denot). a.collection) c.get.ensures in
     let due = ap (λ (j : ℕ). next.Copy j) (sym same) in
     may_put t s r k b c.requires.ties (copy_due c.steps_as_worlds.ensures t s r k due c.requires.ties)
     (held_base t s r k [] (b ∷ []) [] b (ap (λ (j : ℕ). j ∷ []) (sym same)) c.requires.own refl).0
@@ -92,7 +92,7 @@ go_key-requires-clause-put g c =
     let laid = laid_as t v c.blocks-2.ensures.words c.blocks-2.ensures.blocks in
     let can = may_take (record {
       steps = c.steps_as_worlds.ensures;
-      taken = c.copied_as_worlds.ensures;
+      taken = c.excerpts_as_worlds.ensures;
       on = c.copies_go_on.ensures;
       sized = c.sizes_copies.ensures.sizes;
       of = c.copies_stay_own.ensures.blocks;
@@ -100,7 +100,7 @@ go_key-requires-clause-put g c =
     }) t s p asked b c.requires.ties c.requires.own in
     key_put t s c.put_gate.new.seat p c.takes_call.new.self asked b c.get-shown.result.now c.in-Ok-Some.taken v laid
     c.get-shown.ensures c.requires.idle c.requires.ties c.requires.own c.put_gate.ensures can
-    (subst (λ (o : Option (Taken g.row.V.Denot)). AreTakenFor v p c.takes_call.new.self c.get-shown.result.now asked o)
+    (subst (λ (o : Option (KeyedCall g.row.V.Denot)). AreTakenFor v p c.takes_call.new.self c.get-shown.result.now asked o)
     c.in-Ok-Some.field-0-is c.in-Ok-Some.ensures.ok)
 
 pub returns-in-Ok-Some-clause-led : goal.returns-in-Ok-Some-clause-led
@@ -114,7 +114,7 @@ returns-in-Ok-Some-clause-led g c =
     let laid = laid_as t v c.blocks-2.ensures.words c.blocks-2.ensures.blocks in
     let can = may_take (record {
       steps = c.steps_as_worlds.ensures;
-      taken = c.copied_as_worlds.ensures;
+      taken = c.excerpts_as_worlds.ensures;
       on = c.copies_go_on.ensures;
       sized = c.sizes_copies.ensures.sizes;
       of = c.copies_stay_own.ensures.blocks;
@@ -122,7 +122,7 @@ returns-in-Ok-Some-clause-led g c =
     }) t s p asked b c.requires.ties c.requires.own in
     let put = put_then t s c.put_gate.new.seat p c.takes_call.new.self asked b c.get-shown.result.now c.in-Ok-Some.taken v laid
     c.get-shown.ensures c.requires.idle c.requires.ties c.requires.own c.put_gate.ensures can
-    (subst (λ (o : Option (Taken g.row.V.Denot)). AreTakenFor v p c.takes_call.new.self c.get-shown.result.now asked o)
+    (subst (λ (o : Option (KeyedCall g.row.V.Denot)). AreTakenFor v p c.takes_call.new.self c.get-shown.result.now asked o)
     c.in-Ok-Some.field-0-is c.in-Ok-Some.ensures.ok) in
     let m = c.go_key.new.seat in
     let q = c.go_key.new.actor in
@@ -140,7 +140,7 @@ returns-in-Ok-Some-clause-stopped g c =
     let laid = laid_as t v c.blocks-2.ensures.words c.blocks-2.ensures.blocks in
     let can = may_take (record {
       steps = c.steps_as_worlds.ensures;
-      taken = c.copied_as_worlds.ensures;
+      taken = c.excerpts_as_worlds.ensures;
       on = c.copies_go_on.ensures;
       sized = c.sizes_copies.ensures.sizes;
       of = c.copies_stay_own.ensures.blocks;
@@ -148,7 +148,7 @@ returns-in-Ok-Some-clause-stopped g c =
     }) t s p asked b c.requires.ties c.requires.own in
     let put = put_then t s c.put_gate.new.seat p c.takes_call.new.self asked b c.get-shown.result.now c.in-Ok-Some.taken v laid
     c.get-shown.ensures c.requires.idle c.requires.ties c.requires.own c.put_gate.ensures can
-    (subst (λ (o : Option (Taken g.row.V.Denot)). AreTakenFor v p c.takes_call.new.self c.get-shown.result.now asked o)
+    (subst (λ (o : Option (KeyedCall g.row.V.Denot)). AreTakenFor v p c.takes_call.new.self c.get-shown.result.now asked o)
     c.in-Ok-Some.field-0-is c.in-Ok-Some.ensures.ok) in
     let m = c.go_key.new.seat in
     let q = c.go_key.new.actor in
@@ -164,7 +164,7 @@ returns-in-Ok-None-clause-led g c =
     let b = c.args.base in
     let v = c.blocks-2.result.now in
     let hand = in_hand c.args.bases.now.items c.push_reserved.new.self.items b c.push_reserved.ensures.items c.requires.none in
-    let at_it = subst (λ (o : Option (Taken g.row.V.Denot)). AreTakenFor v p c.takes_call.new.self c.get-shown.result.now asked o)
+    let at_it = subst (λ (o : Option (KeyedCall g.row.V.Denot)). AreTakenFor v p c.takes_call.new.self c.get-shown.result.now asked o)
     c.in-Ok-None.field-0-is c.in-Ok-None.ensures.ok in
     subst (λ (z : TxActor g.row.V.Denot × List (Base g.row.V.Denot)). HasDriven t s s z.0 Quiet z.1) (λ i. (sym at_it i, hand i))
     (record { ties = c.requires.ties; own = c.requires.own; leads = λ d f h. h })

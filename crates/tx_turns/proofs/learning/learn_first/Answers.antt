@@ -1,5 +1,5 @@
 use Rattle.std.proofs.Common.{◌∙◌, sym, arith}
-use Rattle.tx_turns.proofs.DueLemmas.{learns_first, learns_nothing_first}
+use Rattle.tx_turns.proofs.NextStepLemmas.{learns_first, learns_nothing_first}
 use Rattle.tx_turns.proofs.learning.learn_first.Goals as goal
 
 pub returns-clause-learns : goal.returns-clause-learns

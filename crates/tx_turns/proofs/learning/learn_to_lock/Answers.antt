@@ -1,5 +1,5 @@
 use Rattle.std.proofs.Common.{arith}
-use Rattle.tx_turns.proofs.DueLemmas.{learns_lock, learns_stamp}
+use Rattle.tx_turns.proofs.NextStepLemmas.{learns_lock, learns_stamp}
 use Rattle.tx_turns.proofs.learning.learn_to_lock.Goals as goal
 
 pub returns-then-i-len-clause-learns : goal.returns-then-i-len-clause-learns

@@ -1,5 +1,5 @@
 use Rattle.std.proofs.Common.{arith}
-use Rattle.tx_turns.proofs.DueLemmas.{learns_store, learns_stored}
+use Rattle.tx_turns.proofs.NextStepLemmas.{learns_store, learns_stored}
 use Rattle.tx_turns.proofs.learning.learn_to_store.Goals as goal
 
 pub returns-then-i-len-clause-learns : goal.returns-then-i-len-clause-learns

@@ -1,7 +1,7 @@
 use Rattle.std.proofs.Common.{subst, sym, refl}
 use Rattle.std.proofs.Common.{Ok, None}
-use Rattle.tx_turns.specs.Dues.{Learns}
-use Rattle.tx_turns.proofs.DueLemmas.{learns_taken, learns_lost}
+use Rattle.tx_turns.specs.NextStep.{Learns}
+use Rattle.tx_turns.proofs.NextStepLemmas.{learns_taken, learns_lost}
 use Rattle.tx_turns.proofs.learning.learn_to_take.Goals as goal
 
 pub returns-then-found-version-clause-learns : goal.returns-then-found-version-clause-learns

@@ -23,8 +23,8 @@ step_words-told-requires-clause-due g c =
     let r = c.args.actor.now in
     word_is_next c.args.table.now c.args.seat.now r (loads_word r r.stage c.requires.loading c.requires.ties.running.room) c.requires.ties
 
-pub loaded-requires : goal.loaded-requires
-loaded-requires g c =
+pub on_load_step-requires : goal.on_load_step-requires
+on_load_step-requires g c =
     let t = c.args.table.now in
     let s = c.args.seat.now in
     let r = c.args.actor.now in
@@ -50,8 +50,8 @@ returns-clause-turned g c =
     let heard = load_hears c.steps_as_worlds.ensures c.loads_keep_running.ensures t s u r y told c.requires.loading ties e.steps
     e.room e.fits in
     (load_tied c.steps_as_worlds.ensures c.loads_as_worlds.ensures.heard c.seats_as_actors.ensures c.loads_stay_own.ensures
-    c.copies_by_stage.ensures.others t s u r c.loaded.new.self y told c.loaded.result c.args.bases.now c.requires.loading ties
-    c.requires.own e.steps c.loaded.ensures.does ((c.loaded.ensures.keeps (laid_in t)).running heard.1) c.loaded.ensures.goes).1
+    c.copies_by_stage.ensures.others t s u r c.on_load_step.new.self y told c.on_load_step.result c.args.bases.now c.requires.loading ties
+    c.requires.own e.steps c.on_load_step.ensures.does ((c.on_load_step.ensures.keeps (laid_in t)).running heard.1) c.on_load_step.ensures.goes).1
 
 pub returns-clause-ties : goal.returns-clause-ties
 returns-clause-ties g c =
@@ -66,8 +66,8 @@ returns-clause-ties g c =
     let heard = load_hears c.steps_as_worlds.ensures c.loads_keep_running.ensures t s u r y told c.requires.loading ties e.steps
     e.room e.fits in
     (load_tied c.steps_as_worlds.ensures c.loads_as_worlds.ensures.heard c.seats_as_actors.ensures c.loads_stay_own.ensures
-    c.copies_by_stage.ensures.others t s u r c.loaded.new.self y told c.loaded.result c.args.bases.now c.requires.loading ties
-    c.requires.own e.steps c.loaded.ensures.does ((c.loaded.ensures.keeps (laid_in t)).running heard.1) c.loaded.ensures.goes).0
+    c.copies_by_stage.ensures.others t s u r c.on_load_step.new.self y told c.on_load_step.result c.args.bases.now c.requires.loading ties
+    c.requires.own e.steps c.on_load_step.ensures.does ((c.on_load_step.ensures.keeps (laid_in t)).running heard.1) c.on_load_step.ensures.goes).0
 
 pub returns-clause-own : goal.returns-clause-own
 returns-clause-own g c =
@@ -82,5 +82,5 @@ returns-clause-own g c =
     let heard = load_hears c.steps_as_worlds.ensures c.loads_keep_running.ensures t s u r y told c.requires.loading ties e.steps
     e.room e.fits in
     (load_tied c.steps_as_worlds.ensures c.loads_as_worlds.ensures.heard c.seats_as_actors.ensures c.loads_stay_own.ensures
-    c.copies_by_stage.ensures.others t s u r c.loaded.new.self y told c.loaded.result c.args.bases.now c.requires.loading ties
-    c.requires.own e.steps c.loaded.ensures.does ((c.loaded.ensures.keeps (laid_in t)).running heard.1) c.loaded.ensures.goes).2
+    c.copies_by_stage.ensures.others t s u r c.on_load_step.new.self y told c.on_load_step.result c.args.bases.now c.requires.loading ties
+    c.requires.own e.steps c.on_load_step.ensures.does ((c.on_load_step.ensures.keeps (laid_in t)).running heard.1) c.on_load_step.ensures.goes).2

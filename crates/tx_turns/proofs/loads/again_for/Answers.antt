@@ -35,8 +35,8 @@ again-told-requires-clause-limit g c = c.requires.ties.running.fits.place.2
 pub again-told-requires-clause-calls : goal.again-told-requires-clause-calls
 again-told-requires-clause-calls g c = c.requires.ties.running.fits.place.3
 
-pub loaded-requires : goal.loaded-requires
-loaded-requires g c = record {
+pub on_load_step-requires : goal.on_load_step-requires
+on_load_step-requires g c = record {
   prepared = (loading_hears (record {
     steps = c.steps_as_worlds.ensures;
     hear = c.loads_as_worlds.ensures.heard;
@@ -62,9 +62,9 @@ returns g c =
       others = c.copies_by_stage.ensures.others;
       keep = c.loads_keep_running.ensures;
     }) c.args.table.now c.args.seat.now c.load_lock-found.new.seat
-    (at_place c.args.actor.now (Again c.args.location c.args.version c.args.value)) c.loaded.new.self c.again-told.new.self
-    c.again-told.result c.loaded.result c.args.bases.now c.requires.loading c.requires.small c.requires.ties c.requires.own
+    (at_place c.args.actor.now (Again c.args.location c.args.version c.args.value)) c.on_load_step.new.self c.again-told.new.self
+    c.again-told.result c.on_load_step.result c.args.bases.now c.requires.loading c.requires.small c.requires.ties c.requires.own
     (again_steps (opening_of c.args.table.now) c.args.seat.now c.load_lock-found.new.seat c.args.actor.now.words c.again-told.new.self
     c.args.location c.args.version c.args.value c.load_lock-found.result c.again-told.result c.load_lock-found.ensures
     c.again-told.ensures.actor c.again-told.ensures.answer) (λ _. c.again-told.ensures.room) c.again-told.ensures.keeps.fits
-    c.loaded.ensures.does (c.loaded.ensures.keeps (laid_in c.args.table.now)).running c.loaded.ensures.goes
+    c.on_load_step.ensures.does (c.on_load_step.ensures.keeps (laid_in c.args.table.now)).running c.on_load_step.ensures.goes

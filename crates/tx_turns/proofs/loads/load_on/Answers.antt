@@ -1,5 +1,5 @@
 use Rattle.std.proofs.Common.{subst}
-use Rattle.tx_actor.specs.declared.actor.Told.{Told}
+use Rattle.tx_actor.specs.declared.actor.ActorNotice.{ActorNotice}
 use Rattle.tx_actor.specs.declared.actor.TxActor.{TxActor}
 use Rattle.tx_table.specs.Seated.{opening_of}
 use Rattle.step_core.specs.declared.actor.Place.TheVariants.{Look}
@@ -11,7 +11,7 @@ use Rattle.tx_turns.proofs.loads.load_on.Goals as goal
 pub returns-in-Ok-clause-leads : goal.returns-in-Ok-clause-leads
 returns-in-Ok-clause-leads g c =
     let o = opening_of c.args.table.now in
-    subst (λ (n : Told _). LeadsOn o c.args.seat.now c.again_for.new.seat n) c.report.ensures.told
+    subst (λ (n : ActorNotice _). LeadsOn o c.args.seat.now c.again_for.new.seat n) c.report.ensures.told
     (leads_then o c.args.seat.now c.look_for.new.seat c.again_for.new.seat c.again_for.result c.in-Ok.ensures.led.leads
     (leads_then o c.look_for.new.seat c.fetch_for-value.new.seat c.again_for.new.seat c.again_for.result c.fetch_for-value.ensures.leads
     c.again_for.ensures.leads))

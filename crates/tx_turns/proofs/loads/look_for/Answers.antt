@@ -43,8 +43,8 @@ returns-then-version-actor-clause-led g c =
 pub look-told-requires : goal.look-told-requires
 look-told-requires g c = record { place = refl }
 
-pub loaded-requires : goal.loaded-requires
-loaded-requires g c = record {
+pub on_load_step-requires : goal.on_load_step-requires
+on_load_step-requires g c = record {
   prepared = (loading_hears (record {
     steps = c.steps_as_worlds.ensures;
     hear = c.loads_as_worlds.ensures.heard;
@@ -69,9 +69,9 @@ returns-clause-moved g c =
       others = c.copies_by_stage.ensures.others;
       keep = c.loads_keep_running.ensures;
     }) c.args.table.now c.args.seat.now c.load_lock-found.new.seat
-    (at_place c.args.actor.now (Look c.args.location)) c.loaded.new.self c.look-told.new.self c.look-told.result c.loaded.result
+    (at_place c.args.actor.now (Look c.args.location)) c.on_load_step.new.self c.look-told.new.self c.look-told.result c.on_load_step.result
     c.args.bases.now c.requires.loading c.requires.small c.requires.ties c.requires.own
     (look_steps (opening_of c.args.table.now) c.args.seat.now c.load_lock-found.new.seat c.args.actor.now.words c.look-told.new.self
     c.args.location c.load_lock-found.result c.look-told.result c.load_lock-found.ensures c.look-told.ensures.actor
-    c.look-told.ensures.answer) (λ _. c.look-told.ensures.room) c.look-told.ensures.keeps.fits c.loaded.ensures.does
-    (c.loaded.ensures.keeps (laid_in c.args.table.now)).running c.loaded.ensures.goes
+    c.look-told.ensures.answer) (λ _. c.look-told.ensures.room) c.look-told.ensures.keeps.fits c.on_load_step.ensures.does
+    (c.on_load_step.ensures.keeps (laid_in c.args.table.now)).running c.on_load_step.ensures.goes

@@ -18,16 +18,16 @@ returns-in-Free-clause-led g c =
     c.requires.inside c.write_at-location.ensures c.requires.small c.requires.ties c.requires.own c.load_lock-found.ensures
     (sym c.in-Free.ensures.is) c.in-Free.ensures.version
 
-pub stepped-requires : goal.stepped-requires
-stepped-requires g c = room_locking _ c.args.actor.now.stage c.requires.stage
+pub on_step-requires : goal.on_step-requires
+on_step-requires g c = room_locking _ c.args.actor.now.stage c.requires.stage
 
 pub returns-clause-busy : goal.returns-clause-busy
 returns-clause-busy g c =
     locking_heard c.steps_as_worlds.ensures c.turns_keep_own.ensures.words c.args.table.now c.args.seat.now c.load_lock-found.new.seat
-    (at_place c.args.actor.now (Lock c.args.i)) c.stepped.new.self c.to_lock-told.new.self c.to_lock-told.result c.stepped.result
+    (at_place c.args.actor.now (Lock c.args.i)) c.on_step.new.self c.to_lock-told.new.self c.to_lock-told.result c.on_step.result
     c.args.bases.now c.requires.stage c.requires.small c.requires.ties c.requires.own
     (seek_steps (opening_of c.args.table.now) c.args.seat.now c.load_lock-found.new.seat c.args.actor.now.words c.to_lock-told.new.self
     c.args.i c.write_at-location.result c.load_lock-found.result c.to_lock-told.result c.load_lock-found.ensures c.requires.inside
     c.write_at-location.ensures c.to_lock-told.ensures.actor c.to_lock-told.ensures.answer)
-    c.to_lock-told.ensures.keeps.fits c.stepped.ensures.does (c.stepped.ensures.keeps (laid_in c.args.table.now)).running
-    (c.stepped.ensures.leaves (quiet_locking c.args.actor.now.stage c.requires.stage))
+    c.to_lock-told.ensures.keeps.fits c.on_step.ensures.does (c.on_step.ensures.keeps (laid_in c.args.table.now)).running
+    (c.on_step.ensures.leaves (quiet_locking c.args.actor.now.stage c.requires.stage))

@@ -16,8 +16,8 @@ lock-requires-clause-due g c =
 pub push_back_reserved-requires : goal.push_back_reserved-requires
 push_back_reserved-requires g c = omega (arith, c.requires.ties.running.fits.place.2)
 
-pub stepped-requires : goal.stepped-requires
-stepped-requires g c = room_locking _ c.args.actor.now.stage c.requires.stage
+pub on_step-requires : goal.on_step-requires
+on_step-requires g c = room_locking _ c.args.actor.now.stage c.requires.stage
 
 pub returns-in-None-clause-led : goal.returns-in-None-clause-led
 returns-in-None-clause-led g c =
@@ -29,7 +29,7 @@ returns-in-None-clause-led g c =
 pub returns-in-Some-clause-busy : goal.returns-in-Some-clause-busy
 returns-in-Some-clause-busy g c =
     take_lost c.steps_as_worlds.ensures c.turns_keep_own.ensures.words c.args.table.now c.args.seat.now c.lock.new.seat c.args.actor.now
-    c.stepped.new.self c.stepped.result c.args.location c.args.version c.args.i c.in-Some.word c.args.bases.now c.requires.stage
-    c.requires.small c.requires.ties c.requires.own c.in-Some.ensures.0 c.in-Some.ensures.1 c.stepped.ensures.does
-    (c.stepped.ensures.keeps (laid_in c.args.table.now)).running
-    (c.stepped.ensures.leaves (quiet_locking c.args.actor.now.stage c.requires.stage))
+    c.on_step.new.self c.on_step.result c.args.location c.args.version c.args.i c.in-Some.word c.args.bases.now c.requires.stage
+    c.requires.small c.requires.ties c.requires.own c.in-Some.ensures.0 c.in-Some.ensures.1 c.on_step.ensures.does
+    (c.on_step.ensures.keeps (laid_in c.args.table.now)).running
+    (c.on_step.ensures.leaves (quiet_locking c.args.actor.now.stage c.requires.stage))

@@ -42,8 +42,8 @@ read-requires g c = record {
       c.requires.ties.running).room;
 }
 
-pub stepped-requires : goal.stepped-requires
-stepped-requires g c =
+pub on_step-requires : goal.on_step-requires
+on_step-requires g c =
     (running_moved (laid_in c.args.table.now) (at_place c.args.actor.now (Again c.args.word c.args.version c.args.value))
     c.again.new.self c.again.ensures.keeps.fits (quiet_reading c.args.actor.now.stage c.args.word c.requires.stage)
     c.requires.ties.running).room
@@ -63,8 +63,8 @@ returns-in-Ok g c =
 pub returns-in-Err : goal.returns-in-Err
 returns-in-Err g c =
     again_last c.steps_as_worlds.ensures c.turns_keep_own.ensures.words c.args.table.now c.args.seat.now c.load_lock-found.new.seat
-    c.args.actor.now c.stepped.new.self c.again.new.self (Err c.in-Err.cause) c.stepped.result c.args.word c.args.version c.args.value
+    c.args.actor.now c.on_step.new.self c.again.new.self (Err c.in-Err.cause) c.on_step.result c.args.word c.args.version c.args.value
     c.load_lock-found.result c.args.bases.now c.requires.stage c.requires.small c.requires.ties c.requires.own c.load_lock-found.ensures
-    c.again.ensures.actor c.in-Err.ensures.answer c.again.ensures.keeps.fits c.stepped.ensures.does
-    (c.stepped.ensures.keeps (laid_in c.args.table.now)).running
-    (c.stepped.ensures.leaves (quiet_reading c.args.actor.now.stage c.args.word c.requires.stage))
+    c.again.ensures.actor c.in-Err.ensures.answer c.again.ensures.keeps.fits c.on_step.ensures.does
+    (c.on_step.ensures.keeps (laid_in c.args.table.now)).running
+    (c.on_step.ensures.leaves (quiet_reading c.args.actor.now.stage c.args.word c.requires.stage))

@@ -33,16 +33,16 @@ returns-then-version-actor-clause-led g c =
 pub look-told-requires : goal.look-told-requires
 look-told-requires g c = record { place = refl }
 
-pub stepped-requires : goal.stepped-requires
-stepped-requires g c =
+pub on_step-requires : goal.on_step-requires
+on_step-requires g c =
     (running_moved (laid_in c.args.table.now) (at_place c.args.actor.now (Look c.args.word)) c.look-told.new.self
     c.look-told.ensures.keeps.fits (quiet_reading c.args.actor.now.stage c.args.word c.requires.stage) c.requires.ties.running).room
 
 pub returns-clause-moved : goal.returns-clause-moved
 returns-clause-moved g c =
     look_last c.steps_as_worlds.ensures c.turns_keep_own.ensures.words c.args.table.now c.args.seat.now c.load_lock-found.new.seat
-    c.args.actor.now c.stepped.new.self c.look-told.new.self c.look-told.result c.stepped.result c.args.word c.load_lock-found.result
+    c.args.actor.now c.on_step.new.self c.look-told.new.self c.look-told.result c.on_step.result c.args.word c.load_lock-found.result
     c.args.bases.now c.requires.stage c.requires.small c.requires.ties c.requires.own c.load_lock-found.ensures c.look-told.ensures.actor
-    c.look-told.ensures.answer c.look-told.ensures.keeps.fits c.stepped.ensures.does
-    (c.stepped.ensures.keeps (laid_in c.args.table.now)).running
-    (c.stepped.ensures.leaves (quiet_reading c.args.actor.now.stage c.args.word c.requires.stage))
+    c.look-told.ensures.answer c.look-told.ensures.keeps.fits c.on_step.ensures.does
+    (c.on_step.ensures.keeps (laid_in c.args.table.now)).running
+    (c.on_step.ensures.leaves (quiet_reading c.args.actor.now.stage c.args.word c.requires.stage))

@@ -4,8 +4,8 @@ use Rattle.tx_actor.proofs.StepLemmas.{running_moved}
 use Rattle.tx_actor.specs.Running.{stage_of}
 use Rattle.tx_actor.specs.declared.actor.Stage.{Stage}
 use Rattle.tx_actor.specs.declared.actor.Stage.TheVariants as stage
-use Rattle.tx_actor.specs.declared.actor.Told.{Told}
-use Rattle.tx_actor.specs.declared.actor.Told.TheVariants as told
+use Rattle.tx_actor.specs.declared.actor.ActorNotice.{ActorNotice}
+use Rattle.tx_actor.specs.declared.actor.ActorNotice.TheVariants as told
 use Rattle.tx_table.specs.Seated.{opening_of}
 use Rattle.tx_turns.proofs.TurnLemmas.{word_is_due, word_is_next, word_turned}
 use Rattle.tx_turns.specs.Ties.{laid_in}
@@ -74,8 +74,8 @@ steps-smaller g c =
     nearer t s u r told.Quiet c.steps.invariant.0 h.1 c.requires.small refl
 
 -- the last, of a call whose locations are read
-pub loaded-requires : goal.loaded-requires
-loaded-requires g c =
+pub on_load_step-requires : goal.on_load_step-requires
+on_load_step-requires g c =
     let e = c.step_words-told.ensures in
     record {
       prepared = (load_hears c.steps_as_worlds.ensures c.loads_keep_running.ensures c.args.table.now c.steps.seat
@@ -96,10 +96,10 @@ returns-in-Loading-clause-leads g c =
     let loading = ap (λ (z : Stage _). is_loading (stage_of z)) c.in-Loading.is in
     let heard = load_hears c.steps_as_worlds.ensures c.loads_keep_running.ensures t s u r y m loading ties e.steps e.room e.fits in
     let h = load_tied c.steps_as_worlds.ensures c.loads_as_worlds.ensures.heard c.seats_as_actors.ensures c.loads_stay_own.ensures
-    c.copies_by_stage.ensures.others t s u r c.loaded.new.self y m c.loaded.result c.args.bases.now loading ties c.steps.invariant.1
-    e.steps c.loaded.ensures.does ((c.loaded.ensures.keeps (laid_in t)).running heard.1) c.loaded.ensures.goes in
-    subst (λ (n : Told _). LeadsOn (opening_of t) c.args.seat.now u n) c.report.ensures.told
-    (leads_on t c.args.seat.now s u r c.loaded.result c.steps.invariant.3 ties h.1
+    c.copies_by_stage.ensures.others t s u r c.on_load_step.new.self y m c.on_load_step.result c.args.bases.now loading ties c.steps.invariant.1
+    e.steps c.on_load_step.ensures.does ((c.on_load_step.ensures.keeps (laid_in t)).running heard.1) c.on_load_step.ensures.goes in
+    subst (λ (n : ActorNotice _). LeadsOn (opening_of t) c.args.seat.now u n) c.report.ensures.told
+    (leads_on t c.args.seat.now s u r c.on_load_step.result c.steps.invariant.3 ties h.1
     (ap (λ (z : Stage _). next_of (stage_of z)) c.steps.invariant.2 ∙ c.requires.due)
     (subst (λ (z : Stage _). z ≡ stage.Closing → ⊥) (sym c.steps.invariant.2) c.requires.open) c.requires.small)
 
@@ -116,8 +116,8 @@ returns-in-Loading-clause-ties g c =
     let loading = ap (λ (z : Stage _). is_loading (stage_of z)) c.in-Loading.is in
     let heard = load_hears c.steps_as_worlds.ensures c.loads_keep_running.ensures t s u r y m loading ties e.steps e.room e.fits in
     let h = load_tied c.steps_as_worlds.ensures c.loads_as_worlds.ensures.heard c.seats_as_actors.ensures c.loads_stay_own.ensures
-    c.copies_by_stage.ensures.others t s u r c.loaded.new.self y m c.loaded.result c.args.bases.now loading ties c.steps.invariant.1
-    e.steps c.loaded.ensures.does ((c.loaded.ensures.keeps (laid_in t)).running heard.1) c.loaded.ensures.goes in
+    c.copies_by_stage.ensures.others t s u r c.on_load_step.new.self y m c.on_load_step.result c.args.bases.now loading ties c.steps.invariant.1
+    e.steps c.on_load_step.ensures.does ((c.on_load_step.ensures.keeps (laid_in t)).running heard.1) c.on_load_step.ensures.goes in
     h.0
 
 pub returns-in-Loading-clause-own : goal.returns-in-Loading-clause-own
@@ -133,13 +133,13 @@ returns-in-Loading-clause-own g c =
     let loading = ap (λ (z : Stage _). is_loading (stage_of z)) c.in-Loading.is in
     let heard = load_hears c.steps_as_worlds.ensures c.loads_keep_running.ensures t s u r y m loading ties e.steps e.room e.fits in
     let h = load_tied c.steps_as_worlds.ensures c.loads_as_worlds.ensures.heard c.seats_as_actors.ensures c.loads_stay_own.ensures
-    c.copies_by_stage.ensures.others t s u r c.loaded.new.self y m c.loaded.result c.args.bases.now loading ties c.steps.invariant.1
-    e.steps c.loaded.ensures.does ((c.loaded.ensures.keeps (laid_in t)).running heard.1) c.loaded.ensures.goes in
+    c.copies_by_stage.ensures.others t s u r c.on_load_step.new.self y m c.on_load_step.result c.args.bases.now loading ties c.steps.invariant.1
+    e.steps c.on_load_step.ensures.does ((c.on_load_step.ensures.keeps (laid_in t)).running heard.1) c.on_load_step.ensures.goes in
     h.2
 
 -- and at any other stage
-pub stepped-requires : goal.stepped-requires
-stepped-requires g c =
+pub on_step-requires : goal.on_step-requires
+on_step-requires g c =
     (running_moved (laid_in c.args.table.now) c.steps.actor c.step_words-told.new.actor c.step_words-told.ensures.fits
     (not_loading c.steps.actor.stage c.in_default.not-Loading) c.steps.invariant.0.running).room
 
@@ -154,11 +154,11 @@ returns-in_default-clause-leads g c =
     let ties = c.steps.invariant.0 in
     let due = ap (λ (z : Stage _). next_of (stage_of z)) c.steps.invariant.2 ∙ c.requires.due in
     let quiet = not_loading r.stage c.in_default.not-Loading in
-    let h = word_turned c.steps_as_worlds.ensures t s u r c.stepped.new.self y c.step_words-told.result c.stepped.result due quiet ties
-    e.steps c.stepped.ensures.does
-    ((c.stepped.ensures.keeps (laid_in t)).running (running_moved (laid_in t) r y e.fits quiet ties.running)) in
-    subst (λ (n : Told _). LeadsOn (opening_of t) c.args.seat.now u n) c.report-in_default.ensures.told
-    (leads_on t c.args.seat.now s u r c.stepped.result c.steps.invariant.3 ties h.1
+    let h = word_turned c.steps_as_worlds.ensures t s u r c.on_step.new.self y c.step_words-told.result c.on_step.result due quiet ties
+    e.steps c.on_step.ensures.does
+    ((c.on_step.ensures.keeps (laid_in t)).running (running_moved (laid_in t) r y e.fits quiet ties.running)) in
+    subst (λ (n : ActorNotice _). LeadsOn (opening_of t) c.args.seat.now u n) c.report-in_default.ensures.told
+    (leads_on t c.args.seat.now s u r c.on_step.result c.steps.invariant.3 ties h.1
     (ap (λ (z : Stage _). next_of (stage_of z)) c.steps.invariant.2 ∙ c.requires.due)
     (subst (λ (z : Stage _). z ≡ stage.Closing → ⊥) (sym c.steps.invariant.2) c.requires.open) c.requires.small)
 
@@ -173,9 +173,9 @@ returns-in_default-clause-ties g c =
     let ties = c.steps.invariant.0 in
     let due = ap (λ (z : Stage _). next_of (stage_of z)) c.steps.invariant.2 ∙ c.requires.due in
     let quiet = not_loading r.stage c.in_default.not-Loading in
-    let h = word_turned c.steps_as_worlds.ensures t s u r c.stepped.new.self y c.step_words-told.result c.stepped.result due quiet ties
-    e.steps c.stepped.ensures.does
-    ((c.stepped.ensures.keeps (laid_in t)).running (running_moved (laid_in t) r y e.fits quiet ties.running)) in
+    let h = word_turned c.steps_as_worlds.ensures t s u r c.on_step.new.self y c.step_words-told.result c.on_step.result due quiet ties
+    e.steps c.on_step.ensures.does
+    ((c.on_step.ensures.keeps (laid_in t)).running (running_moved (laid_in t) r y e.fits quiet ties.running)) in
     h.0
 
 pub returns-in_default-clause-own : goal.returns-in_default-clause-own
@@ -189,8 +189,8 @@ returns-in_default-clause-own g c =
     let ties = c.steps.invariant.0 in
     let due = ap (λ (z : Stage _). next_of (stage_of z)) c.steps.invariant.2 ∙ c.requires.due in
     let quiet = not_loading r.stage c.in_default.not-Loading in
-    let h = word_turned c.steps_as_worlds.ensures t s u r c.stepped.new.self y c.step_words-told.result c.stepped.result due quiet ties
-    e.steps c.stepped.ensures.does
-    ((c.stepped.ensures.keeps (laid_in t)).running (running_moved (laid_in t) r y e.fits quiet ties.running)) in
-    c.turns_keep_own.ensures.words t s u r c.stepped.new.self c.stepped.result c.args.bases.now ties c.steps.invariant.1 h.1 h.0
-    (c.stepped.ensures.leaves quiet) due quiet
+    let h = word_turned c.steps_as_worlds.ensures t s u r c.on_step.new.self y c.step_words-told.result c.on_step.result due quiet ties
+    e.steps c.on_step.ensures.does
+    ((c.on_step.ensures.keeps (laid_in t)).running (running_moved (laid_in t) r y e.fits quiet ties.running)) in
+    c.turns_keep_own.ensures.words t s u r c.on_step.new.self c.on_step.result c.args.bases.now ties c.steps.invariant.1 h.1 h.0
+    (c.on_step.ensures.leaves quiet) due quiet

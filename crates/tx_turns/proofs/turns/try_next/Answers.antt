@@ -1,7 +1,7 @@
 use Rattle.std.proofs.Common.{inl, subst}
 use Rattle.tx_table.specs.declared.seat.Seat.{Seat}
 use Rattle.tx_table.specs.Seated.{opening_of}
-use Rattle.tx_turns.specs.Asked.{Starved}
+use Rattle.tx_turns.specs.RequestStep.{Starved}
 use Rattle.tx_turns.proofs.turns.try_next.Goals as goal
 
 pub returns-in-Err-clause-own : goal.returns-in-Err-clause-own

@@ -20,27 +20,27 @@ pub step_words-told-requires-clause-due : goal.step_words-told-requires-clause-d
 step_words-told-requires-clause-due g c =
     word_is_next c.args.table.now c.args.seat.now c.args.actor.now c.requires.due c.requires.ties
 
-pub stepped-requires : goal.stepped-requires
-stepped-requires g c = (running_moved (laid_in c.args.table.now) c.args.actor.now c.step_words-told.new.actor c.step_words-told.ensures.fits
+pub on_step-requires : goal.on_step-requires
+on_step-requires g c = (running_moved (laid_in c.args.table.now) c.args.actor.now c.step_words-told.new.actor c.step_words-told.ensures.fits
     c.requires.word c.requires.ties.running).room
 
 pub returns-clause-turned : goal.returns-clause-turned
 returns-clause-turned g c =
     let t = c.args.table.now in
     let y = c.step_words-told.new.actor in
-    (word_turned c.steps_as_worlds.ensures t c.args.seat.now c.step_words-told.new.seat c.args.actor.now c.stepped.new.self y
-    c.step_words-told.result c.stepped.result c.requires.due c.requires.word c.requires.ties c.step_words-told.ensures.steps
-    c.stepped.ensures.does ((c.stepped.ensures.keeps (laid_in t)).running
+    (word_turned c.steps_as_worlds.ensures t c.args.seat.now c.step_words-told.new.seat c.args.actor.now c.on_step.new.self y
+    c.step_words-told.result c.on_step.result c.requires.due c.requires.word c.requires.ties c.step_words-told.ensures.steps
+    c.on_step.ensures.does ((c.on_step.ensures.keeps (laid_in t)).running
     (running_moved (laid_in t) c.args.actor.now y c.step_words-told.ensures.fits c.requires.word c.requires.ties.running))).1
 
 pub returns-clause-ties : goal.returns-clause-ties
 returns-clause-ties g c =
     let t = c.args.table.now in
     let y = c.step_words-told.new.actor in
-    (word_turned c.steps_as_worlds.ensures t c.args.seat.now c.step_words-told.new.seat c.args.actor.now c.stepped.new.self y
-    c.step_words-told.result c.stepped.result c.requires.due c.requires.word c.requires.ties c.step_words-told.ensures.steps
-    c.stepped.ensures.does ((c.stepped.ensures.keeps (laid_in t)).running
+    (word_turned c.steps_as_worlds.ensures t c.args.seat.now c.step_words-told.new.seat c.args.actor.now c.on_step.new.self y
+    c.step_words-told.result c.on_step.result c.requires.due c.requires.word c.requires.ties c.step_words-told.ensures.steps
+    c.on_step.ensures.does ((c.on_step.ensures.keeps (laid_in t)).running
     (running_moved (laid_in t) c.args.actor.now y c.step_words-told.ensures.fits c.requires.word c.requires.ties.running))).0
 
 pub returns-clause-leaves : goal.returns-clause-leaves
-returns-clause-leaves g c = c.stepped.ensures.leaves c.requires.word
+returns-clause-leaves g c = c.on_step.ensures.leaves c.requires.word

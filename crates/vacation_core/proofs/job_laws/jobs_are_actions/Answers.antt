@@ -1,4 +1,4 @@
-use Rattle.vacation_core.proofs.ServedLemmas.{jobs_are_actions, replies_are_told}
+use Rattle.vacation_core.proofs.ReceiptLemmas.{jobs_are_actions, replies_are_told}
 use Rattle.vacation_core.proofs.job_laws.jobs_are_actions.Goals as goal
 
 pub returns-clause-actions : goal.returns-clause-actions

@@ -1,5 +1,5 @@
 use Rattle.std.proofs.Common.{length}
-use Rattle.vacation_core.proofs.PlayingLemmas.{AllowsSo}
+use Rattle.vacation_core.proofs.EventListLemmas.{AllowsSo}
 use Rattle.vacation_core.proofs.run.are_allowed.Given as goal
 
 abbrev pub decreases-loop-event : goal.decreases-loop-event

@@ -1,6 +1,6 @@
 use Rattle.std.proofs.Common.{◌-◌, refl, arith}
 use Rattle.std.proofs.lemmas.Option.{slice_get_read}
-use Rattle.vacation_core.proofs.ToldLemmas.{actor_in, first_done, is_at, session_in, told_one}
+use Rattle.vacation_core.proofs.CommittedAnswerLemmas.{actor_in, first_done, is_at, session_in, told_one}
 use Rattle.vacation_core.proofs.told.tell.Goals as goal
 
 pub overflow_sub-i : goal.overflow_sub-i

@@ -1,6 +1,6 @@
 use Rattle.std.proofs.Common.{◌∙◌, subst, sym, length}
 use Rattle.std.specs.Prelude.{replicate}
-use Rattle.vacation_core.proofs.ToldLemmas.{IsTelling, has_first, tells_all, tells_first, tells_one}
+use Rattle.vacation_core.proofs.CommittedAnswerLemmas.{IsTelling, has_first, tells_all, tells_first, tells_one}
 use Rattle.vacation_core.proofs.told.tell_all.Goals as goal
 
 pub tell-requires-clause-own : goal.tell-requires-clause-own

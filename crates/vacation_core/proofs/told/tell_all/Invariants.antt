@@ -1,7 +1,7 @@
 use Rattle.std.proofs.Common.{◌≡◌, List, [], length}
 use Rattle.std.specs.Prelude.{replicate}
-use Rattle.vacation_core.specs.Told.{Told}
-use Rattle.vacation_core.proofs.ToldLemmas.{IsTelling}
+use Rattle.vacation_core.specs.CommittedAnswers.{Told}
+use Rattle.vacation_core.proofs.CommittedAnswerLemmas.{IsTelling}
 use Rattle.vacation_core.proofs.told.tell_all.Given as goal
 
 abbrev pub decreases-loop-entry : goal.decreases-loop-entry

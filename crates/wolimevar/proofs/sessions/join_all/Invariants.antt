@@ -3,7 +3,7 @@ use Rattle.std.specs.Prelude.{All}
 use Rattle.std.specs.Vec.{vec_capacity, vec_len}
 use Rattle.std.specs.Vec.Iter.{into_iter_items}
 use Rattle.tx_table.specs.Seated.{view}
-use Rattle.tx_turns.specs.Requested.{requests_of}
+use Rattle.tx_turns.specs.RequestHistory.{requests_of}
 use Rattle.tx_engine.specs.Ready.{IsReady}
 use Rattle.wolimevar.specs.Sessions.{IsFinished, joined, receipts_at}
 use Rattle.wolimevar.proofs.sessions.join_all.Given as goal

@@ -2,7 +2,7 @@ use Rattle.std.proofs.Common.{◌≡◌, Bool, true, false, leb, get_or, sym, ap
 use Rattle.std.specs.List.Sorted.{IsPartitionedBy, IsPartitionPoint}
 use Rattle.std.proofs.lemmas.List.Sorted.{IsPartitionPoint-from_clause}
 use Rattle.seq_model.specs.declared.kind.Kind.TheVariants as kind
-use Rattle.actor_parts.specs.declared.blocks.Placed.{Placed}
+use Rattle.actor_parts.specs.declared.blocks.BlockSpan.{BlockSpan}
 use Rattle.actor_parts.specs.Blocks.{BlocksView, home_in}
 use Rattle.actor_parts.proofs.BlocksLemmas.{beyond, home_there, no_home_beyond, no_home_word, parted, up_to}
 use Rattle.actor_parts.proofs.blocks.Blocks.home_of.Goals as goal
@@ -16,7 +16,7 @@ pub returns-then-at-len : goal.returns-then-at-len
 returns-then-at-len c =
     let l = c.args.location in
     let ps = c.self.inside.placed.items in
-    let p : Placed → Bool = λ b. leb b.end l in
+    let p : BlockSpan → Bool = λ b. leb b.end l in
     let same = c.deref.ensures.value in
     let i = c.partition_point-at.result in
     let sorted : IsPartitionedBy p c.deref.result.now =
@@ -33,7 +33,7 @@ pub returns : goal.returns
 returns c =
     let l = c.args.location in
     let ps = c.self.inside.placed.items in
-    let p : Placed → Bool = λ b. leb b.end l in
+    let p : BlockSpan → Bool = λ b. leb b.end l in
     let same = c.deref.ensures.value in
     let i = c.partition_point-at.result in
     let sorted : IsPartitionedBy p c.deref.result.now =

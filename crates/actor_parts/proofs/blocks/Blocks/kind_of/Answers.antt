@@ -1,6 +1,6 @@
 use Rattle.std.proofs.Common.{◌<◌, Some, None, length, get_or, sym, ap, subst, arith}
 use Rattle.actor_parts.specs.Blocks.{BlocksView, IsKindAt, block_of, kind_of}
-use Rattle.actor_parts.specs.declared.blocks.Placed.{Placed}
+use Rattle.actor_parts.specs.declared.blocks.BlockSpan.{BlockSpan}
 use Rattle.actor_parts.proofs.BlocksLemmas.{block_at, length_blocks, no_block_at}
 use Rattle.actor_parts.proofs.blocks.Blocks.kind_of.Goals as goal
 
@@ -21,5 +21,5 @@ returns c =
       block_of (get_or ps k d),
       omega (arith, length_blocks ps, within),
       at,
-      ap (λ (p : Placed). kind_of p.kind) (sym c.index.ensures),
+      ap (λ (p : BlockSpan). kind_of p.kind) (sym c.index.ensures),
     )

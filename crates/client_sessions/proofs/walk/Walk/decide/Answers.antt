@@ -1,7 +1,7 @@
 use Rattle.std.proofs.Common.{rules, ◌≡◌, ◌∙◌, ap, sym, Some}
 use Rattle.seq_model.specs.Programs.{after}
 use Rattle.vac_model.specs.Actions.{take_units}
-use Rattle.vac_model.specs.declared.action.Part.TheVariants as part
+use Rattle.vac_model.specs.declared.action.KindReply.TheVariants as part
 use Rattle.client_sessions.specs.Sessions as programs
 use Rattle.client_sessions.specs.Drafts.{drafted}
 use Rattle.client_sessions.proofs.WalkLemmas.{lines_up, books, along, stops_along}

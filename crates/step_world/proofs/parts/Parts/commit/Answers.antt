@@ -11,7 +11,7 @@ use Rattle.step_world.proofs.TraceLemmas.{serial_at}
 use Rattle.step_world.proofs.WorldLemmas.{may_take, shape_laid}
 use Rattle.step_world.proofs.OwnTurnLemmas.{keeps_step}
 use Rattle.tx_actor.proofs.OwnLemmas.{calm_at, refused_store}
-use Rattle.tx_actor.specs.Keeping.{NamesAmong}
+use Rattle.tx_actor.specs.ActorBounds.{NamesAmong}
 use Rattle.tx_actor.specs.Running.{stage_of}
 use Rattle.tx_actor.specs.declared.actor.TxActor.{TxActor}
 use Rattle.step_world.specs.Homes.{HasRoomDue, HasRoomLeft}

@@ -3,7 +3,7 @@ use Rattle.std.proofs.lemmas.Option.{slice_get_read}
 use Rattle.seq_model.specs.declared.event.Event.TheVariants.{Starve}
 use Rattle.tx_actor.specs.Running.{asked_of, stage_of}
 use Rattle.tx_actor.specs.declared.actor.Stage.{Stage}
-use Rattle.tx_actor.specs.declared.actor.Told.TheVariants.{Quiet}
+use Rattle.tx_actor.specs.declared.actor.ActorNotice.TheVariants.{Quiet}
 use Rattle.actor_parts.specs.declared.table.Table.{Table}
 use Rattle.step_world.specs.Parts.{Happens}
 use Rattle.tx_actor.proofs.CopyLemmas.{copying_is, quiet_copy}

@@ -2,7 +2,7 @@ use Rattle.std.proofs.Common.{arith, length, refl}
 use Rattle.std.proofs.lemmas.Option.{slice_get_read}
 use Rattle.tx_actor.specs.Running.{stage_of}
 use Rattle.tx_actor.proofs.HomeLemmas.{quiet_home}
-use Rattle.step_world.proofs.HomingLemmas.{keeps_home, may_go, none_at_home, room_home, turn_home}
+use Rattle.step_world.proofs.HomeInWorldLemmas.{keeps_home, may_go, none_at_home, room_home, turn_home}
 use Rattle.tx_actor.proofs.NameLemmas.{named_home}
 use Rattle.step_world.proofs.PartsLemmas.{passes, same_cells}
 use Rattle.step_world.proofs.WorldLemmas.{shape_laid}

@@ -2,7 +2,7 @@ use Rattle.std.proofs.Common.{subst, sym}
 use Rattle.replay_log.specs.WorldProgress.{AreSmall}
 use Rattle.step_world.specs.Serial.{IsFrom}
 use Rattle.step_world.specs.Events.{IsFedTo}
-use Rattle.step_world.proofs.FedLemmas.{well_fed}
+use Rattle.step_world.proofs.ReachedLemmas.{well_fed}
 use Rattle.step_world.proofs.PromiseLemmas.{fed_to, small_fed}
 use Rattle.step_world.proofs.SerialLemmas.{from_fed, serial_from}
 use Rattle.step_world.proofs.world.World.feed.Goals as goal

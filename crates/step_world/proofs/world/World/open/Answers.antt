@@ -1,6 +1,6 @@
 use Rattle.std.proofs.Common.{refl}
 use Rattle.actor_parts.specs.Openings.{world_of}
-use Rattle.step_world.proofs.FedLemmas.{opened_well}
+use Rattle.step_world.proofs.ReachedLemmas.{opened_well}
 use Rattle.step_world.proofs.PromiseLemmas.{few_locations, small_opened}
 use Rattle.step_world.proofs.SerialLemmas.{serial_from}
 use Rattle.step_world.proofs.world.World.open.Goals as goal

@@ -12,24 +12,24 @@ use Rattle.actor_parts.specs.Writes.{MayWrite, written_as}
 use Rattle.replay_log.specs.Contents.{end_of}
 use Rattle.step_core.specs.Sound.{owed}
 use Rattle.step_core.specs.declared.actor.Place.{Place}
-use Rattle.tx_actor.specs.declared.actor.Answered as running
-use Rattle.tx_actor.specs.declared.actor.Told.TheVariants as told
-use Rattle.actor_parts.proofs.TakingLemmas.{at_place}
-use Rattle.tx_actor.proofs.KeepingLemmas.{keeps_open}
+use Rattle.tx_actor.specs.declared.actor.CallWithOutcome as running
+use Rattle.tx_actor.specs.declared.actor.ActorNotice.TheVariants as told
+use Rattle.actor_parts.proofs.TakeBackLemmas.{at_place}
+use Rattle.tx_actor.proofs.ActorBoundsLemmas.{keeps_open}
 use Rattle.tx_actor.proofs.RoomLemmas.{fits_written}
 use Rattle.tx_actor.proofs.AnswerLemmas.{accepted_as, pieces_stay}
 use Rattle.tx_actor.proofs.actor.TxActor.accepts.Goals as goal
 
 pub write_all-requires : goal.write_all-requires
 write_all-requires g c =
-    let same = c.deref.ensures ∙ ap (λ (d : running.Answered g.row.V.Denot). d.writes.items) c.get_mut-answered.ensures.value in
+    let same = c.deref.ensures ∙ ap (λ (d : running.CallWithOutcome g.row.V.Denot). d.writes.items) c.get_mut-answered.ensures.value in
     subst (λ (ds : Entries). MayWrite c.args.self.now.words ds) (sym same) c.requires.prepared.writes
 
 pub accept_at-kept-requires : goal.accept_at-kept-requires
 accept_at-kept-requires g c =
     let is = c.get_mut-answered.ensures.value in
-    let at : c.get_mut-answered.result.now.place ≡ c.args.call.place = ap (λ (d : running.Answered g.row.V.Denot). d.place) is in
-    let outcome : c.get_mut-answered.result.now.outcome ≡ c.args.call.outcome = ap (λ (d : running.Answered g.row.V.Denot). d.outcome) is in
+    let at : c.get_mut-answered.result.now.place ≡ c.args.call.place = ap (λ (d : running.CallWithOutcome g.row.V.Denot). d.place) is in
+    let outcome : c.get_mut-answered.result.now.outcome ≡ c.args.call.outcome = ap (λ (d : running.CallWithOutcome g.row.V.Denot). d.outcome) is in
     let here = at_place c.args.self.now.copies.items c.args.call.place c.requires.prepared.place in
     let own = c.requires.prepared.own here.0 here.1 in
     record {
@@ -45,19 +45,19 @@ returns-clause-does g c a w s may =
     let call = c.args.call in
     let is : c.get_mut-answered.result.now ≡ call = c.get_mut-answered.ensures.value in
     let op : c.replace-op.result ≡ call.asked.op =
-    c.replace-op.ensures.value ∙ ap (λ (d : running.Answered g.row.V.Denot). d.asked.op) is in
+    c.replace-op.ensures.value ∙ ap (λ (d : running.CallWithOutcome g.row.V.Denot). d.asked.op) is in
     let here = at_place old.copies.items call.place c.requires.prepared.place in
     let own = c.requires.prepared.own here.0 here.1 in
-    let kept = c.accept_at-kept.ensures.reply own.0 (ap (λ (d : running.Answered g.row.V.Denot). d.outcome) is ∙ own.1)
+    let kept = c.accept_at-kept.ensures.reply own.0 (ap (λ (d : running.CallWithOutcome g.row.V.Denot). d.outcome) is ∙ own.1)
     ∙ c.requires.prepared.kept own.0 own.1 in
-    let told = c.replace-told.ensures.value ∙ (ap (λ (d : running.Answered g.row.V.Denot). d.told) is ∙ c.requires.prepared.told) in
+    let told = c.replace-told.ensures.value ∙ (ap (λ (d : running.CallWithOutcome g.row.V.Denot). d.told) is ∙ c.requires.prepared.told) in
     let calls = c.push_reserved.ensures.items
     ∙ (λ i. old.calls.items ++ (record { target = (is i).asked.collection; op = op i }, kept i) ∷ []) in
     let accepted : IsAcceptedAt call.place call.outcome old.copies.items c.accept_at-kept.new.copies.items =
-    subst (λ (d : running.Answered g.row.V.Denot). IsAcceptedAt d.place d.outcome old.copies.items c.accept_at-kept.new.copies.items) is
+    subst (λ (d : running.CallWithOutcome g.row.V.Denot). IsAcceptedAt d.place d.outcome old.copies.items c.accept_at-kept.new.copies.items) is
     c.accept_at-kept.ensures.accepted in
     let pieces = pieces_stay call.place call.outcome old.copies.items c.accept_at-kept.new.copies.items accepted in
-    let writes = c.deref.ensures ∙ ap (λ (d : running.Answered g.row.V.Denot). d.writes.items) is in (
+    let writes = c.deref.ensures ∙ ap (λ (d : running.CallWithOutcome g.row.V.Denot). d.writes.items) is in (
       accepted_as a w (seat_of old) _ _ (answered_of call) _ tt may.guard may.outcome
           (c.write_all.ensures.actor
           ∙ (ap (λ (ds : Entries). written_as (actor_of old.words) ds) writes
@@ -68,13 +68,13 @@ returns-clause-does g c a w s may =
 
 pub returns-clause-copies : goal.returns-clause-copies
 returns-clause-copies g c =
-    subst (λ (d : running.Answered g.row.V.Denot).
+    subst (λ (d : running.CallWithOutcome g.row.V.Denot).
     IsAcceptedAt d.place d.outcome c.args.self.now.copies.items c.accept_at-kept.new.copies.items) c.get_mut-answered.ensures.value
     c.accept_at-kept.ensures.accepted
 
 pub returns-clause-told : goal.returns-clause-told
 returns-clause-told g c =
-    let is = c.replace-told.ensures.value ∙ ap (λ (d : running.Answered g.row.V.Denot). d.told) c.get_mut-answered.ensures.value in
+    let is = c.replace-told.ensures.value ∙ ap (λ (d : running.CallWithOutcome g.row.V.Denot). d.told) c.get_mut-answered.ensures.value in
     (refl, λ i. told.Answered (answer.Replied (is i)))
 
 pub returns-clause-keeps : goal.returns-clause-keeps
@@ -82,7 +82,7 @@ returns-clause-keeps g c v below =
     let old = c.args.self.now in
     let ds = c.args.call.writes.items in
     let end = end_of v.words v.blocks in
-    let writes = c.deref.ensures ∙ ap (λ (d : running.Answered g.row.V.Denot). d.writes.items) c.get_mut-answered.ensures.value in
+    let writes = c.deref.ensures ∙ ap (λ (d : running.CallWithOutcome g.row.V.Denot). d.writes.items) c.get_mut-answered.ensures.value in
     let made : actor_of c.write_all.new.words ≡ written_as (actor_of old.words) ds =
     c.write_all.ensures.actor ∙ ap (λ (es : Entries). written_as (actor_of old.words) es) writes in
     keeps_open v old _ (fits_written end old.words c.write_all.new.words ds c.requires.prepared.writes below made c.write_all.ensures.place)

@@ -5,8 +5,8 @@ use Rattle.tx_actor.specs.declared.prepares.Prepared.{Prepared}
 use Rattle.tx_actor.proofs.CallsLemmas.{held_goes_on, held_is_too_long, may_prepare}
 use Rattle.replay_log.specs.Contents.{end_of}
 use Rattle.tx_actor.specs.declared.actor.Stage.TheVariants as stage
-use Rattle.tx_actor.proofs.HavingLemmas.{still_after, still_then}
-use Rattle.tx_actor.proofs.KeepingLemmas.{keeps_asked, keeps_through}
+use Rattle.tx_actor.proofs.CopiesByStageLemmas.{still_after, still_then}
+use Rattle.tx_actor.proofs.ActorBoundsLemmas.{keeps_asked, keeps_through}
 use Rattle.tx_actor.proofs.PreparesLemmas.{still_alike}
 use Rattle.tx_actor.proofs.RoomLemmas.{alike_in, alike_keeps, can_go_on}
 use Rattle.tx_actor.proofs.actor.TxActor.calls_ready.Goals as goal
@@ -25,10 +25,10 @@ returns-in-Some-clause-ok g c =
     let f = c.first_of-first.result in
     let ready = subst (λ (o : Option (Prepared g.row.V.Denot)). ArePrepared r u c.args.place f c.args.op h.copy o) c.in-Some.is
     (c.in_ok-prepared.ensures.ok h.copy h.at) in
-    held_goes_on c.args.blocks.now r u c.goes_on.new.self c.goes_on.result c.args.place f c.args.collection c.args.op h p
+    held_goes_on c.args.blocks.now r u c.continue_call.new.self c.continue_call.result c.args.place f c.args.collection c.args.op h p
     (ap is_recorded c.requires.can.stage) c.first_of-first.ensures.first c.requires.known c.requires.may c.in_ok-prepared.ensures.alike
-    ready c.goes_on.ensures.does
-    c.goes_on.ensures.copies
+    ready c.continue_call.ensures.does
+    c.continue_call.ensures.copies
 
 pub returns-in-None-clause-ok : goal.returns-in-None-clause-ok
 returns-in-None-clause-ok g c =
@@ -42,8 +42,8 @@ returns-in-None-clause-ok g c =
     c.first_of-first.ensures.first c.requires.known
     c.requires.may c.in_ok-prepared.ensures.alike none
 
-pub goes_on-requires : goal.goes_on-requires
-goes_on-requires g c =
+pub continue_call-requires : goal.continue_call-requires
+continue_call-requires g c =
     let h = c.requires.held in
     let ready = subst (λ (o : Option
     (Prepared g.row.V.Denot)). ArePrepared c.args.self.now c.prepares.new.self c.args.place c.first_of-first.result
@@ -62,8 +62,8 @@ returns-in-Some-clause-keeps g c noreads =
     let alike = c.in_ok-prepared.ensures.alike in
     let ready = subst (λ (o : Option (Prepared g.row.V.Denot)). ArePrepared r u c.args.place f c.args.op h.copy o) c.in-Some.is
     (c.in_ok-prepared.ensures.ok h.copy h.at) in
-    keeps_through v r u c.goes_on.new.self (alike_keeps (end_of v.words v.blocks) r u c.requires.can.rests alike)
-    (c.goes_on.ensures.keeps v (can_go_on v r u c.args.place f c.args.collection c.args.op h p c.requires.can.blocks noreads
+    keeps_through v r u c.continue_call.new.self (alike_keeps (end_of v.words v.blocks) r u c.requires.can.rests alike)
+    (c.continue_call.ensures.keeps v (can_go_on v r u c.args.place f c.args.collection c.args.op h p c.requires.can.blocks noreads
     c.first_of-first.ensures.first c.requires.there alike ready))
 
 pub returns-in-None-clause-keeps : goal.returns-in-None-clause-keeps
@@ -84,9 +84,9 @@ pub returns-in-Some-clause-still : goal.returns-in-Some-clause-still
 returns-in-Some-clause-still g c =
     let r = c.args.self.now in
     let u = c.prepares.new.self in
-    let n = c.goes_on.new.self in
+    let n = c.continue_call.new.self in
     still_then r.copies.items u.copies.items n.copies.items (still_alike r u c.in_ok-prepared.ensures.alike)
-    (still_after _ c.in-Some.prepared.call u.copies.items n.copies.items c.goes_on.ensures.copies)
+    (still_after _ c.in-Some.prepared.call u.copies.items n.copies.items c.continue_call.ensures.copies)
 
 pub returns-in-None-clause-still : goal.returns-in-None-clause-still
 returns-in-None-clause-still g c = still_alike c.args.self.now c.prepares.new.self c.in_ok-prepared.ensures.alike

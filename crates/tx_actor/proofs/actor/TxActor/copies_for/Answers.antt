@@ -2,7 +2,7 @@ use Rattle.std.proofs.Common.{ℕ, subst}
 use Rattle.replay_log.specs.Contents.{first_of}
 use Rattle.tx_actor.specs.Copying.{IsReadyAt}
 use Rattle.tx_actor.specs.declared.prepares.Prepared.{Prepared}
-use Rattle.tx_actor.proofs.CopyingLemmas.{may_take}
+use Rattle.tx_actor.proofs.CopyAtGateLemmas.{may_take}
 use Rattle.tx_actor.proofs.actor.TxActor.copies_for.Goals as goal
 
 pub readies_copy-requires : goal.readies_copy-requires

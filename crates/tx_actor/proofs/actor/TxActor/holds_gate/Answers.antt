@@ -2,13 +2,13 @@ use Rattle.std.proofs.Common.{ℕ, true, [], refl, sym, ◌∙◌}
 use Rattle.replay_log.specs.Worlds as worlds
 use Rattle.actor_parts.specs.Dispatch.{after_try}
 use Rattle.tx_actor.specs.Running.{Reseats, asked_of, at, seat_of, stage_of}
-use Rattle.tx_actor.specs.declared.actor.Told.TheVariants as told
+use Rattle.tx_actor.specs.declared.actor.ActorNotice.TheVariants as told
 use Rattle.tx_actor.specs.declared.actor.Stage.TheVariants as stage
 use Rattle.tx_actor.proofs.DispatchLemmas.{by_result, does_at_stage, tried_at}
 use Rattle.tx_actor.proofs.RunsLemmas.{tried_free}
-use Rattle.tx_actor.proofs.KeepingLemmas.{keeps_at, keeps_room}
-use Rattle.tx_actor.specs.Having.{KeepsCopies}
-use Rattle.tx_actor.proofs.HavingLemmas.{copies_at}
+use Rattle.tx_actor.proofs.ActorBoundsLemmas.{keeps_at, keeps_room}
+use Rattle.tx_actor.specs.CopiesByStage.{KeepsCopies}
+use Rattle.tx_actor.proofs.CopiesByStageLemmas.{copies_at}
 use Rattle.tx_actor.proofs.actor.TxActor.holds_gate.Goals as goal
 
 pub returns-in-Trying-clause-does : goal.returns-in-Trying-clause-does

@@ -1,5 +1,5 @@
 use Rattle.replay_log.specs.Worlds.{no_one}
-use Rattle.actor_parts.specs.Kept.{copy_of, has_piece}
+use Rattle.actor_parts.specs.CopyList.{copy_of, has_piece}
 use Rattle.replay_log.specs.Contents.{end_of}
 use Rattle.tx_actor.proofs.actor.TxActor.new.Goals as goal
 

@@ -1,22 +1,22 @@
 use Rattle.std.proofs.Common.{◌<◌, ◌≤◌, ◌+◌, ◌++◌, ◌∷◌, [], ℕ, Some, length, refl, sym, ap, subst, ◌∙◌, arith}
 use Rattle.std.specs.Prelude.{slice_get}
 use Rattle.std.specs.List.{All}
+use Rattle.std.proofs.lemmas.Option.{same_Some}
 use Rattle.tx_sets.specs.Entries.{Entries}
 use Rattle.step_core.specs.Sound.{owed}
 use Rattle.step_core.specs.declared.actor.Place.{Place}
 use Rattle.tx_machine.specs.Actor as machine
 use Rattle.replay_log.specs.Contents.{end_of}
-use Rattle.actor_parts.specs.declared.copies.CopyOf.{CopyOf}
+use Rattle.actor_parts.specs.declared.copies.CopyOfCollection.{CopyOfCollection}
 use Rattle.actor_parts.specs.declared.judged.Judged.TheVariants as judged_as
-use Rattle.actor_parts.specs.Kept.{AreKept}
+use Rattle.actor_parts.specs.CopyList.{AreKept}
 use Rattle.actor_parts.specs.Writes.{written_as}
-use Rattle.actor_parts.proofs.TakingLemmas.{some_copy}
 use Rattle.tx_actor.specs.Answers.{IsAcceptedAt}
 use Rattle.tx_actor.specs.Straight.{CanPut, put_outcome}
 use Rattle.tx_actor.specs.declared.actor.TxActor.{TxActor}
-use Rattle.tx_actor.proofs.AskedLemmas.{on_err}
-use Rattle.tx_actor.proofs.HavingLemmas.{still_after}
-use Rattle.tx_actor.proofs.KeepingLemmas.{keeps_open, keeps_through}
+use Rattle.tx_actor.proofs.ShadowAfterRequestLemmas.{on_err}
+use Rattle.tx_actor.proofs.CopiesByStageLemmas.{still_after}
+use Rattle.tx_actor.proofs.ActorBoundsLemmas.{keeps_open, keeps_through}
 use Rattle.tx_actor.proofs.PreparesLemmas.{still_alike}
 use Rattle.tx_actor.proofs.RoomLemmas.{alike_in, alike_keeps, fits_written, next_within}
 use Rattle.tx_actor.proofs.StraightLemmas.{alike_with, held_puts, made_call, may_put, put_call, put_writes}
@@ -30,9 +30,9 @@ pub put_in-requires-clause-can : goal.put_in-requires-clause-can
 put_in-requires-clause-can g c d there =
     let h = c.requires.held in
     let before = ap (λ cs. slice_get cs.items c.args.place) (sym c.room_to_put.ensures.copies) ∙ there in
-    let same = some_copy h.copy d (sym h.at ∙ before) in
+    let same = same_Some h.copy d (sym h.at ∙ before) in
     let read = c.requires.read h.copy h.at in
-    subst (λ (z : CopyOf g.row.V.Denot). CanPut z.copied c.args.op c.args.at.0) same
+    subst (λ (z : CopyOfCollection g.row.V.Denot). CanPut z.copied c.args.op c.args.at.0) same
     (record { put = read.put; held = h.holds; answer = read.answer; writes = read.writes })
 
 pub write_all-requires : goal.write_all-requires

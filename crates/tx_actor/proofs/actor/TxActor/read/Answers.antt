@@ -2,7 +2,7 @@ use Rattle.std.proofs.Common.{refl, sym, ◌∙◌}
 use Rattle.tx_machine.proofs.Sets.{put-same}
 use Rattle.replay_log.specs.Worlds.{Open}
 use Rattle.tx_actor.specs.Running.{seat_of}
-use Rattle.tx_actor.proofs.KeepingLemmas.{keeps_plain}
+use Rattle.tx_actor.proofs.ActorBoundsLemmas.{keeps_plain}
 use Rattle.tx_actor.specs.declared.actor.Stage.TheVariants as stage
 use Rattle.tx_actor.proofs.actor.TxActor.read.Goals as goal
 

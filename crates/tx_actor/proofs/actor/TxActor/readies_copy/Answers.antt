@@ -2,11 +2,11 @@ use Rattle.std.proofs.Common.{◌≡◌, ℕ, ◌<◌, Option, length, refl, sym
 use Rattle.std.specs.declared.alloc.Global.{Global}
 use Rattle.std.specs.declared.collections.VecDeque.{VecDeque}
 use Rattle.actor_parts.proofs.AlikeLemmas.{kept_length}
-use Rattle.actor_parts.proofs.TakingLemmas.{taken_there}
+use Rattle.actor_parts.proofs.TakeBackLemmas.{taken_there}
 use Rattle.actor_parts.specs.Taking.{TakesBack, copy_with}
-use Rattle.tx_actor.specs.declared.actor.Asked.{Asked}
+use Rattle.tx_actor.specs.declared.actor.CollectionCall.{CollectionCall}
 use Rattle.tx_actor.specs.Prepares.{AreReadied}
-use Rattle.tx_actor.proofs.CopyingLemmas.{may_prepare, moved_back}
+use Rattle.tx_actor.proofs.CopyAtGateLemmas.{may_prepare, moved_back}
 use Rattle.tx_actor.proofs.actor.TxActor.readies_copy.Goals as goal
 
 pub readies-requires : goal.readies-requires
@@ -51,7 +51,7 @@ returns-in_default-clause-err g c =
     moved_back c.args.self.now c.readies.new.self c.args.stripes c.args.first c.in_ok-place.place c.args.found c.args.call.now.asked
     c.take.new.copies c.take_back.new.copies c.requires c.in_ok-place.ensures.ok c.readies.ensures.alike
     (subst
-    (λ (k : Asked g.row.V.Denot). TakesBack (length before) c.in_ok-place.place k.op c.readies.new.self.copies.items
+    (λ (k : CollectionCall g.row.V.Denot). TakesBack (length before) c.in_ok-place.place k.op c.readies.new.self.copies.items
     c.take_back.new.copies.items)
     c.readies.ensures.asked
     (subst

@@ -1,6 +1,6 @@
 use Rattle.std.proofs.Common.{refl}
 use Rattle.tx_machine.proofs.Sets.{put-same}
-use Rattle.tx_actor.proofs.KeepingLemmas.{keeps_plain}
+use Rattle.tx_actor.proofs.ActorBoundsLemmas.{keeps_plain}
 use Rattle.tx_actor.specs.declared.actor.Stage.TheVariants as stage
 use Rattle.tx_actor.proofs.actor.TxActor.starves_copying.Goals as goal
 

@@ -4,19 +4,19 @@ use Rattle.replay_log.specs.Worlds.{because}
 use Rattle.tx_actor.specs.Running.{at, seat_of, stage_of}
 use Rattle.tx_actor.specs.declared.actor.Stage.TheVariants as stage
 use Rattle.tx_actor.proofs.DispatchLemmas.{by_result, give_up_at}
-use Rattle.tx_actor.proofs.KeepingLemmas.{keeps_from}
+use Rattle.tx_actor.proofs.ActorBoundsLemmas.{keeps_from}
 use Rattle.tx_actor.proofs.actor.TxActor.starves_ready.Goals as goal
 
 pub returns-clause-does : goal.returns-clause-does
 returns-clause-does g c a w s =
     let r = at c.args.self.now (stage.Ready c.args.homes) in
-    by_result c.gives_up_with.new.self c.gives_up_with.result a _ _
-    (give_up_at w a (because (seat_of c.args.self.now) OutOfMemory) (stage_of r.stage) _) (c.gives_up_with.ensures.does a w s.1)
+    by_result c.abort_returning.new.self c.abort_returning.result a _ _
+    (give_up_at w a (because (seat_of c.args.self.now) OutOfMemory) (stage_of r.stage) _) (c.abort_returning.ensures.does a w s.1)
 
 pub returns-clause-keeps : goal.returns-clause-keeps
 returns-clause-keeps g c v =
-    keeps_from v c.args.self.now c.args.self.now c.gives_up_with.new.self (stage.Ready c.args.homes) (stage.Returning c.args.homes) refl
-    (c.gives_up_with.ensures.keeps v) (λ n h. h) (λ z. tt)
+    keeps_from v c.args.self.now c.args.self.now c.abort_returning.new.self (stage.Ready c.args.homes) (stage.Returning c.args.homes) refl
+    (c.abort_returning.ensures.keeps v) (λ n h. h) (λ z. tt)
 
 pub returns-clause-leaves : goal.returns-clause-leaves
-returns-clause-leaves g c = c.gives_up_with.ensures.leaves
+returns-clause-leaves g c = c.abort_returning.ensures.leaves

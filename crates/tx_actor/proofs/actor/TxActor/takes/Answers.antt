@@ -1,11 +1,11 @@
 use Rattle.std.proofs.Common.{IfOk, OnErr, sym, subst, ◌∙◌}
 use Rattle.tx_actor.specs.Dispatch.{Starves}
-use Rattle.tx_actor.specs.Having.{KeepsCopies}
-use Rattle.tx_actor.specs.Keeping.{KeepsIn}
+use Rattle.tx_actor.specs.CopiesByStage.{KeepsCopies}
+use Rattle.tx_actor.specs.ActorBounds.{KeepsIn}
 use Rattle.tx_actor.specs.Running.{at}
 use Rattle.tx_actor.specs.Taking.{AreTakenAt, AreTakenFor}
 use Rattle.tx_actor.specs.declared.actor.Stage.{Stage}
-use Rattle.tx_actor.specs.declared.actor.Told.TheVariants.{Quiet}
+use Rattle.tx_actor.specs.declared.actor.ActorNotice.TheVariants.{Quiet}
 use Rattle.tx_actor.proofs.actor.TxActor.takes.Goals as goal
 
 pub returns-in-Copying-clause-ok : goal.returns-in-Copying-clause-ok

@@ -1,6 +1,6 @@
 use Rattle.std.proofs.Common.{rules, ◌≡◌, Some, ap, refl, subst, sym, ◌∙◌}
-use Rattle.tx_turns.specs.Requested.{requests_of}
-use Rattle.tx_client.specs.Asked.{HasAsked}
+use Rattle.tx_turns.specs.RequestHistory.{requests_of}
+use Rattle.tx_client.specs.RequestKinds.{HasAsked}
 use Rattle.tx_client.specs.Backs.{shares_at}
 use Rattle.tx_client.specs.Clients.{shown_at}
 use Rattle.tx_client.specs.Ends.{ClientShown}

@@ -3,8 +3,8 @@ use Rattle.std.specs.Prelude.{All}
 use Rattle.seq_model.specs.Calls.{IsWithinLimits}
 use Rattle.replay_log.specs.Contents.{HaveStripes}
 use Rattle.replay_log.specs.WorldProgress.{AreSmall}
-use Rattle.tx_turns.proofs.RequestedLemmas.{none_requested}
-use Rattle.tx_turns.specs.Requested.{requests_of}
+use Rattle.tx_turns.proofs.RequestHistoryLemmas.{none_requested}
+use Rattle.tx_turns.specs.RequestHistory.{requests_of}
 use Rattle.tx_engine.proofs.OpeningLemmas.{few_locations, opens_reached}
 use Rattle.tx_engine.proofs.seats.TxSeat.open.Goals as goal
 

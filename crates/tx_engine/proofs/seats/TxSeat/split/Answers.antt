@@ -1,7 +1,7 @@
 use Rattle.std.proofs.Common.{◌≡◌, ◌-◌, ◌<◌, ◌∙◌, ap, arith, refl}
 use Rattle.tx_table.specs.Seated.{view}
-use Rattle.tx_turns.proofs.RequestedLemmas.{none_requested, same_requests}
-use Rattle.tx_turns.specs.Requested.{requests_of}
+use Rattle.tx_turns.proofs.RequestHistoryLemmas.{none_requested, same_requests}
+use Rattle.tx_turns.specs.RequestHistory.{requests_of}
 use Rattle.tx_engine.proofs.ShareLemmas.{stays_ready}
 use Rattle.tx_engine.proofs.seats.TxSeat.split.Goals as goal
 

@@ -1,7 +1,7 @@
 use Rattle.std.proofs.Common.{◌≡◌}
 use Rattle.seq_model.specs.declared.call.Reply.TheVariants as replies
 use Rattle.seq_model.specs.declared.call.Op.TheVariants as op
-use Rattle.tx_handles.specs.Answered.{BagAnswers}
+use Rattle.tx_handles.specs.HandleCalls.{BagAnswers}
 use Rattle.tx_handles.proofs.GateLemmas.{bag_counts, on_ok}
 use Rattle.tx_handles.proofs.bags.Bag.count.Goals as goal
 

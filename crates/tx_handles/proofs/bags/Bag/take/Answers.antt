@@ -1,7 +1,7 @@
 use Rattle.std.proofs.Common.{◌≡◌}
-use Rattle.tx_handles.specs.Made.{yes_reply}
+use Rattle.tx_handles.specs.MadeCall.{yes_reply}
 use Rattle.seq_model.specs.declared.call.Op.TheVariants as op
-use Rattle.tx_handles.specs.Answered.{BagAnswers}
+use Rattle.tx_handles.specs.HandleCalls.{BagAnswers}
 use Rattle.tx_handles.proofs.GateLemmas.{bag_takes, on_ok}
 use Rattle.tx_handles.proofs.bags.Bag.take.Goals as goal
 

@@ -1,6 +1,6 @@
 use Rattle.std.proofs.Common.{◌≡◌}
 use Rattle.tx_handles.specs.Lanes.{HasDoneWithLanes, IsAdded}
-use Rattle.tx_handles.specs.Made.{room_reply}
+use Rattle.tx_handles.specs.MadeCall.{room_reply}
 use Rattle.tx_handles.proofs.GateLemmas.{on_ok}
 use Rattle.tx_handles.proofs.LaneLemmas.{has_added}
 use Rattle.tx_handles.proofs.lanes.Lanes.enqueue.Goals as goal

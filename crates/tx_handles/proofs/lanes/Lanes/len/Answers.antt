@@ -1,4 +1,4 @@
-use Rattle.tx_handles.specs.Answered.{HasSummed}
+use Rattle.tx_handles.specs.HandleCalls.{HasSummed}
 use Rattle.tx_handles.specs.Lanes.{HasDoneWithLanes, IsCounted}
 use Rattle.tx_handles.proofs.GateLemmas.{on_ok}
 use Rattle.tx_handles.proofs.LaneLemmas.{lanes_len}

@@ -1,7 +1,7 @@
 use Rattle.std.proofs.Common.{◌≡◌}
 use Rattle.seq_model.specs.Calls.{value_reply}
 use Rattle.seq_model.specs.declared.call.Op.TheVariants as op
-use Rattle.tx_handles.specs.Answered.{MapAnswers}
+use Rattle.tx_handles.specs.HandleCalls.{MapAnswers}
 use Rattle.tx_handles.proofs.GateLemmas.{map_gets, on_ok}
 use Rattle.tx_handles.proofs.maps.Map.get.Goals as goal
 

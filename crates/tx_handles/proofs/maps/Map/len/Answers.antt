@@ -1,4 +1,4 @@
-use Rattle.tx_handles.specs.Answered.{HasSummed, MapCounts}
+use Rattle.tx_handles.specs.HandleCalls.{HasSummed, MapCounts}
 use Rattle.tx_handles.proofs.GateLemmas.{on_ok}
 use Rattle.tx_handles.proofs.SumLemmas.{map_len}
 use Rattle.tx_handles.proofs.maps.Map.len.Goals as goal

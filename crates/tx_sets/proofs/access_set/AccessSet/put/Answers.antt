@@ -1,7 +1,7 @@
 use Rattle.std.proofs.Common.{◌≡◌, ◌++◌, ◌∷◌, [], ap, sym, ◌∙◌, subst, refl, arith, rules, Ok, Err, length}
-use Rattle.tx_sets.specs.AccessSet.{IsLast, IsPlaceOf, SetView}
+use Rattle.tx_sets.specs.AccessSet.{IsLast, IsPositionOf, SetView}
 use Rattle.tx_sets.specs.Entries.{Entries, IsRising, lookup, with_entry}
-use Rattle.tx_sets.proofs.PlaceLemmas.{lookup_there, lookup_gap, not_there, put_new, write_there}
+use Rattle.tx_sets.proofs.PositionLemmas.{lookup_there, lookup_gap, not_there, put_new, write_there}
 use Rattle.tx_sets.proofs.LinkLemmas.{links_there, links_new}
 use Rattle.tx_sets.proofs.access_set.AccessSet.put.Goals as goal
 
@@ -9,7 +9,7 @@ pub invariant_of-self : goal.invariant_of-self
 invariant_of-self g c =
     let es = c.self.inside.entries.items in
     let same : es ≡ c.args.self.now.entries = ap (λ (v : SetView). v.entries) c.self.view_is in
-    let place = subst (λ (z : Entries). IsPlaceOf c.args.location z (Ok c.in-Ok.at)) (sym same) c.in-Ok.ensures in (
+    let place = subst (λ (z : Entries). IsPositionOf c.args.location z (Ok c.in-Ok.at)) (sym same) c.in-Ok.ensures in (
       links_there es c.self.inside.heads c.self.inside.links.items c.args.location c.args.value c.in-Ok.at c.index_mut.result.now
           c.self.invariant.0 place c.index_mut.ensures.value,
       search rules,
@@ -20,7 +20,7 @@ pub returns-in-Ok-clause-ok : goal.returns-in-Ok-clause-ok
 returns-in-Ok-clause-ok g c =
     let es = c.self.inside.entries.items in
     let same : es ≡ c.args.self.now.entries = ap (λ (v : SetView). v.entries) c.self.view_is in
-    let place = subst (λ (z : Entries). IsPlaceOf c.args.location z (Ok c.in-Ok.at)) (sym same) c.in-Ok.ensures in
+    let place = subst (λ (z : Entries). IsPositionOf c.args.location z (Ok c.in-Ok.at)) (sym same) c.in-Ok.ensures in
     write_there es c.args.location c.args.value c.in-Ok.at c.index_mut.result.now c.self.invariant.0.orderly.rising place
     c.index_mut.ensures.value
     ∙ ap (λ (z : Entries). with_entry z c.args.location c.args.value) same
@@ -72,7 +72,7 @@ pub invariant_of-self-in-Err : goal.invariant_of-self-in-Err
 invariant_of-self-in-Err g c =
     let es = c.self.inside.entries.items in
     let same : es ≡ c.args.self.now.entries = ap (λ (v : SetView). v.entries) c.self.view_is in
-    let place = subst (λ (z : Entries). IsPlaceOf c.args.location z (Err c.in-Err.at)) (sym same) c.in-Err.ensures in
+    let place = subst (λ (z : Entries). IsPositionOf c.args.location z (Err c.in-Err.at)) (sym same) c.in-Err.ensures in
     let linked = c.in_ok-reserve_both-in-Err.ensures.links in
     let before = c.last_of-before.result in
     let chain = c.chain_of-chain.result in (
@@ -99,7 +99,7 @@ pub returns-in_ok-reserve_both-in-Err-clause-ok : goal.returns-in_ok-reserve_bot
 returns-in_ok-reserve_both-in-Err-clause-ok g c =
     let es = c.self.inside.entries.items in
     let same : es ≡ c.args.self.now.entries = ap (λ (v : SetView). v.entries) c.self.view_is in
-    let place = subst (λ (z : Entries). IsPlaceOf c.args.location z (Err c.in-Err.at)) (sym same) c.in-Err.ensures in
+    let place = subst (λ (z : Entries). IsPositionOf c.args.location z (Err c.in-Err.at)) (sym same) c.in-Err.ensures in
     put_new es _ _ c.args.location c.args.value c.in-Err.at place c.in_ok-reserve_both-in-Err.ensures.items c.insert_reserved.ensures.items
     ∙ ap (λ (z : Entries). with_entry z c.args.location c.args.value) same
 

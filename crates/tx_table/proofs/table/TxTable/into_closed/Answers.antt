@@ -23,7 +23,7 @@ invariant_of-result g c =
       wide = counts.0 ∙ (table.wide ∙ ap (λ (m : ℕ). width table.locations m) (sym long));
       inside = (omega arith, table.few.0);
       home = all_home key s.place.me.0 (slots_items r.words) (slots_items r.slots)
-          (closes_all c.closed.ensures key s.place.id s.place.me.0 (slots_items r.words) (slots_items r.slots)
+          (closes_all c.closed_tables.ensures key s.place.id s.place.me.0 (slots_items r.words) (slots_items r.slots)
           c.requires.all c.requires.rests
           values.2) long;
     }
@@ -32,7 +32,7 @@ pub returns-clause-closes : goal.returns-clause-closes
 returns-clause-closes g c =
     let s = c.args.seat in
     let r = c.close_with-row.result in
-    closes_all c.closed.ensures c.args.self.whole.shared.key s.place.id s.place.me.0 (slots_items r.words) (slots_items r.slots)
+    closes_all c.closed_tables.ensures c.args.self.whole.shared.key s.place.id s.place.me.0 (slots_items r.words) (slots_items r.slots)
     c.requires.all
     c.requires.rests c.close_with-row.ensures.values.2
 

@@ -8,7 +8,7 @@ use Rattle.seq_model.specs.declared.refusal.Refusal.TheVariants.{NotIdle}
 use Rattle.vacation_core.specs.Clients.{begun}
 use Rattle.vacation_core.specs.Plays.{ends}
 use Rattle.vacation_core.specs.Running.{IsPlay}
-use Rattle.vacation_core.proofs.HeardLemmas.{begins_now, busy_begins}
+use Rattle.vacation_core.proofs.NextSessionLemmas.{begins_now, busy_begins}
 use Rattle.vacation_core.proofs.TurnLemmas.{fed_at, place_as, place_lt}
 use Rattle.vacation_core.proofs.world.VacWorld.begin.Goals as goal
 

@@ -1,6 +1,6 @@
 use Rattle.std.proofs.Common.{refl}
 use Rattle.std.proofs.lemmas.Result.{IfOk-weaker}
-use Rattle.vacation_core.proofs.HeardLemmas.{ended_now}
+use Rattle.vacation_core.proofs.NextSessionLemmas.{ended_now}
 use Rattle.vacation_core.proofs.world.VacWorld.end.Goals as goal
 
 pub returns : goal.returns

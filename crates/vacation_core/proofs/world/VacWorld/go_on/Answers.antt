@@ -1,6 +1,6 @@
 use Rattle.std.proofs.Common.{◌≡◌, false, rules, subst, arith}
 use Rattle.vacation_core.specs.Running.{GoesOn}
-use Rattle.vacation_core.proofs.HeardLemmas.{ends_asking}
+use Rattle.vacation_core.proofs.NextSessionLemmas.{ends_asking}
 use Rattle.vacation_core.proofs.world.VacWorld.go_on.Goals as goal
 
 pub returns-then-not-more : goal.returns-then-not-more

@@ -1,6 +1,6 @@
 use Rattle.vacation_core.specs.Plays.{Play}
-use Rattle.vacation_core.specs.Running.{AsksOn, HasPlace}
+use Rattle.vacation_core.specs.Running.{AsksOn, HasPosition}
 use Rattle.vacation_core.proofs.world.VacWorld.go_on.Given as goal
 
 abbrev pub invariant-loop : goal.invariant-loop
-invariant-loop l = ((to : Play) → AsksOn l.i 0 l.fn.self to → AsksOn l.i l.counter l.self to) × HasPlace l.i l.self
+invariant-loop l = ((to : Play) → AsksOn l.i 0 l.fn.self to → AsksOn l.i l.counter l.self to) × HasPosition l.i l.self

@@ -2,7 +2,7 @@ use Rattle.std.proofs.Common.{◌+◌, sym, subst}
 use Rattle.std.specs.Prelude.{OnOk}
 use Rattle.vacation_core.specs.Plays.{Play, hears}
 use Rattle.vacation_core.specs.Running.{Hears, IsPlay}
-use Rattle.vacation_core.proofs.HeardLemmas.{unheard}
+use Rattle.vacation_core.proofs.NextSessionLemmas.{unheard}
 use Rattle.vacation_core.proofs.world.VacWorld.hear.Goals as goal
 
 pub returns-in-Quiet : goal.returns-in-Quiet

@@ -5,7 +5,7 @@ use Rattle.std.proofs.lemmas.Result.{IfOk-weaker}
 use Rattle.seq_model.specs.declared.event.Notice.TheVariants.{Answered}
 use Rattle.vacation_core.specs.Plays.{Play, hears}
 use Rattle.vacation_core.specs.Running.{Hears, IsPlay}
-use Rattle.vacation_core.proofs.HeardLemmas.{begun_asks, replied_asks}
+use Rattle.vacation_core.proofs.NextSessionLemmas.{begun_asks, replied_asks}
 use Rattle.vacation_core.proofs.TurnLemmas.{place_lt, place_set}
 use Rattle.vacation_core.proofs.world.VacWorld.hear_answer.Goals as goal
 

@@ -2,7 +2,7 @@ use Rattle.std.proofs.Common.{ap, refl}
 use Rattle.std.specs.Prelude.{slice_set}
 use Rattle.std.proofs.lemmas.Option.{slice_get_read}
 use Rattle.std.proofs.lemmas.Result.{IfOk-weaker}
-use Rattle.vacation_core.proofs.HeardLemmas.{committed_now}
+use Rattle.vacation_core.proofs.NextSessionLemmas.{committed_now}
 use Rattle.vacation_core.proofs.TurnLemmas.{place_lt}
 use Rattle.vacation_core.proofs.world.VacWorld.hear_commit.Goals as goal
 

@@ -4,7 +4,7 @@ use Rattle.std.proofs.lemmas.Option.{slice_get_read}
 use Rattle.std.proofs.lemmas.Result.{IfOk-weaker}
 use Rattle.vacation_core.specs.Plays.{ends}
 use Rattle.vacation_core.specs.Running.{IsPlay}
-use Rattle.vacation_core.proofs.HeardLemmas.{aborted_for, aborted_left}
+use Rattle.vacation_core.proofs.NextSessionLemmas.{aborted_for, aborted_left}
 use Rattle.vacation_core.proofs.TurnLemmas.{place_lt}
 use Rattle.vacation_core.proofs.world.VacWorld.hear_end.Goals as goal
 

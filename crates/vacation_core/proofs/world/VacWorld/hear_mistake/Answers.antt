@@ -1,7 +1,7 @@
 use Rattle.std.proofs.Common.{true, false, subst}
 use Rattle.std.proofs.lemmas.Result.{IfOk-weaker}
 use Rattle.vacation_core.specs.Running.{Abandons}
-use Rattle.vacation_core.proofs.HeardLemmas.{ends_then, gives_up_then, refusing_of}
+use Rattle.vacation_core.proofs.NextSessionLemmas.{ends_then, gives_up_then, refusing_of}
 use Rattle.vacation_core.proofs.world.VacWorld.hear_mistake.Goals as goal
 
 pub returns-then-gives_up : goal.returns-then-gives_up

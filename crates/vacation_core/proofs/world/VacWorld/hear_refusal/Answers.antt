@@ -1,7 +1,7 @@
 use Rattle.std.proofs.Common.{subst}
 use Rattle.std.proofs.lemmas.Result.{IfOk-weaker}
 use Rattle.vacation_core.specs.Running.{Mistaken}
-use Rattle.vacation_core.proofs.HeardLemmas.{ends_then, refusing_of, unmistaken_rests}
+use Rattle.vacation_core.proofs.NextSessionLemmas.{ends_then, refusing_of, unmistaken_rests}
 use Rattle.vacation_core.proofs.TurnLemmas.{client_at}
 use Rattle.vacation_core.proofs.world.VacWorld.hear_refusal.Goals as goal
 

@@ -1,6 +1,6 @@
 use Rattle.std.proofs.Common.{ap, refl, subst, sym, ◌∙◌, length}
 use Rattle.std.specs.Prelude.{replicate}
-use Rattle.vacation_core.specs.Told.{AreOwn, HaveOwn, told_all}
+use Rattle.vacation_core.specs.CommittedAnswers.{AreOwn, HaveOwn, told_all}
 use Rattle.vacation_core.proofs.TraceLemmas.{own_as, serial_of, tables_there, trace_of, traced}
 use Rattle.vacation_core.proofs.world.VacWorld.into_trace.Goals as goal
 

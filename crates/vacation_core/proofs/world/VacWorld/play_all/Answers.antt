@@ -1,4 +1,4 @@
-use Rattle.vacation_core.proofs.PlayingLemmas.{first_allowed, plays_all, plays_first, plays_one}
+use Rattle.vacation_core.proofs.EventListLemmas.{first_allowed, plays_all, plays_first, plays_one}
 use Rattle.vacation_core.proofs.world.VacWorld.play_all.Goals as goal
 
 pub loop-event-init : goal.loop-event-init

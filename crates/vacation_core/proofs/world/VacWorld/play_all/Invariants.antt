@@ -1,7 +1,7 @@
 use Rattle.std.proofs.Common.{length}
 use Rattle.vacation_core.specs.Plays.{AreAllowed, Play}
 use Rattle.vacation_core.specs.Running.{IsPlay}
-use Rattle.vacation_core.proofs.PlayingLemmas.{Plays}
+use Rattle.vacation_core.proofs.EventListLemmas.{Plays}
 use Rattle.vacation_core.proofs.world.VacWorld.play_all.Given as goal
 
 abbrev pub decreases-loop-event : goal.decreases-loop-event

@@ -2,7 +2,7 @@ use Rattle.std.proofs.Common.{subst, sym}
 use Rattle.std.proofs.lemmas.Result.{IfOk-weaker}
 use Rattle.vacation_core.specs.Plays.{begins}
 use Rattle.vacation_core.specs.Running.{IsPlay}
-use Rattle.vacation_core.proofs.HeardLemmas.{of_actor, of_none}
+use Rattle.vacation_core.proofs.NextSessionLemmas.{of_actor, of_none}
 use Rattle.vacation_core.proofs.world.VacWorld.start.Goals as goal
 
 pub begin-requires-clause-place : goal.begin-requires-clause-place

@@ -2,7 +2,7 @@ use Rattle.std.proofs.Common.{subst, sym}
 use Rattle.std.proofs.lemmas.Result.{IfOk-weaker}
 use Rattle.vacation_core.specs.Plays.{IsMoveOf, takes}
 use Rattle.vacation_core.specs.Running.{IsPlay}
-use Rattle.vacation_core.proofs.HeardLemmas.{of_actor, of_none}
+use Rattle.vacation_core.proofs.NextSessionLemmas.{of_actor, of_none}
 use Rattle.vacation_core.proofs.world.VacWorld.take.Goals as goal
 
 pub take_at-requires-clause-place : goal.take_at-requires-clause-place

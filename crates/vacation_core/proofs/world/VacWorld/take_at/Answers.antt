@@ -1,7 +1,7 @@
 use Rattle.std.proofs.Common.{refl, sym, ◌∙◌}
 use Rattle.std.proofs.lemmas.Option.{slice_get_read}
 use Rattle.std.proofs.lemmas.Result.{IfOk-weaker}
-use Rattle.vacation_core.proofs.HeardLemmas.{rests_takes, takes_then}
+use Rattle.vacation_core.proofs.NextSessionLemmas.{rests_takes, takes_then}
 use Rattle.vacation_core.proofs.TurnLemmas.{hears_move, move_own, own_told, place_as, place_lt}
 use Rattle.vacation_core.proofs.world.VacWorld.take_at.Goals as goal
 

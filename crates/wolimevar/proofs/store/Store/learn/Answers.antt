@@ -1,7 +1,7 @@
 use Rattle.std.proofs.Common.{rules, ◌≡◌, Some, ap, subst, ◌∙◌}
 use Rattle.std.specs.Prelude.{OnErr, OnOk, max}
 use Rattle.tx_table.specs.Seated.{view}
-use Rattle.tx_turns.specs.Requested.{requests_of}
+use Rattle.tx_turns.specs.RequestHistory.{requests_of}
 use Rattle.tx_engine.specs.declared.seats.TxSeat.{TxSeat}
 use Rattle.wolimevar.specs.Stores.{StoreShown}
 use Rattle.tx_client.proofs.ClientLemmas.{some_clock}

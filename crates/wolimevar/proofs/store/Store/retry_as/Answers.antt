@@ -1,6 +1,6 @@
 use Rattle.std.proofs.Common.{rules, ◌≡◌, Some, ap, subst}
-use Rattle.tx_turns.specs.Requested.{requests_of}
-use Rattle.tx_client.specs.Asked.{HasAsked}
+use Rattle.tx_turns.specs.RequestHistory.{requests_of}
+use Rattle.tx_client.specs.RequestKinds.{HasAsked}
 use Rattle.wolimevar.specs.Stores.{StoreShown}
 use Rattle.tx_client.specs.Tallies.{AreCounted}
 use Rattle.tx_client.proofs.EndLemmas.{is_abort}

@@ -1,5 +1,0 @@
-use Rattle.actor_parts.proofs.ForgottenLemmas.{forgets_pieces}
-use Rattle.actor_parts.proofs.copied.copied_forgets.Goals as goal
-
-pub returns : goal.returns
-returns g c = forgets_pieces

@@ -1,5 +1,0 @@
-use Rattle.actor_parts.proofs.ShowsLemmas.{copies_for_call}
-use Rattle.actor_parts.proofs.word_laws.copies_as_worlds.Goals as goal
-
-pub returns : goal.returns
-returns c s = copies_for_call

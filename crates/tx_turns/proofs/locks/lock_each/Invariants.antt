@@ -1,0 +1,17 @@
+use Rattle.std.proofs.Common.{◌-◌, ◌≡◌, ◌≤◌}
+use Rattle.step_core.specs.declared.actor.Place.TheVariants.{Lock}
+use Rattle.tx_table.specs.Seated.{opening_of}
+use Rattle.tx_turns.specs.Ties.{Ties}
+use Rattle.tx_turns.specs.Own.{HasOwn}
+use Rattle.tx_turns.proofs.StepsLemmas.{HasCome}
+use Rattle.tx_turns.specs.Straight.{at_place}
+use Rattle.tx_turns.proofs.locks.lock_each.Given as goal
+
+abbrev pub invariant-loop-i : goal.invariant-loop-i
+invariant-loop-i g l =
+    (l.actor.stage ≡ l.initial.actor.stage) × (l.actor.words.writes ≡ l.initial.actor.words.writes)
+    × Ties l.table l.seat (at_place l.actor (Lock l.i)) × HasOwn l.table l.seat (at_place l.actor (Lock l.i)) l.bases
+    × HasCome (opening_of l.table) l.initial.seat l.seat
+
+abbrev pub decreases-loop-i : goal.decreases-loop-i
+decreases-loop-i g l = l.end - l.i

@@ -1,7 +1,0 @@
-use Rattle.tx_turns.proofs.releases.released_on.Goals as goal
-
-pub returns-then-has_locks-clause-leads : goal.returns-then-has_locks-clause-leads
-returns-then-has_locks-clause-leads g c = λ d s h. c.releases_on.ensures.leads.driven s d h
-
-pub returns-clause-leads : goal.returns-clause-leads
-returns-clause-leads g c = λ d s h. h
