@@ -4,8 +4,8 @@ use Rattle.seq_model.specs.Entries.{inserts}
 use Rattle.seq_model.proofs.EntryLemmas.{inserts_all}
 use Rattle.base_pq.proofs.elements.Elements.to_counts.Goals as goal
 
-pub from_entries-requires : goal.from_entries-requires
-from_entries-requires c =
+pub counts_of-requires : goal.counts_of-requires
+counts_of-requires c =
     let is : c.insert_all.new.entries ≡ c.args.self.now.elements =
     c.in_ok-insert_all.ensures ∙ (λ i. inserts (c.new-entries.ensures i) ((c.as_slice.ensures.value ∙ c.in_ok-all.ensures.all) i))
     ∙ inserts_all c.args.self.now.elements in
@@ -13,6 +13,6 @@ from_entries-requires c =
 
 pub returns : goal.returns
 returns c =
-    c.from_entries.ensures ∙ c.in_ok-insert_all.ensures
+    c.counts_of.ensures ∙ c.in_ok-insert_all.ensures
     ∙ (λ i. inserts (c.new-entries.ensures i) ((c.as_slice.ensures.value ∙ c.in_ok-all.ensures.all) i))
     ∙ inserts_all c.args.self.now.elements
