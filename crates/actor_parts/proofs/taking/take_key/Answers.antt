@@ -64,12 +64,12 @@ returns-in_ok-push_key-in-None-clause-ok g c =
     let k = c.args.collection in
     let map = c.args.map.now in
     let none = subst (λ ds. IsPositionOf ds k None) c.deref.ensures.value c.in-None.ensures in
-    let same : length cs ≡ c.len-location_of.result = omega (arith, c.len-location_of.ensures, c.args.copies.now.ok.0) in
+    let same : length cs ≡ c.len-place.result = omega (arith, c.len-place.ensures, c.args.copies.now.ok.0) in
     let l = c.location_of-location.result in
     let e = c.edition-edition.result in
     let v = c.in_ok-value.value in
     let now = c.push_key.new.copies.items in
-    as_touched n k c.args.key map.stripes map.shown map.editions l e v c.len-location_of.result cs now c.location_of-location.ensures.location
+    as_touched n k c.args.key map.stripes map.shown map.editions l e v c.len-place.result cs now c.location_of-location.ensures.location
     c.edition-edition.ensures c.in_ok-value.ensures
     (subst (λ i. IsTakenAt n k (Keys (key_touch c.args.key v l e)) i cs now) same
     (pushed_at n k (Keys (key_touch c.args.key v l e)) cs now none c.in_ok-push_key-in-None.ensures.ok))
