@@ -208,3 +208,10 @@ pub joined_from : (first then : List Booking) (i : ℕ)
     → drop (min i (length first)) first ++ drop (min (i - min i (length first)) (length then)) then ≡ drop i (first ++ then)
 joined_from first then i =
     (λ j. drop_min i first j ++ drop_min (i - min i (length first)) then j) ∙ drop_joined i first then
+
+-- the same, where the numbers are named
+pub joined_at : (first then : List Booking) (i m n : ℕ) → m ≡ min i (length first) → n ≡ min (i - m) (length then)
+    → drop m first ++ drop n then ≡ drop i (first ++ then)
+joined_at first then i m n at behind =
+    let same : n ≡ min (i - min i (length first)) (length then) = omega (arith, at, behind) in
+    (λ j. drop (at j) first ++ drop (same j) then) ∙ joined_from first then i

@@ -11,8 +11,8 @@ use Rattle.client_sessions.proofs.GivenBackLemmas.{customer_told}
 use Rattle.client_sessions.proofs.WalkLemmas.{along}
 use Rattle.client_sessions.proofs.delete.ask_deletion.Goals as goal
 
-pub ask_found-requires-place : goal.ask_found-requires-place
-ask_found-requires-place c =
+pub ask_found-requires-clause-place : goal.ask_found-requires-clause-place
+ask_found-requires-clause-place c =
     subst (λ (rs : List (Reply Entry)). IsPlaceIn (λ told noted. HasGivenBack told noted.heard) rs c.args.place.now) c.in-Some.ensures.told
     c.requires
 

@@ -5,8 +5,8 @@ use Rattle.client_sessions.specs.Sessions as programs
 use Rattle.client_sessions.proofs.ChangedLemmas.{all_changed, change_stops, changed_noted}
 use Rattle.client_sessions.proofs.update.ask_update.Goals as goal
 
-pub pass_changes-requires-changed : goal.pass_changes-requires-changed
-pass_changes-requires-changed c = c.passed_in-passed.ensures c.args.changes.now c.args.replies.now c.requires.place
+pub pass_changes-requires-clause-changed : goal.pass_changes-requires-clause-changed
+pass_changes-requires-clause-changed c = c.passed_in-passed.ensures c.args.changes.now c.args.replies.now c.requires.place
 
 pub returns-then-passed-changes-clause-ask : goal.returns-then-passed-changes-clause-ask
 returns-then-passed-changes-clause-ask c =
