@@ -87,7 +87,6 @@ fn next_in<'a, X>(part: &mut Option<Iter<'a, u64, X>>) -> Option<(&'a u64, &'a X
 
 /// The entries of the map at a position.
 fn map_at<'a, V>(held: &'a [Held<V>], gates: Gates, place: u64) -> Option<Iter<'a, u64, V>>
-    requires { place ≤ gates.others }
     ensures { left_in result ≡ map_entries (slice_get held.now (gates.first + place)) }
 {
     match gates.held_at(held, place) {
@@ -190,7 +189,6 @@ impl<'a, V: Value> BagCounts<'a, V> {
 
 /// The elements of the multiset at a position, with the numbers of their copies.
 fn bag_at<'a, V>(held: &'a [Held<V>], gates: Gates, place: u64) -> Option<Iter<'a, u64, u64>>
-    requires { place ≤ gates.others }
     ensures { left_in result ≡ bag_entries (slice_get held.now (gates.first + place)) }
 {
     match gates.held_at(held, place) {

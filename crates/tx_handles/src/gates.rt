@@ -75,9 +75,9 @@ impl Gates {
 
     /// What one of the collections holds, of what all collections of a store hold.
     pub fn held_at<V>(self, held: &[Held<V>], place: u64) -> Option<&Held<V>>
-        requires { place ≤ self.others }
         ensures { option_copied result ≡ slice_get held.now (self.first + place) }
     {
-        held.get((u64::from(self.first) + place) as usize)
+        let number = u64::from(self.first).checked_add(place)?;
+        held.get(number as usize)
     }
 }
