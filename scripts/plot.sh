@@ -50,11 +50,26 @@ repeat() {
     for ((round = 0; round < rounds; round++)); do "$@"; done
 }
 
+# columns NAME ..: of the rows of `measure --times csv`, the columns of these names. Its line of names comes again with each run.
+columns() {
+    awk -F, -v OFS=, -v names="$*" '
+        BEGIN { count = split(names, name, " ") }
+        NR == 1 { head = $0; for (i = 1; i <= NF; i++) at[$i] = i }
+        $0 == head { next }
+        {
+            line = ""
+            for (i = 1; i <= count; i++) {
+                if (!(name[i] in at)) { print "plot: there is no column " name[i] > "/dev/stderr"; exit 1 }
+                line = line (i > 1 ? OFS : "") $(at[name[i]])
+            }
+            print line
+        }'
+}
+
 measure_sessions() {
     head_of "measure sessions"
     echo "contention,items,program,clients,thousand_a_second,least,most"
-    repeat "$1" sessions | sed -nE \
-        's/^(low|high|long) [a-z]+, ([0-9]+) items a kind, ([0-9]+) clients, (at )?(seats|one lock): ([0-9.]+) thousand.*/\1,\2,\5,\3,\6/p' | means
+    repeat "$1" --times csv sessions | columns contention items program clients thousand_a_second | means
 }
 
 measure_transactions() {
@@ -62,21 +77,18 @@ measure_transactions() {
     head_of "measure engine"
     echo "on,writes_of_ten,program,threads,thousand_a_second,least,most"
     {
-        repeat "$1" engine
-        for threads in 1 2 4; do repeat "$1" engine 4 5 $threads 200000; done
-    } | sed -nE \
-        -e 's/^(a )?([a-z]+), ([0-9]+) writes of ten calls, ([0-9]+) threads, one lock: ([0-9.]+) thousand.*/\2,\3,one lock,\4,\5/p' \
-        -e 's/^(a )?([a-z]+), ([0-9]+) writes of ten calls, ([0-9]+) threads: ([0-9.]+) thousand.*/\2,\3,seats,\4,\5/p' | means
+        repeat "$1" --times csv engine
+        for threads in 1 2 4; do repeat "$1" --times csv engine 4 5 $threads 200000; done
+    } | columns on writes_of_ten program threads thousand_a_second | grep -v ',clients,' | means
 }
 
 # One run of a map over one gate and over eight, and of a queue in one lane and in four.
 gates_of() {
     local threads parts
     for threads in 1 2 4; do
-        for parts in 1 8; do "$1" gated 1 $parts $threads 100000; done
-        for parts in 1 4; do "$1" gated 2 $parts $threads 50000; done
-    done | sed -nE \
-        's/^a (map|queue) (over|in) ([0-9]+) (gates|lanes), [0-9]+ writes of ten calls, ([0-9]+) threads: ([0-9.]+) thousand.*/\1,\3,\5,\6/p'
+        for parts in 1 8; do "$1" --times csv gated 1 $parts $threads 100000; done
+        for parts in 1 4; do "$1" --times csv gated 2 $parts $threads 50000; done
+    done | columns on parts threads thousand_a_second
 }
 
 measure_gates() {
@@ -88,10 +100,8 @@ measure_gates() {
 measure_sizes() {
     head_of "measure bases"
     echo "on,stripes,holds,microseconds,least,most"
-    repeat "$1" bases | sed -nE \
-        -e 's/^a queue of ([0-9]{2,}): ([0-9.]+) microseconds.*/queue,1,\1,\2/p' \
-        -e 's/^a priority queue of ([0-9]+), stripes ([0-9]+): ([0-9.]+) microseconds.*/priority queue,\2,\1,\3/p' \
-        -e 's/^a priority queue of ([0-9]+), stripes ([0-9]+), a later one put in: ([0-9.]+) microseconds.*/later ones,\2,\1,\3/p' | means
+    repeat "$1" --times csv bases | columns on put stripes holds microseconds |
+        awk -F, -v OFS=, '$4 > 1 { print $2 == "later" ? "later ones" : $1, $3, $4, $5 }' | means
 }
 
 # One run of `bench` with four clients: its refusals by cause.

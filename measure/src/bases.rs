@@ -1,6 +1,7 @@
 //! Transactions that take one item out of a queue, or the least element out of a priority queue, and put one in, by how much it holds.
 //! Into a priority queue they put that element back, or a later one, as a queue of events does.
 use crate::clock::seconds_since;
+use crate::form::Form;
 use seq_model::{Counts, QueueItems, Refusal};
 use std::alloc::Global;
 use std::io;
@@ -13,6 +14,9 @@ const TRANSACTIONS: u32 = 20_000;
 
 /// How many a row makes whose collection is empty after each dequeue, or each take of its least.
 const EMPTYING: u32 = 1_000_000;
+
+/// The columns of a row: what is put in is `it`, what was taken out, or `later`, an element that is later.
+pub const COLUMNS: &str = "on,put,stripes,holds,microseconds,opened_ms,closed_ms";
 
 /// What a transaction takes from and puts into.
 #[derive(Clone, Copy)]
@@ -56,57 +60,86 @@ impl Body<u64> for Turn {
 
 /// Prints what a transaction takes on 1,000 to 1,000,000 items or elements, then on 1,024 elements in 16 to 1,024 stripes, then where one
 /// item or element goes round a million times; and how long the store took to open and to close.
-pub fn measure(rt: &(impl Runtime + AllocGlobal)) -> io::Result<()> {
+pub fn measure(rt: &(impl Runtime + AllocGlobal), form: Form) -> io::Result<()> {
     for items in [1_000, 10_000, 100_000, 1_000_000] {
-        report_queue(rt, items, TRANSACTIONS)?;
+        report_queue(rt, form, items, TRANSACTIONS)?;
     }
     for elements in [1_000, 10_000, 100_000, 1_000_000] {
-        report_priority_queue(rt, 1, elements, false)?;
+        report_priority_queue(rt, form, 1, elements, false)?;
     }
     for elements in [1_000, 10_000, 100_000, 1_000_000] {
-        report_priority_queue(rt, 1, elements, true)?;
+        report_priority_queue(rt, form, 1, elements, true)?;
     }
     for stripes in [16, 256, 1_024] {
-        report_priority_queue(rt, stripes, 1_024, false)?;
+        report_priority_queue(rt, form, stripes, 1_024, false)?;
     }
-    report_queue(rt, 1, EMPTYING)?;
-    report_one_element(rt)
+    report_queue(rt, form, 1, EMPTYING)?;
+    report_one_element(rt, form)
 }
 
 fn report_queue(
     rt: &(impl Runtime + AllocGlobal),
+    form: Form,
     items: u64,
     transactions: u32,
 ) -> io::Result<()> {
     let (layout, turn) = queue_of(rt.alloc(), items).map_err(refused)?;
     let (opened, turned, closed) = timed(rt, layout, turn, transactions)?;
-    println!(rt;
-        "a queue of {items}: {turned:.1} microseconds a transaction, opened in {opened:.2} ms, closed in {closed:.2} ms"
-    )
+    match form {
+        Form::Sentences => {
+            println!(rt;
+                "a queue of {items}: {turned:.1} microseconds a transaction, opened in {opened:.2} ms, closed in {closed:.2} ms"
+            )
+        }
+        Form::Csv => { println!(rt; "queue,it,1,{items},{turned:.1},{opened:.2},{closed:.2}") }
+    }
 }
 
-fn report_one_element(rt: &(impl Runtime + AllocGlobal)) -> io::Result<()> {
+fn report_one_element(rt: &(impl Runtime + AllocGlobal), form: Form) -> io::Result<()> {
     let (layout, queue) = priority_queue_of(rt.alloc(), 1, 1).map_err(refused)?;
-    let (_, turned, _) = timed(rt, layout, Turn::Later(queue, 1_000), EMPTYING)?;
-    println!(rt; "a priority queue of 1, a later one put in: {turned:.1} microseconds a transaction")
+    let (opened, turned, closed) = timed(rt, layout, Turn::Later(queue, 1_000), EMPTYING)?;
+    match form {
+        Form::Sentences => {
+            println!(rt;
+                "a priority queue of 1, a later one put in: {turned:.1} microseconds a transaction"
+            )
+        }
+        Form::Csv => {
+            println!(rt; "priority queue,later,1,1,{turned:.1},{opened:.2},{closed:.2}")
+        }
+    }
 }
 
 fn report_priority_queue(
     rt: &(impl Runtime + AllocGlobal),
+    form: Form,
     stripes: u32,
     elements: u64,
     later: bool,
 ) -> io::Result<()> {
     let (layout, queue) = priority_queue_of(rt.alloc(), stripes, elements).map_err(refused)?;
-    let (turn, put) = if later {
-        (Turn::Later(queue, elements), ", a later one put in")
+    let (turn, put, column) = if later {
+        (
+            Turn::Later(queue, elements),
+            ", a later one put in",
+            "later",
+        )
     } else {
-        (Turn::Least(queue), "")
+        (Turn::Least(queue), "", "it")
     };
     let (opened, turned, closed) = timed(rt, layout, turn, TRANSACTIONS)?;
-    println!(rt;
-        "a priority queue of {elements}, stripes {stripes}{put}: {turned:.1} microseconds a transaction, opened in {opened:.2} ms, closed in {closed:.2} ms"
-    )
+    match form {
+        Form::Sentences => {
+            println!(rt;
+                "a priority queue of {elements}, stripes {stripes}{put}: {turned:.1} microseconds a transaction, opened in {opened:.2} ms, closed in {closed:.2} ms"
+            )
+        }
+        Form::Csv => {
+            println!(rt;
+                "priority queue,{column},{stripes},{elements},{turned:.1},{opened:.2},{closed:.2}"
+            )
+        }
+    }
 }
 
 fn refused(_refusal: Refusal) -> io::Error {

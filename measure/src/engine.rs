@@ -1,4 +1,5 @@
 //! Transactions at seats of a shared table, each seat in a thread of its own, beside the same calls under one lock.
+use crate::form::Form;
 use crate::gated::Kind;
 use crate::outcomes::Outcomes;
 use crate::work::{On, Work};
@@ -11,14 +12,21 @@ use std::thread::Threads;
 /// How many transactions each thread makes.
 const TRANSACTIONS: u32 = 200_000;
 
+/// The columns of a row. `parts` are the gates or lanes of a collection. Refusals by cause are known at seats alone.
+pub const COLUMNS: &str =
+    "on,parts,writes_of_ten,program,threads,thousand_a_second,refused,moved,gates,others";
+
 /// Prints how many transactions a second are committed by one thread, two and four.
-pub fn measure<R: Runtime + AllocGlobal + Threads + Wait + Sync>(rt: &R) -> io::Result<()> {
+pub fn measure<R: Runtime + AllocGlobal + Threads + Wait + Sync>(
+    rt: &R,
+    form: Form,
+) -> io::Result<()> {
     for on in [On::Words, On::Map] {
         for writes in [0, 1] {
             let work = Work { on, writes };
             for threads in [1, 2, 4] {
-                report_seats(rt, work, threads, TRANSACTIONS)?;
-                report_lock(rt, work, threads)?;
+                report_seats(rt, form, work, threads, TRANSACTIONS)?;
+                report_lock(rt, form, work, threads)?;
             }
         }
     }
@@ -29,7 +37,7 @@ pub fn measure<R: Runtime + AllocGlobal + Threads + Wait + Sync>(rt: &R) -> io::
         Kind::Lanes(4),
     ] {
         for threads in [1, 2, 4] {
-            report_gated(rt, kind, threads, TRANSACTIONS)?;
+            report_gated(rt, form, kind, threads, TRANSACTIONS)?;
         }
     }
     Ok(())
@@ -38,23 +46,46 @@ pub fn measure<R: Runtime + AllocGlobal + Threads + Wait + Sync>(rt: &R) -> io::
 /// By the clients of a store.
 pub fn report_gated<R: Runtime + AllocGlobal + Threads + Sync>(
     rt: &R,
+    form: Form,
     kind: Kind,
     threads: u32,
     transactions: u32,
 ) -> io::Result<()> {
     let (committed, refused, seconds) = gated::time(rt, kind, threads, transactions)?;
     let speed = f64::from(u32::try_from(committed).unwrap_or(u32::MAX)) / seconds / 1e3;
-    let (name, writes) = match kind {
-        Kind::Map(gates, writes) => (format!(in rt.alloc(); "a map over {gates} gates")?, writes),
-        Kind::Lanes(lanes) => (format!(in rt.alloc(); "a queue in {lanes} lanes")?, 10),
+    let (name, column, parts, writes) = match kind {
+        Kind::Map(gates, writes) => {
+            (
+                format!(in rt.alloc(); "a map over {gates} gates")?,
+                "map",
+                gates,
+                writes,
+            )
+        }
+        Kind::Lanes(lanes) => {
+            (
+                format!(in rt.alloc(); "a queue in {lanes} lanes")?,
+                "queue",
+                lanes,
+                10,
+            )
+        }
     };
-    println!(rt;
-        "{name}, {writes} writes of ten calls, {threads} threads: {speed:.0} thousand transactions a second; refused: {refused}"
-    )
+    match form {
+        Form::Sentences => {
+            println!(rt;
+                "{name}, {writes} writes of ten calls, {threads} threads: {speed:.0} thousand transactions a second; refused: {refused}"
+            )
+        }
+        Form::Csv => {
+            println!(rt; "{column},{parts},{writes},clients,{threads},{speed:.0},{refused},,,")
+        }
+    }
 }
 
 pub fn report_seats<R: Runtime + AllocGlobal + Threads + Sync>(
     rt: &R,
+    form: Form,
     work: Work,
     threads: u32,
     transactions: u32,
@@ -64,13 +95,25 @@ pub fn report_seats<R: Runtime + AllocGlobal + Threads + Sync>(
     let writes = work.writes;
     let speed = speed(outcomes, seconds);
     let (moved, gates, others) = (outcomes.moved, outcomes.gates, outcomes.others);
-    println!(rt;
-        "{name}, {writes} writes of ten calls, {threads} threads: {speed:.0} thousand transactions a second; refused: {moved} moved, {gates} gates, {others} others"
-    )
+    match form {
+        Form::Sentences => {
+            println!(rt;
+                "{name}, {writes} writes of ten calls, {threads} threads: {speed:.0} thousand transactions a second; refused: {moved} moved, {gates} gates, {others} others"
+            )
+        }
+        Form::Csv => {
+            let column = column_of(work);
+            let refused = moved.saturating_add(gates).saturating_add(others);
+            println!(rt;
+                "{column},1,{writes},seats,{threads},{speed:.0},{refused},{moved},{gates},{others}"
+            )
+        }
+    }
 }
 
 fn report_lock<R: Runtime + AllocGlobal + Threads + Wait + Sync>(
     rt: &R,
+    form: Form,
     work: Work,
     threads: u32,
 ) -> io::Result<()> {
@@ -78,9 +121,17 @@ fn report_lock<R: Runtime + AllocGlobal + Threads + Wait + Sync>(
     let name = name_of(work);
     let writes = work.writes;
     let speed = speed(outcomes, seconds);
-    println!(rt;
-        "{name}, {writes} writes of ten calls, {threads} threads, one lock: {speed:.0} thousand transactions a second"
-    )
+    match form {
+        Form::Sentences => {
+            println!(rt;
+                "{name}, {writes} writes of ten calls, {threads} threads, one lock: {speed:.0} thousand transactions a second"
+            )
+        }
+        Form::Csv => {
+            let column = column_of(work);
+            println!(rt; "{column},1,{writes},one lock,{threads},{speed:.0},0,0,0,0")
+        }
+    }
 }
 
 fn name_of(work: Work) -> &'static str {
@@ -90,6 +141,16 @@ fn name_of(work: Work) -> &'static str {
         On::Keys => "a map's number of keys",
         On::PriorityQueue => "a priority queue",
         On::Queue => "a queue",
+    }
+}
+
+fn column_of(work: Work) -> &'static str {
+    match work.on {
+        On::Words => "words",
+        On::Map => "map",
+        On::Keys => "keys",
+        On::PriorityQueue => "priority queue",
+        On::Queue => "queue",
     }
 }
 

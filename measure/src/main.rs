@@ -1,4 +1,5 @@
-//! Benchmarks of each layer, by name: `measure NAME` prints what one took, and `measure` alone lists the names ([`NAMES`]).
+//! Benchmarks of each layer, by name: `measure NAME` prints what one took, and `measure` alone lists the names ([`NAMES`]). After
+//! `--times csv` it prints rows for scripts ([`Form`]).
 //!
 //! After some names may stand numbers, which ask for one row alone:
 //!
@@ -11,6 +12,7 @@
 //! - `lock MIX RELATIONS CLIENTS SESSIONS`: of the same sessions under one lock.
 #![tactic(auto)]
 
+use form::Form;
 use gated::Kind;
 use sessions::{Mix, options};
 use std::alloc::Global;
@@ -23,6 +25,7 @@ use work::{On, Work};
 mod bases;
 mod clock;
 mod engine;
+mod form;
 mod gated;
 mod lock;
 mod locked;
@@ -38,7 +41,7 @@ mod tries;
 mod work;
 
 /// What is printed where no name is given.
-const NAMES: &str = "Usage: measure NAME [NUMBERS]
+const NAMES: &str = "Usage: measure [--times csv] NAME [NUMBERS]
 
 Each name runs a benchmark, for seconds up to some minutes, and prints what it took:
 
@@ -57,16 +60,39 @@ With numbers behind it, a name runs one row alone:
                                               GATES lanes; THREADS: 1 to 63
   sessions MIX RELATIONS CLIENTS SESSIONS     MIX: 0 low contention, 1 high contention, 2 long sessions; CLIENTS: 1 to 64
   lock MIX RELATIONS CLIENTS SESSIONS         the same sessions under one lock
+
+With --times csv it prints a line of names, and then a line for each row, with commas.
 ";
 
 fn main(rt: HostRuntime) -> io::Result<()> {
     let mut words = env::args(&rt)?;
     let _program = words.next();
-    let Some(name) = words.next() else {
+    let Some(first) = words.next() else {
         return rt.print(NAMES);
     };
+    if first.as_str() == "--times" {
+        return measure_in_form(&rt, words);
+    }
     let numbers = numbers_of(rt.alloc(), words)?;
-    measure(&rt, name.as_str(), numbers.as_slice())
+    measure(&rt, Form::Sentences, first.as_str(), numbers.as_slice())
+}
+
+/// What follows `--times`: the form, the name and its numbers.
+fn measure_in_form<R: Runtime + AllocGlobal + Threads + Wait + Sync>(
+    rt: &R,
+    mut words: env::Args<Global>,
+) -> io::Result<()> {
+    let form = match words.next() {
+        Some(word) if word.as_str() == "csv" => Form::Csv,
+        _ => return Err(io::Error::other("the form of times is csv")),
+    };
+    let Some(name) = words.next() else {
+        return Err(io::Error::other("no name is given"));
+    };
+    let numbers = numbers_of(rt.alloc(), words)?;
+    let columns = columns_of(name.as_str())?;
+    println!(rt; "{columns}")?;
+    measure(rt, form, name.as_str(), numbers.as_slice())
 }
 
 fn numbers_of(alloc: Global, words: env::Args<Global>) -> io::Result<Vec<u32>> {
@@ -80,51 +106,78 @@ fn numbers_of(alloc: Global, words: env::Args<Global>) -> io::Result<Vec<u32>> {
     Ok(numbers)
 }
 
+fn columns_of(name: &str) -> io::Result<&'static str> {
+    match name {
+        "bases" => Ok(bases::COLUMNS),
+        "engine" | "gated" => Ok(engine::COLUMNS),
+        "ordered" => Ok(ordered::COLUMNS),
+        "reservations" => Ok(reservations::COLUMNS),
+        "sessions" | "lock" => Ok(rows::COLUMNS),
+        "sets" => Ok(sets::COLUMNS),
+        _ => Err(io::Error::other("no benchmark has this name")),
+    }
+}
+
 fn measure<R: Runtime + AllocGlobal + Threads + Wait + Sync>(
     rt: &R,
+    form: Form,
     name: &str,
     numbers: &[u32],
 ) -> io::Result<()> {
     match numbers {
-        [] => measure_all(rt, name),
-        _ => measure_one(rt, name, numbers),
+        [] => measure_all(rt, form, name),
+        _ => measure_one(rt, form, name, numbers),
     }
 }
 
 fn measure_all<R: Runtime + AllocGlobal + Threads + Wait + Sync>(
     rt: &R,
+    form: Form,
     name: &str,
 ) -> io::Result<()> {
     match name {
-        "bases" => bases::measure(rt),
-        "engine" => engine::measure(rt),
-        "ordered" => ordered::measure(rt),
-        "reservations" => reservations::measure(rt),
-        "sessions" => rows::measure(rt),
-        "sets" => sets::measure(rt),
+        "bases" => bases::measure(rt, form),
+        "engine" => engine::measure(rt, form),
+        "ordered" => ordered::measure(rt, form),
+        "reservations" => reservations::measure(rt, form),
+        "sessions" => rows::measure(rt, form),
+        "sets" => sets::measure(rt, form),
         _ => Err(io::Error::other("no benchmark has this name")),
     }
 }
 
 fn measure_one<R: Runtime + AllocGlobal + Threads + Wait + Sync>(
     rt: &R,
+    form: Form,
     name: &str,
     numbers: &[u32],
 ) -> io::Result<()> {
     match (name, numbers) {
         ("engine", [kind, writes, threads, transactions]) => {
-            engine::report_seats(rt, work_of(*kind, *writes)?, *threads, *transactions)
+            engine::report_seats(rt, form, work_of(*kind, *writes)?, *threads, *transactions)
         }
         ("gated", [kind, gates, threads, transactions]) => {
-            engine::report_gated(rt, kind_of(*kind, *gates)?, *threads, *transactions)
+            engine::report_gated(rt, form, kind_of(*kind, *gates)?, *threads, *transactions)
         }
         ("sessions", [mix, relations, clients, sessions]) => {
             let mix = mix_of(*mix)?;
-            rows::report_table(rt, mix, &options(mix, *relations, *clients, *sessions), 1)
+            rows::report_table(
+                rt,
+                form,
+                mix,
+                &options(mix, *relations, *clients, *sessions),
+                1,
+            )
         }
         ("lock", [mix, relations, clients, sessions]) => {
             let mix = mix_of(*mix)?;
-            rows::report_lock(rt, mix, &options(mix, *relations, *clients, *sessions), 1)
+            rows::report_lock(
+                rt,
+                form,
+                mix,
+                &options(mix, *relations, *clients, *sessions),
+                1,
+            )
         }
         _ => Err(io::Error::other("no benchmark has this name and these numbers")),
     }

@@ -2,6 +2,7 @@
 ghost use Rattle.text_formats.specs.Options.{AreWithin};
 
 use crate::clock::seconds_since;
+use crate::form::Form;
 use crate::sessions::{Mix, SEED, STRIPES, memory, no_such_sessions, options};
 use std::io;
 use std::rt::Runtime;
@@ -10,23 +11,35 @@ use text_formats::{Options, generate, opening};
 use vac_model::Action;
 use vacation_core::run_in_order;
 
+pub const COLUMNS: &str = "items,sessions,microseconds";
+
 /// Prints what a session takes with few items and with many, of few sessions and of many.
-pub fn measure(rt: &(impl Runtime + AllocGlobal)) -> io::Result<()> {
+pub fn measure(rt: &(impl Runtime + AllocGlobal), form: Form) -> io::Result<()> {
     for relations in [100, 10_000] {
         for sessions in [1000, 10_000, 100_000] {
-            report(rt, relations, sessions)?;
+            report(rt, form, relations, sessions)?;
         }
     }
     Ok(())
 }
 
 /// With so many items of each kind, and so many sessions.
-fn report(rt: &(impl Runtime + AllocGlobal), relations: u32, sessions: u32) -> io::Result<()> {
+fn report(
+    rt: &(impl Runtime + AllocGlobal),
+    form: Form,
+    relations: u32,
+    sessions: u32,
+) -> io::Result<()> {
     let seconds = seconds_of(rt, &options(Mix::Long, relations, 1, sessions))?;
     let micros = seconds * 1e6 / f64::from(sessions);
-    println!(rt;
-        "{relations} items a kind, {sessions} sessions: {micros:.1} microseconds a session"
-    )
+    match form {
+        Form::Sentences => {
+            println!(rt;
+                "{relations} items a kind, {sessions} sessions: {micros:.1} microseconds a session"
+            )
+        }
+        Form::Csv => println!(rt; "{relations},{sessions},{micros:.1}"),
+    }
 }
 
 fn seconds_of(rt: &(impl Runtime + AllocGlobal), options: &Options) -> io::Result<f64> {

@@ -3,6 +3,7 @@ ghost use Rattle.std.specs.Prelude.{◌<◌, OnOk};
 ghost use Rattle.vac_model.specs.Balanced.{IsBalanced};
 
 use crate::clock::seconds_since;
+use crate::form::Form;
 use rand_core::{Rng, SeedableRng};
 use rand_xoshiro::Xoshiro256PlusPlus;
 use seq_model::{Items, Memory};
@@ -18,19 +19,26 @@ const ACTIONS: u64 = 200_000;
 /// How many items a reservation asks for.
 const ASKS: usize = 6;
 
+pub const COLUMNS: &str = "items,thousand_a_second";
+
 /// Prints how many actions a second are made with few items and with many.
-pub fn measure(rt: &(impl Runtime + AllocGlobal)) -> io::Result<()> {
-    report(rt, 100)?;
-    report(rt, 10_000)
+pub fn measure(rt: &(impl Runtime + AllocGlobal), form: Form) -> io::Result<()> {
+    report(rt, form, 100)?;
+    report(rt, form, 10_000)
 }
 
 /// Of so many items of each kind, and as many customers.
-fn report(rt: &(impl Runtime + AllocGlobal), items: u64) -> io::Result<()>
+fn report(rt: &(impl Runtime + AllocGlobal), form: Form, items: u64) -> io::Result<()>
     requires { 0 < items }
 {
     let seconds = seconds_of(rt, items)?;
     let speed = ACTIONS as f64 / seconds / 1e3;
-    println!(rt; "{items} items a kind: {speed:.0} thousand actions a second")
+    match form {
+        Form::Sentences => println!(rt;
+            "{items} items a kind: {speed:.0} thousand actions a second"
+        ),
+        Form::Csv => println!(rt; "{items},{speed:.0}"),
+    }
 }
 
 fn seconds_of(rt: &(impl Runtime + AllocGlobal), items: u64) -> io::Result<f64>

@@ -32,6 +32,15 @@ impl Mix {
             Mix::Long => "long sessions",
         }
     }
+
+    /// Its name in a column.
+    pub fn column(self) -> &'static str {
+        match self {
+            Mix::Low => "low",
+            Mix::High => "high",
+            Mix::Long => "long",
+        }
+    }
 }
 
 /// So many sessions of so many clients.

@@ -1,6 +1,7 @@
 //! Puts into sets of a transaction and finds in them, in nanoseconds a call.
 ghost use Rattle.std.specs.Prelude.{◌<◌, ◌≤◌};
 
+use crate::form::Form;
 use rand::seq::SliceRandom;
 use rand_core::SeedableRng;
 use rand_xoshiro::Xoshiro256PlusPlus;
@@ -19,23 +20,26 @@ const APART: u32 = 256;
 /// How often each location is put and found.
 const ROUNDS: u32 = 1000;
 
+pub const COLUMNS: &str = "locations,order,nanoseconds_a_put,nanoseconds_a_find";
+
 /// Prints the times at few locations a set and at as many as it may have, rising, rising at equal distances, and in random order.
-pub fn measure(rt: &(impl Runtime + AllocGlobal)) -> io::Result<()> {
+pub fn measure(rt: &(impl Runtime + AllocGlobal), form: Form) -> io::Result<()> {
     let apart = all_locations(rt.alloc(), APART)?;
-    report_both(rt, "256 apart", apart.as_slice())?;
+    report_both(rt, form, "256 apart", apart.as_slice())?;
     let mut locations = all_locations(rt.alloc(), 1)?;
-    report_both(rt, "rising", locations.as_slice())?;
+    report_both(rt, form, "rising", locations.as_slice())?;
     locations.shuffle(&mut Xoshiro256PlusPlus::seed_from_u64(1));
-    report_both(rt, "random", locations.as_slice())
+    report_both(rt, form, "random", locations.as_slice())
 }
 
 fn report_both(
     rt: &(impl Runtime + AllocGlobal),
+    form: Form,
     order: &str,
     locations: &[u32],
 ) -> io::Result<()> {
-    report(rt, order, 10, locations)?;
-    report(rt, order, 4096, locations)
+    report(rt, form, order, 10, locations)?;
+    report(rt, form, order, 4096, locations)
 }
 
 fn all_locations(alloc: Global, distance: u32) -> Result<Vec<u32>, AllocError>
@@ -50,6 +54,7 @@ fn all_locations(alloc: Global, distance: u32) -> Result<Vec<u32>, AllocError>
 
 fn report(
     rt: &(impl Runtime + AllocGlobal),
+    form: Form,
     order: &str,
     size: usize,
     locations: &[u32],
@@ -58,7 +63,12 @@ fn report(
 {
     let put = nanos_a_call(time_puts(rt, size, locations)?);
     let find = nanos_a_call(time_finds(rt, size, locations)?);
-    println!(rt; "{size} locations, {order}: {put:.1} ns a put, {find:.1} ns a find")
+    match form {
+        Form::Sentences => {
+            println!(rt; "{size} locations, {order}: {put:.1} ns a put, {find:.1} ns a find")
+        }
+        Form::Csv => println!(rt; "{size},{order},{put:.1},{find:.1}"),
+    }
 }
 
 fn nanos_a_call(time: Duration) -> f64 {
