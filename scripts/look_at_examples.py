@@ -9,7 +9,6 @@ TOP = os.path.dirname(os.path.dirname(os.path.abspath(__file__)))
 SOURCES = [f"{TOP}/crates/{it}/src" for it in ("tx_handles", "tx_client", "wolimevar")]
 # What no service can name, or make the arguments of.
 BELOW = ("calls.rt", "caller.rt", "gates.rt", "runner.rt")
-OF_SEATS = ("of", "into_seat")
 EXAMPLES = f"{TOP}/crates/client_tests/src/examples.rt"
 
 
@@ -47,8 +46,6 @@ def main():
     run, bad = functions(EXAMPLES), 0
     for name, path in sorted((name, f"{it}/{name}") for it in SOURCES for name in os.listdir(it) if name not in BELOW):
         for call, example in calls_of(path):
-            if call in OF_SEATS:
-                continue
             if not example:
                 print(f"{name}: {call} has no example")
             elif not any(stands_in(example, it) for it in run):
