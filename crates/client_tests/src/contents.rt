@@ -3,7 +3,23 @@ use crate::handles::{All, Handles};
 use crate::numbers::Number;
 use std::alloc::AllocError;
 use std::fmt::Write;
-use wolimevar::{Contents, Unread};
+use wolimevar::{Bag, Contents, Map, PriorityQueue, Queue, Unread};
+
+fn value_in<V: Number>(contents: &Contents<V>, map: Map<V>) -> Option<u64> {
+    Some(contents.map(map)?.get(2)?.number())
+}
+
+fn copies_in<V: Number>(contents: &Contents<V>, bag: Bag) -> Option<u64> {
+    Some(contents.bag(bag)?.copies(3))
+}
+
+fn least_in<V: Number>(contents: &Contents<V>, queue: PriorityQueue) -> Option<u64> {
+    contents.priority_queue(queue)?.least()
+}
+
+fn first_in<V: Number>(contents: &Contents<V>, queue: Queue) -> Option<u64> {
+    contents.queue(queue)?.first()
+}
 
 /// Prints what these handles find: the first word, key 2 of the map, the copies of 3, the least element and the first item.
 fn print_found<V: Number>(
@@ -13,17 +29,10 @@ fn print_found<V: Number>(
     handles: &Handles<V>,
 ) -> Result<(), AllocError> {
     let word = contents.word(handles.words[0]);
-    let value = contents
-        .map(handles.map)
-        .and_then(|entries| entries.get(2))
-        .map(|value| value.number());
-    let copies = contents.bag(handles.bag).map(|counts| counts.copies(3));
-    let least = contents
-        .priority_queue(handles.least)
-        .and_then(|counts| counts.least());
-    let first = contents
-        .queue(handles.queue)
-        .and_then(|items| items.first());
+    let value = value_in(contents, handles.map);
+    let copies = copies_in(contents, handles.bag);
+    let least = least_in(contents, handles.least);
+    let first = first_in(contents, handles.queue);
     writeln!(
         text,
         "{name} = {word:?} {value:?} {copies:?} {least:?} {first:?}"
@@ -37,14 +46,14 @@ fn print_wide<V: Number>(
     contents: &Contents<V>,
     handles: &Handles<V>,
 ) -> Result<(), AllocError> {
-    let Some(entries) = contents.map(handles.wide_map) else {
-        return text.push_str("no map");
-    };
-    let mut keys = 0u64;
-    for (key, _) in entries.iter() {
-        keys = keys.saturating_add(*key);
+    let (mut len, mut keys) = (0, 0u64);
+    if let Some(entries) = contents.map(handles.wide_map) {
+        len = entries.len();
+        for (key, _) in entries.iter() {
+            keys = keys.saturating_add(*key);
+        }
     }
-    let (len, value) = (entries.len(), entries.get(2).map(|value| value.number()));
+    let value = value_in(contents, handles.wide_map);
     let (mut copies, mut elements) = (0, 0u64);
     if let Some(counts) = contents.bag(handles.wide_bag) {
         copies = counts.copies(3);
@@ -52,7 +61,10 @@ fn print_wide<V: Number>(
             elements = elements.saturating_add(1);
         }
     }
-    let items = contents.lanes(handles.lanes).map_or(0, |lanes| lanes.len());
+    let items = match contents.lanes(handles.lanes) {
+        Some(lanes) => lanes.len(),
+        None => 0,
+    };
     writeln!(
         text,
         "over gates = {len} {keys} {value:?} {copies} {elements} {items}"

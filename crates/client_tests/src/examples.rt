@@ -1,5 +1,6 @@
 //! The examples in the docs of `wolimevar`'s calls, line by line, run on stores with a word and a collection of each kind. Of what an
 //! example says in a comment, it prints what came out.
+use crate::handles::{All, Handles, all_of, open};
 use std::alloc::Global;
 use std::fmt::Write;
 use std::thread::Threads;
@@ -8,19 +9,9 @@ use wolimevar::{
     QueueItems, Refusal, Scope, Session, Shared, Store, Tally, Text, Transaction, Value, Word,
 };
 
-/// The handles of a store with a word and a collection of each kind.
-#[derive(Clone, Copy)]
-struct Handles {
-    word: Word,
-    map: Map<u64>,
-    bag: Bag,
-    priorities: PriorityQueue,
-    queue: Queue,
-}
-
 /// A word holds one more. It gives what the word held.
 #[derive(Drop)]
-pub struct Count(pub Word);
+struct Count(Word);
 
 impl Body<u64> for Count {
     type Out = u64;
@@ -52,7 +43,7 @@ impl Body<u64> for Held {
 #[derive(Drop)]
 struct Calls {
     alloc: Global,
-    handles: Handles,
+    handles: Handles<u64>,
 }
 
 impl Body<u64> for Calls {
@@ -62,10 +53,10 @@ impl Body<u64> for Calls {
 
     fn run<S: Scope<u64>>(&self, tx: &mut Transaction<'_, u64, S>) -> Result<String, Refusal> {
         let mut text = String::new(self.alloc);
-        call_word(&mut text, tx, self.handles.word)?;
+        call_word(&mut text, tx, self.handles.words[0])?;
         call_map(&mut text, tx, self.handles.map)?;
         call_bag(&mut text, tx, self.handles.bag)?;
-        call_priorities(&mut text, tx, self.handles.priorities)?;
+        call_priorities(&mut text, tx, self.handles.least)?;
         call_queue(&mut text, tx, self.handles.queue)?;
         Ok(text)
     }
@@ -193,6 +184,27 @@ fn call_store(text: &mut String, store: &mut Store<u64>, word: Word) -> Result<(
     )?)
 }
 
+/// Each call of each handle, at the store.
+fn call_handles(
+    text: &mut String,
+    store: &mut Store<u64>,
+    handles: Handles<u64>,
+) -> Result<(), Refusal> {
+    let alloc = *text.allocator();
+    let (answers, _) = store.atomically(1_000, &Calls { alloc, handles })?;
+    Ok(text.push_str(answers.as_str())?)
+}
+
+fn print_visits(text: &mut String, outs: &[Result<String, Refusal>]) -> Result<(), Refusal> {
+    for out in outs {
+        match out {
+            Ok(answers) => text.push_str(answers.as_str())?,
+            Err(refusal) => return Err(*refusal),
+        }
+    }
+    Ok(())
+}
+
 fn serve_visits<R: Threads + Sync>(
     rt: &R,
     text: &mut String,
@@ -202,13 +214,12 @@ fn serve_visits<R: Threads + Sync>(
     let alloc = *text.allocator();
     let visits = vec![in alloc; Visit { alloc, word }]?;
     let outs = store.run(rt, visits)?;
-    for out in outs {
-        text.push_str(out?.as_str())?;
-    }
-    Ok(())
+    let printed = print_visits(text, outs.as_slice());
+    drop(outs);
+    printed
 }
 
-fn spawn_visit<R: Threads + Sync>(
+fn spawn_visit<R: Threads>(
     rt: &R,
     text: &mut String,
     lender: &mut Lender<u64>,
@@ -223,7 +234,7 @@ fn spawn_visit<R: Threads + Sync>(
 }
 
 /// A client is lent, and the store is closed once it is back.
-fn lend<R: Threads + Sync>(
+fn lend<R: Threads>(
     rt: &R,
     text: &mut String,
     store: Store<u64>,
@@ -239,38 +250,36 @@ fn lend<R: Threads + Sync>(
     let last = client.last_number() == read.number; // true
     let ahead = client.learn(99); // Err(Ahead { clock: 4 })
     let refusals = client.tally().refusals(); // 0
-    writeln!(
-        text,
-        "a lent client's calls = {held} {then} {same} {last} {ahead:?} {refusals}"
-    )?;
+    drop(written);
+    drop(read);
     drop(client);
     let out = lender.take_back(); // 0
-    spawn_visit(rt, text, &mut lender, word)?;
+    let printed = writeln!(
+        text,
+        "a lent client's calls = {held} {then} {same} {last} {ahead:?} {refusals}"
+    );
+    let visited = spawn_visit(rt, text, &mut lender, word);
+    let left = end_lender(lender, word)?; // Some(11)
+    printed?;
+    visited?;
+    Ok(writeln!(text, "a lender's calls = {out} {left:?}")?)
+}
+
+fn end_lender(lender: Lender<u64>, word: Word) -> Result<Option<u64>, Refusal> {
     let Ok(store) = lender.end() else {
         return Err(Refusal::NotIdle);
     };
     let contents = store.close()?;
     let left = contents.word(word); // Some(11)
     drop(contents);
-    Ok(writeln!(text, "a lender's calls = {out} {left:?}")?)
+    Ok(left)
 }
 
-fn open(alloc: Global) -> Result<(Store<u64>, Handles), Refusal> {
-    let mut layout: Layout<u64> = Layout::new(alloc);
-    let handles = Handles {
-        word: layout.word(0)?,
-        map: layout.map(64, Entries::new(alloc))?,
-        bag: layout.bag(64, Counts::new(alloc))?,
-        priorities: layout.priority_queue(1, Counts::new(alloc))?,
-        queue: layout.queue(8, QueueItems::new(alloc))?,
-    };
-    let store = layout.open()?;
-    Ok((store, handles))
-}
-
-fn open_filled(alloc: Global) -> Result<(Store<u64>, Handles), Refusal> {
-    let mut layout = Layout::numbered(alloc, 1);
-    let word = layout.word(7)?;
+/// A collection of each kind, with something in it.
+fn fill(
+    alloc: Global,
+    layout: &mut Layout<u64>,
+) -> Result<(Map<u64>, Bag, PriorityQueue, Queue), Refusal> {
     let mut entries = Entries::new(alloc);
     entries.insert(1, 10)?;
     let map = layout.map(64, entries)?;
@@ -283,25 +292,15 @@ fn open_filled(alloc: Global) -> Result<(Store<u64>, Handles), Refusal> {
     let mut items = QueueItems::new(alloc);
     items.push(6)?;
     let queue = layout.queue(8, items)?;
-    let store = layout.open()?;
-    let handles = Handles {
-        word,
-        map,
-        bag,
-        priorities,
-        queue,
-    };
-    Ok((store, handles))
+    Ok((map, bag, priorities, queue))
 }
 
-fn print_contents(text: &mut String, store: Store<u64>, handles: Handles) -> Result<(), Refusal> {
-    let Handles {
-        word,
-        map,
-        bag,
-        priorities,
-        queue,
-    } = handles;
+fn print_filled(text: &mut String) -> Result<(), Refusal> {
+    let alloc = *text.allocator();
+    let mut layout = Layout::numbered(alloc, 1);
+    let word = layout.word(7)?;
+    let (map, bag, priorities, queue) = fill(alloc, &mut layout)?;
+    let store = layout.open()?;
     let contents = store.close()?;
     let held = contents.word(word); // Some(7)
     let entries = contents.map(map);
@@ -342,9 +341,10 @@ impl Body<u64> for Work {
     }
 }
 
-fn work_over_gates(text: &mut String) -> Result<(), Refusal> {
-    let alloc = *text.allocator();
-    let mut layout: Layout<u64> = Layout::new(alloc);
+fn lay_over_gates(
+    alloc: Global,
+    layout: &mut Layout<u64>,
+) -> Result<(Map<u64>, Bag, Lanes), Refusal> {
     layout.seed(20_251);
     let mut entries = Entries::new(alloc);
     entries.insert(1, 10)?;
@@ -353,14 +353,28 @@ fn work_over_gates(text: &mut String) -> Result<(), Refusal> {
     counts.set_copies(3, 2)?;
     let bag = layout.bag_over(8, 8, counts)?;
     let jobs = layout.lanes(4, 8, QueueItems::new(alloc))?;
-    let mut store = layout.open()?;
+    Ok((map, bag, jobs))
+}
+
+fn work(text: &mut String, store: &mut Store<u64>, jobs: Lanes) -> Result<(), Refusal> {
     let ((taken, left), _) = store.atomically(1_000, &Work(jobs))?;
-    writeln!(text, "a queue in lanes = {taken:?} {left}")?;
+    Ok(writeln!(text, "a queue in lanes = {taken:?} {left}")?)
+}
+
+fn work_over_gates(text: &mut String) -> Result<(), Refusal> {
+    let alloc = *text.allocator();
+    let mut layout: Layout<u64> = Layout::new(alloc);
+    let (map, bag, jobs) = lay_over_gates(alloc, &mut layout)?;
+    let store = layout.open()?;
+    let mut store = store;
+    work(text, &mut store, jobs)?;
     let contents = match store.close() {
         Ok(contents) => contents,
         Err(unread) => unread.read()?,
     };
-    print_over_gates(text, &contents, map, bag, jobs)
+    let printed = print_over_gates(text, &contents, map, bag, jobs);
+    drop(contents);
+    printed
 }
 
 fn print_over_gates(
@@ -370,19 +384,25 @@ fn print_over_gates(
     bag: Bag,
     jobs: Lanes,
 ) -> Result<(), Refusal> {
-    let entries = contents.map(map).ok_or(Refusal::NoSuch)?;
+    let Some(entries) = contents.map(map) else {
+        return Err(Refusal::NoSuch);
+    };
     let keys = entries.len(); // 1
     let value = entries.get(1); // Some(10)
     for (key, value) in entries.iter() {
         writeln!(text, "{key} {value}")?;
     }
-    let counts = contents.bag(bag).ok_or(Refusal::NoSuch)?;
+    let Some(counts) = contents.bag(bag) else {
+        return Err(Refusal::NoSuch);
+    };
     let copies = counts.copies(3); // 2
     for (element, copies) in counts.iter() {
         writeln!(text, "{element} {copies}")?;
     }
     let lanes = contents.lanes(jobs);
-    let lanes = lanes.ok_or(Refusal::NoSuch)?;
+    let Some(lanes) = lanes else {
+        return Err(Refusal::NoSuch);
+    };
     let first = lanes.lane(0).and_then(|items| items.first()); // Some(7)
     let items = lanes.len(); // 1
     Ok(writeln!(
@@ -403,15 +423,24 @@ fn print_values(text: &mut String) -> Result<(), Refusal> {
     Ok(writeln!(text, "values = {bytes} {same} {attempts}")?)
 }
 
+/// The calls of a store, of its handles, and of its clients.
+fn call_all<R: Threads + Sync>(
+    rt: &R,
+    text: &mut String,
+    store: &mut Store<u64>,
+    handles: Handles<u64>,
+) -> Result<(), Refusal> {
+    call_store(text, store, handles.words[0])?;
+    call_handles(text, store, handles)?;
+    serve_visits(rt, text, store, handles.words[0])
+}
+
 pub fn test<R: Threads + Sync>(rt: &R, alloc: Global, text: &mut String) -> Result<(), Refusal> {
-    let (mut store, handles) = open(alloc)?;
-    call_store(text, &mut store, handles.word)?;
-    let (answers, _) = store.atomically(1_000, &Calls { alloc, handles })?;
-    text.push_str(answers.as_str())?;
-    serve_visits(rt, text, &mut store, handles.word)?;
-    lend(rt, text, store, handles.word)?;
-    let (store, handles) = open_filled(alloc)?;
-    print_contents(text, store, handles)?;
+    let all: All<u64> = all_of(alloc, 0)?;
+    let mut store = open(alloc, 0)?;
+    call_all(rt, text, &mut store, all.own)?;
+    lend(rt, text, store, all.own.words[0])?;
+    print_filled(text)?;
     work_over_gates(text)?;
     print_values(text)
 }

@@ -1,17 +1,29 @@
 //! Two clients that are lent: one is dropped once its lender was asked to end, the other one later. Two more serve sessions in threads of
 //! their own. Then one is dropped after a body that has aborted, and as many are lent as there can be.
-use crate::examples::Count;
-use crate::scripts::TRIES;
-use std::alloc::Global;
+use crate::handles::{All, all_of, open};
+use crate::numbers::Number;
+use crate::scripts::{Ran, Script, run_at_lent, run_at_store};
+use crate::sessions::Guest;
+use crate::steps::{Ended, first_word, number_of};
+use std::alloc::{AllocError, Global};
 use std::fmt::Write;
 use std::thread::Threads;
-use wolimevar::{
-    Body, Client, Failure, Layout, Lender, LentClient, Refusal, Scope, Session, StillLent, Store,
-    Transaction, Word,
-};
+use wolimevar::{Failure, Lender, LentClient, Refusal, Serving, StillLent, Store};
 
 /// One more than the clients that may be lent at once.
 const ONE_TOO_MANY: u64 = 64;
+
+/// What counts a word, and replies first what it held.
+const COUNT: &str = "a read; a increase";
+
+/// How often a client counts the word.
+const TIMES: u64 = 10;
+
+/// As often in a session, which prints nothing if all of them commit.
+const QUIETLY: &str =
+    "quietly a increase / quietly a increase / quietly a increase / quietly a increase / \
+    quietly a increase / quietly a increase / quietly a increase / quietly a increase / quietly a increase / \
+    quietly a increase";
 
 /// What transactions that count a word have read: how many committed, and the sum of what the word held before each.
 #[derive(Clone, Copy)]
@@ -20,109 +32,87 @@ struct Made {
     sum: u64,
 }
 
-impl Made {
-    fn and(self, other: Made) -> Made {
-        Made {
-            commits: self.commits.saturating_add(other.commits),
-            sum: self.sum.saturating_add(other.sum),
+/// What the first call of a transaction replied, and the transaction's number.
+fn replied(ran: &Ran) -> (u64, u64) {
+    match ran {
+        Ok((replies, number, _)) => {
+            let (first, _) = first_word(replies.as_str());
+            (number_of(first), *number)
         }
+        Err(_) => (0, 0),
     }
 }
 
-/// Why a body undoes what it has done.
-#[derive(Drop)]
-enum Undone {
-    Wanted,
-    Refused(Refusal),
-}
-
-impl From<Refusal> for Undone {
-    fn from(refusal: Refusal) -> Undone {
-        Undone::Refused(refusal)
+/// The client counts the word, and adds what it read to the sum.
+fn work<V: Number>(client: &mut LentClient<V>, all: &All<V>, made: Made) -> Made {
+    let script = Script { all, steps: COUNT };
+    let mut sum = made.sum;
+    for _ in 0..TIMES {
+        let (read, _) = replied(&run_at_lent(client, &script));
+        sum = sum.saturating_add(read);
     }
+    let commits = made.commits.saturating_add(client.tally().committed);
+    Made { commits, sum }
 }
 
-/// A word is written, and then the body aborts.
-#[derive(Drop)]
-struct Undo(Word);
-
-impl Body<u64> for Undo {
-    type Out = ();
-
-    type Error = Undone;
-
-    fn run<S: Scope<u64>>(&self, tx: &mut Transaction<'_, u64, S>) -> Result<(), Undone> {
-        self.0.write(tx, 99)?;
-        Err(Undone::Wanted)
-    }
-}
-
-fn work(client: &mut LentClient<u64>, word: Word) -> Made {
-    let mut made = Made { commits: 0, sum: 0 };
-    for _ in 0..10u64 {
-        if let Ok((read, _)) = client.atomically(TRIES, &Count(word)) {
-            made = made.and(Made {
-                commits: 1,
-                sum: read,
-            });
+/// A lender that is asked to end while clients are out.
+fn still_lent<V: Number>(lender: Lender<V>) -> Result<StillLent<V>, Refusal> {
+    match lender.end() {
+        Ok(store) => {
+            drop(store);
+            Err(Refusal::NotIdle)
         }
+        Err(still) => Ok(still),
     }
-    made
 }
 
 /// What two clients made, and the lender, which was asked to end meanwhile.
-fn run_both(
+fn run_both<V: Number>(
     text: &mut String,
-    mut lender: Lender<u64>,
-    word: Word,
-) -> Result<(Made, Lender<u64>), Refusal> {
+    mut lender: Lender<V>,
+    all: &All<V>,
+) -> Result<(Made, Lender<V>), Refusal> {
     let mut first = lender.client()?;
     let mut second = lender.client()?;
-    let made = work(&mut first, word);
-    let asked = lender.end();
+    let none = Made { commits: 0, sum: 0 };
+    let made = work(&mut first, all, none);
+    let asked = still_lent(lender);
     drop(first);
-    let others = work(&mut second, word);
-    let Err(StillLent { lender, clients }) = asked else {
-        return Err(Refusal::NotIdle);
-    };
+    let made = work(&mut second, all, made);
+    let StillLent { lender, clients } = asked?;
     let mut lender = lender;
     let out = lender.take_back();
+    drop(second);
     writeln!(
         text,
         "two lent clients = no end, {clients} out, then {out} out"
     )?;
-    drop(second);
-    Ok((made.and(others), lender))
+    Ok((made, lender))
 }
 
-/// Counts a word ten times, and returns how often that committed.
-#[derive(Drop)]
-struct Counting(Word);
-
-impl Session<u64> for Counting {
-    type Out = u64;
-
-    fn serve<S: Scope<u64>>(self, client: &mut Client<'_, u64, S>) -> u64 {
-        let mut commits = 0u64;
-        for _ in 0..10u64 {
-            if client.atomically(TRIES, &Count(self.0)).is_ok() {
-                commits = commits.saturating_add(1);
-            }
-        }
-        commits
+/// How many transactions of a session committed, if they all did.
+fn commits_of<R: Threads, V: Number>(rt: &R, serving: Serving<V, Guest<'static, V>>) -> u64
+where
+    V: Send + Sync + 'static,
+{
+    let served: Result<String, AllocError> = serving.join(rt);
+    match &served {
+        Ok(printed) if printed.is_empty() => TIMES,
+        _ => 0,
     }
 }
 
 /// Two sessions are served in threads of their own.
-fn serve_two<R: Threads>(
+fn serve_two<R: Threads, V: Number + Send + Sync + 'static>(
     rt: &R,
     text: &mut String,
-    lender: &mut Lender<u64>,
-    word: Word,
+    lender: &mut Lender<V>,
+    all: &All<V>,
 ) -> Result<(), Refusal> {
-    let first = lender.spawn(rt, Counting(word))?;
-    let second = lender.spawn(rt, Counting(word))?;
-    let commits = first.join(rt).saturating_add(second.join(rt));
+    let parts = QUIETLY;
+    let first = lender.spawn(rt, Guest { all: *all, parts })?;
+    let second = lender.spawn(rt, Guest { all: *all, parts })?;
+    let commits = commits_of(rt, first).saturating_add(commits_of(rt, second));
     let out = lender.take_back();
     writeln!(
         text,
@@ -132,14 +122,15 @@ fn serve_two<R: Threads>(
 }
 
 /// A client whose body aborts is dropped.
-fn drop_after_abort(
+fn drop_after_abort<V: Number>(
     text: &mut String,
-    lender: &mut Lender<u64>,
-    word: Word,
+    lender: &mut Lender<V>,
+    all: &All<V>,
 ) -> Result<(), Refusal> {
     let mut client = lender.client()?;
-    let undone = client.atomically(9, &Undo(word));
-    let aborted = matches!(undone, Err(Failure::Aborted(Undone::Wanted)));
+    let steps = "a write 99; abort 1";
+    let undone = run_at_lent(&mut client, &Script { all, steps });
+    let aborted = matches!(undone, Err(Failure::Aborted(Ended::By(1))));
     let tally = client.tally();
     drop(undone);
     drop(client);
@@ -152,7 +143,10 @@ fn drop_after_abort(
     Ok(())
 }
 
-fn lend_all(lender: &mut Lender<u64>, clients: &mut Vec<LentClient<u64>>) -> Result<(), Refusal> {
+fn lend_all<V: Number>(
+    lender: &mut Lender<V>,
+    clients: &mut Vec<LentClient<V>>,
+) -> Result<(), Refusal> {
     for _ in 0..ONE_TOO_MANY {
         clients.push(lender.client()?)?;
     }
@@ -160,10 +154,10 @@ fn lend_all(lender: &mut Lender<u64>, clients: &mut Vec<LentClient<u64>>) -> Res
 }
 
 /// Clients are lent up to a refusal, and then all are dropped.
-fn lend_too_many(
+fn lend_too_many<V: Number>(
     alloc: Global,
     text: &mut String,
-    lender: &mut Lender<u64>,
+    lender: &mut Lender<V>,
 ) -> Result<(), Refusal> {
     let mut clients = Vec::new(alloc);
     let refused = lend_all(lender, &mut clients);
@@ -179,34 +173,53 @@ fn lend_too_many(
     Ok(())
 }
 
-fn open(alloc: Global) -> Result<(Store<u64>, Word), Refusal> {
-    let mut layout = Layout::new(alloc);
-    let word = layout.word(0)?;
-    let store = layout.open()?;
-    Ok((store, word))
-}
-
-pub fn test<R: Threads>(rt: &R, alloc: Global, text: &mut String) -> Result<(), Refusal> {
-    let (store, word) = open(alloc)?;
-    let Ok(lender) = store.lend() else {
-        return Err(Refusal::Memory);
-    };
-    let (made, mut lender) = run_both(text, lender, word)?;
-    serve_two(rt, text, &mut lender, word)?;
-    drop_after_abort(text, &mut lender, word)?;
-    lend_too_many(alloc, text, &mut lender)?;
-    let Ok(mut store) = lender.end() else {
-        return Err(Refusal::NotIdle);
-    };
-    let (number, receipt) = store.atomically(TRIES, &Count(word))?;
-    let is_last = store.last_number() == receipt.number;
+/// The word is counted once more, by the store itself, which is closed then.
+fn close<V: Number>(
+    text: &mut String,
+    mut store: Store<V>,
+    all: &All<V>,
+    made: Made,
+) -> Result<(), Refusal> {
+    let script = Script { all, steps: COUNT };
+    let (word, number) = replied(&run_at_store(&mut store, "do", &script));
+    let is_last = store.last_number() == number;
     let contents = store.close()?;
-    let left = contents.word(word);
+    let left = contents.word(all.own.words[0]);
     drop(contents);
     let Made { commits, sum } = made;
     writeln!(
         text,
-        "all lent clients = {commits} commits, sum {sum}, word {number}, its number the last {is_last}, left {left:?}"
+        "all lent clients = {commits} commits, sum {sum}, word {word}, its number the last {is_last}, left {left:?}"
     )?;
     Ok(())
+}
+
+/// What the lender's clients do one after another.
+fn serve_all<R: Threads, V: Number + Send + Sync + 'static>(
+    rt: &R,
+    text: &mut String,
+    lender: &mut Lender<V>,
+    all: &All<V>,
+) -> Result<(), Refusal> {
+    serve_two(rt, text, lender, all)?;
+    drop_after_abort(text, lender, all)?;
+    lend_too_many(all.alloc, text, lender)
+}
+
+pub fn test<R: Threads, V: Number + Send + Sync + 'static>(
+    rt: &R,
+    alloc: Global,
+    text: &mut String,
+) -> Result<(), Refusal> {
+    let all: All<V> = all_of(alloc, 0)?;
+    let store = open(alloc, 0)?;
+    let Ok(lender) = store.lend() else {
+        return Err(Refusal::Memory);
+    };
+    let (made, mut lender) = run_both(text, lender, &all)?;
+    serve_all(rt, text, &mut lender, &all)?;
+    let Ok(store) = lender.end() else {
+        return Err(Refusal::NotIdle);
+    };
+    close(text, store, &all, made)
 }

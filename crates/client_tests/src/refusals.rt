@@ -49,8 +49,5 @@ pub fn print_explained(text: &mut String) -> Result<(), AllocError> {
 pub fn print_failures(text: &mut String) -> Result<(), AllocError> {
     let refused: Failure<u64> = Failure::Refused(Refusal::NoSuch);
     let aborted: Failure<u64> = Failure::Aborted(7);
-    writeln!(
-        text,
-        "failures = {refused} {refused:?}, {aborted} {aborted:?}"
-    )
+    write!(text, "{refused} {refused:?}, {aborted} {aborted:?}")
 }

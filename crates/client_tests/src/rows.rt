@@ -6,7 +6,7 @@ use crate::numbers::{Brittle, Number};
 use crate::refusals::{print_explained, print_failures};
 use crate::scripts::{Script, print_ran, run_at_store};
 use crate::sessions::{answer_clients, print_learnt, print_tally};
-use crate::steps::number_of;
+use crate::steps::{first_word, number_of};
 use crate::values::print_given;
 use crate::{examples, lent};
 use std::alloc::{AllocError, Global};
@@ -27,33 +27,37 @@ use wolimevar::{Refusal, Store, Tally};
 /// - `clients N PART / PART` has so many sessions do these parts, see [`crate::sessions`].
 /// - `learn N` learns a number, and `tally` counts how the store's attempts ended.
 ///
-/// The parts `lent` and `examples` are one test each, see [`crate::lent`] and [`crate::examples`]. Elsewhere stand `layout KIND N`, `value TYPE`, `tally` of no attempts, `failures`, and
-/// `explain`.
+/// The parts `lent` and `examples` are one test each, see [`crate::lent`] and [`crate::examples`]. Elsewhere stand `layout KIND N`,
+/// `value TYPE`, `tally` of no attempts, `failures`, and `explain`.
 pub fn answer_all<R: Threads + Sync>(
     rt: &R,
     alloc: Global,
     text: &mut String,
     rows: &str,
 ) -> Result<(), AllocError> {
-    let mut count = 0u64;
     for part in rows.split("\n\n") {
         let (first, rest) = part.split_once('\n').unwrap_or((part, ""));
-        count = count.saturating_add(count_of(part));
         match answer_part(rt, alloc, text, first, rest) {
             Ok(()) => {}
             Err(Refusal::Memory) => return Err(AllocError),
             Err(refusal) => writeln!(text, "failed: {refusal}")?,
         }
     }
-    writeln!(text, "rows {count}")
+    writeln!(text, "rows {}", count_of(rows))
 }
 
 fn is_row(row: &str) -> bool {
     !matches!(row.as_bytes(), [] | [b'#', ..])
 }
 
-fn count_of(part: &str) -> u64 {
-    part.lines().filter(|row| is_row(row)).count() as u64
+fn count_of(rows: &str) -> u64 {
+    let mut count = 0u64;
+    for row in rows.lines() {
+        if is_row(row) {
+            count = count.saturating_add(1);
+        }
+    }
+    count
 }
 
 fn answer_part<R: Threads + Sync>(
@@ -64,11 +68,12 @@ fn answer_part<R: Threads + Sync>(
     rows: &str,
 ) -> Result<(), Refusal> {
     writeln!(text, "{first}")?;
-    match first.split_once(' ') {
-        Some(("store", number)) => answer_at::<R, u64>(rt, alloc, text, number, rows),
-        Some(("brittle", number)) => answer_at::<R, Brittle>(rt, alloc, text, number, rows),
-        None if first == "lent" => lent::test(rt, alloc, text),
-        None if first == "examples" => examples::test(rt, alloc, text),
+    let (kind, number) = first_word(first);
+    match kind {
+        "store" => answer_at::<R, u64>(rt, alloc, text, number_of(number), rows),
+        "brittle" => answer_at::<R, Brittle>(rt, alloc, text, number_of(number), rows),
+        "lent" => lent::test::<R, u64>(rt, alloc, text),
+        "examples" => examples::test(rt, alloc, text),
         _ => answer_rows_alone(alloc, text, rows),
     }
 }
@@ -78,13 +83,13 @@ fn answer_at<R: Threads + Sync, V: Number + Send + Sync>(
     rt: &R,
     alloc: Global,
     text: &mut String,
-    number: &str,
+    number: u64,
     rows: &str,
 ) -> Result<(), Refusal> {
-    let number = u32::try_from(number_of(number)).unwrap_or(0);
+    let number = u32::try_from(number).unwrap_or(0);
     let all: All<V> = all_of(alloc, number)?;
     let mut store = open(alloc, number)?;
-    let answered = answer_rows(rt, alloc, text, &mut store, &all, rows);
+    let answered = answer_rows(rt, text, &mut store, &all, rows);
     let closed = print_closed(text, store.close(), &all);
     answered?;
     Ok(closed?)
@@ -92,7 +97,6 @@ fn answer_at<R: Threads + Sync, V: Number + Send + Sync>(
 
 fn answer_rows<R: Threads + Sync, V: Number + Send + Sync>(
     rt: &R,
-    alloc: Global,
     text: &mut String,
     store: &mut Store<V>,
     all: &All<V>,
@@ -101,7 +105,7 @@ fn answer_rows<R: Threads + Sync, V: Number + Send + Sync>(
     for row in rows.lines() {
         if is_row(row) {
             write!(text, "{row} = ")?;
-            answer(rt, alloc, text, store, all, row)?;
+            answer(rt, text, store, all, row)?;
             text.push('\n')?;
         }
     }
@@ -110,22 +114,20 @@ fn answer_rows<R: Threads + Sync, V: Number + Send + Sync>(
 
 fn answer<R: Threads + Sync, V: Number + Send + Sync>(
     rt: &R,
-    alloc: Global,
     text: &mut String,
     store: &mut Store<V>,
     all: &All<V>,
     row: &str,
 ) -> Result<(), AllocError> {
-    let (verb, steps) = row.split_once(' ').unwrap_or((row, ""));
-    let script = Script { alloc, all, steps };
+    let (verb, steps) = first_word(row);
     match verb {
-        "clients" => answer_clients(rt, text, store, &script),
+        "clients" => answer_clients(rt, text, store, all, steps),
         "learn" => {
             let learnt = store.learn(number_of(steps));
             print_learnt(text, learnt, store.last_number())
         }
         "tally" => print_tally(text, store.tally()),
-        _ => print_ran(text, &run_at_store(store, verb, &script)),
+        _ => print_ran(text, &run_at_store(store, verb, &Script { all, steps })),
     }
 }
 
@@ -139,28 +141,23 @@ fn answer_rows_alone(alloc: Global, text: &mut String, rows: &str) -> Result<(),
 }
 
 fn answer_alone(alloc: Global, text: &mut String, row: &str) -> Result<(), Refusal> {
-    match row.split_once(' ') {
-        Some(("layout", asked)) => match opens(alloc, asked) {
-            Ok(()) => writeln!(text, "{row} = opens")?,
-            Err(refusal) => writeln!(text, "{row} = {refusal}")?,
-        },
-        Some((_, name)) => {
-            write!(text, "{row} = ")?;
-            print_given(text, name)?;
-        }
-        None => answer_word(text, row)?,
+    if row == "explain" {
+        return Ok(print_explained(text)?);
     }
-    Ok(())
+    write!(text, "{row} = ")?;
+    let (verb, asked) = first_word(row);
+    match verb {
+        "layout" => print_opened(text, opens(alloc, asked))?,
+        "value" => print_given(text, asked)?,
+        "tally" => print_tally(text, Tally::new())?,
+        _ => print_failures(text)?,
+    }
+    Ok(text.push('\n')?)
 }
 
-fn answer_word(text: &mut String, row: &str) -> Result<(), AllocError> {
-    match row {
-        "tally" => {
-            text.push_str("tally = ")?;
-            print_tally(text, Tally::new())?;
-            text.push('\n')
-        }
-        "failures" => print_failures(text),
-        _ => print_explained(text),
+fn print_opened(text: &mut String, opened: Result<(), Refusal>) -> Result<(), AllocError> {
+    match opened {
+        Ok(()) => text.push_str("opens"),
+        Err(refusal) => write!(text, "{refusal}"),
     }
 }

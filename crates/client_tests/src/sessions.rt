@@ -2,8 +2,8 @@
 use crate::handles::All;
 use crate::numbers::Number;
 use crate::scripts::{Ran, Script, print_ran, run_at_client};
-use crate::steps::number_of;
-use std::alloc::{AllocError, Global};
+use crate::steps::{first_word, number_of};
+use std::alloc::AllocError;
 use std::fmt::Write;
 use std::thread::{Threads, yield_now};
 use wolimevar::{Client, Refusal, Scope, Session, Store, Tally};
@@ -15,17 +15,16 @@ const LOOKS: u64 = 10_000_000;
 /// `wait N STEP`, up to where the step answers N or more.
 #[derive(Drop)]
 #[derive_where(Clone, Copy)]
-struct Guest<'a, V> {
-    alloc: Global,
-    all: &'a All<V>,
-    parts: &'a str,
+pub struct Guest<'a, V> {
+    pub all: All<V>,
+    pub parts: &'a str,
 }
 
 impl<V: Number> Session<V> for Guest<'_, V> {
     type Out = Result<String, AllocError>;
 
     fn serve<S: Scope<V>>(self, client: &mut Client<'_, V, S>) -> Result<String, AllocError> {
-        let mut text = String::new(self.alloc);
+        let mut text = String::new(self.all.alloc);
         self.serve_all(&mut text, client)?;
         Ok(text)
     }
@@ -53,7 +52,7 @@ impl<V: Number> Guest<'_, V> {
         client: &mut Client<'_, V, S>,
         part: &str,
     ) -> Result<(), AllocError> {
-        let (verb, rest) = part.split_once(' ').unwrap_or((part, ""));
+        let (verb, rest) = first_word(part);
         match verb {
             "learn" => {
                 let learnt = client.learn(number_of(rest));
@@ -70,12 +69,8 @@ impl<V: Number> Guest<'_, V> {
     }
 
     fn ran<S: Scope<V>>(&self, client: &mut Client<'_, V, S>, verb: &str, steps: &str) -> Ran {
-        let script = Script {
-            alloc: self.alloc,
-            all: self.all,
-            steps,
-        };
-        run_at_client(client, verb, &script)
+        let all = &self.all;
+        run_at_client(client, verb, &Script { all, steps })
     }
 
     fn wait<S: Scope<V>>(
@@ -84,7 +79,7 @@ impl<V: Number> Guest<'_, V> {
         client: &mut Client<'_, V, S>,
         waited: &str,
     ) -> Result<(), AllocError> {
-        let (number, step) = waited.split_once(' ').unwrap_or((waited, ""));
+        let (number, step) = first_word(waited);
         for _ in 0..LOOKS {
             if self.shows(client, step, number_of(number)) {
                 return Ok(());
@@ -125,7 +120,7 @@ pub fn print_tally(text: &mut String, tally: Tally) -> Result<(), AllocError> {
 }
 
 fn guests<'a, V: Number>(guest: Guest<'a, V>, count: u64) -> Result<Vec<Guest<'a, V>>, AllocError> {
-    let mut guests = Vec::new(guest.alloc);
+    let mut guests = Vec::new(guest.all.alloc);
     for _ in 0..count {
         guests.push(guest)?;
     }
@@ -137,15 +132,12 @@ pub fn answer_clients<R: Threads + Sync, V: Number + Send + Sync>(
     rt: &R,
     text: &mut String,
     store: &mut Store<V>,
-    script: &Script<'_, V>,
+    all: &All<V>,
+    asked: &str,
 ) -> Result<(), AllocError> {
-    let (count, parts) = script.steps.split_once(' ').unwrap_or((script.steps, ""));
-    let guest = Guest {
-        alloc: script.alloc,
-        all: script.all,
-        parts,
-    };
-    match store.run(rt, guests(guest, number_of(count))?) {
+    let (count, parts) = first_word(asked);
+    let guests = guests(Guest { all: *all, parts }, number_of(count))?;
+    match store.run(rt, guests) {
         Ok(outs) => {
             let printed = print_outs(text, outs.as_slice());
             drop(outs);

@@ -1,7 +1,7 @@
 //! The steps of a transaction, as a row spells them: calls, each with its reply or with what refuses it.
 use crate::handles::All;
 use crate::numbers::Number;
-use std::alloc::AllocError;
+use std::alloc::{AllocError, Global};
 use std::fmt;
 use std::fmt::Write;
 use wolimevar::{Bag, Full, Lanes, Map, PriorityQueue, Queue, Refusal, Scope, Transaction, Word};
@@ -66,7 +66,10 @@ fn found(number: Option<u64>) -> Reply {
 }
 
 fn held<V: Number>(value: Option<V>) -> Reply {
-    found(value.map(|value| value.number()))
+    match value {
+        Some(value) => Reply::Number(value.number()),
+        None => Reply::Nothing,
+    }
 }
 
 fn room(room: Result<(), Full>) -> Reply {
@@ -84,6 +87,14 @@ fn taken(was_there: bool) -> Reply {
     }
 }
 
+/// The first word, and what follows it.
+pub fn first_word(text: &str) -> (&str, &str) {
+    match text.split_once(' ') {
+        Some(parts) => parts,
+        None => (text, ""),
+    }
+}
+
 /// The number that a word spells, or 0.
 pub fn number_of(word: &str) -> u64 {
     match word.parse::<u64>() {
@@ -98,29 +109,30 @@ fn on_word<V: Number, S: Scope<V>>(
     op: &str,
     number: u64,
 ) -> Result<Reply, Refusal> {
-    match op {
-        "read" => Ok(Reply::Number(word.read(tx)?)),
-        "write" => word.write(tx, number).map(|_| Reply::Done),
-        _ => {
-            let before = word.read(tx)?;
-            word.write(tx, before.saturating_add(1))
-                .map(|_| Reply::Done)
-        }
+    if op == "read" {
+        return Ok(Reply::Number(word.read(tx)?));
     }
+    let number = match op {
+        "write" => number,
+        _ => word.read(tx)?.saturating_add(1),
+    };
+    word.write(tx, number)?;
+    Ok(Reply::Done)
 }
 
 fn on_map<V: Number, S: Scope<V>>(
     tx: &mut Transaction<'_, V, S>,
+    alloc: Global,
     map: Map<V>,
     op: &str,
     key: u64,
     number: u64,
 ) -> Result<Reply, Refusal> {
     match op {
-        "put" => map.put(tx, key, V::of(number)).map(held),
-        "get" => map.get(tx, key).map(held),
-        "remove" => map.remove(tx, key).map(held),
-        _ => map.len(tx).map(Reply::Number),
+        "put" => Ok(held(map.put(tx, key, V::of(alloc, number)?)?)),
+        "get" => Ok(held(map.get(tx, key)?)),
+        "remove" => Ok(held(map.remove(tx, key)?)),
+        _ => Ok(Reply::Number(map.len(tx)?)),
     }
 }
 
@@ -131,9 +143,9 @@ fn on_bag<V: Number, S: Scope<V>>(
     element: u64,
 ) -> Result<Reply, Refusal> {
     match op {
-        "add" => bag.add(tx, element).map(room),
-        "take" => bag.take(tx, element).map(taken),
-        _ => bag.count(tx, element).map(Reply::Number),
+        "add" => Ok(room(bag.add(tx, element)?)),
+        "take" => Ok(taken(bag.take(tx, element)?)),
+        _ => Ok(Reply::Number(bag.count(tx, element)?)),
     }
 }
 
@@ -144,9 +156,9 @@ fn on_least<V: Number, S: Scope<V>>(
     element: u64,
 ) -> Result<Reply, Refusal> {
     match op {
-        "insert" => queue.insert(tx, element).map(room),
-        "take" => queue.take_least(tx).map(found),
-        _ => queue.least(tx).map(found),
+        "insert" => Ok(room(queue.insert(tx, element)?)),
+        "take" => Ok(found(queue.take_least(tx)?)),
+        _ => Ok(found(queue.least(tx)?)),
     }
 }
 
@@ -157,10 +169,10 @@ fn on_queue<V: Number, S: Scope<V>>(
     item: u64,
 ) -> Result<Reply, Refusal> {
     match op {
-        "enqueue" => queue.enqueue(tx, item).map(room),
-        "dequeue" => queue.dequeue(tx).map(found),
-        "peek" => queue.peek(tx).map(found),
-        _ => queue.len(tx).map(Reply::Number),
+        "enqueue" => Ok(room(queue.enqueue(tx, item)?)),
+        "dequeue" => Ok(found(queue.dequeue(tx)?)),
+        "peek" => Ok(found(queue.peek(tx)?)),
+        _ => Ok(Reply::Number(queue.len(tx)?)),
     }
 }
 
@@ -171,9 +183,9 @@ fn on_lanes<V: Number, S: Scope<V>>(
     item: u64,
 ) -> Result<Reply, Refusal> {
     match op {
-        "enqueue" => lanes.enqueue(tx, item).map(room),
-        "dequeue" => lanes.dequeue(tx).map(found),
-        _ => lanes.len(tx).map(Reply::Number),
+        "enqueue" => Ok(room(lanes.enqueue(tx, item)?)),
+        "dequeue" => Ok(found(lanes.dequeue(tx)?)),
+        _ => Ok(Reply::Number(lanes.len(tx)?)),
     }
 }
 
@@ -183,19 +195,19 @@ fn make<V: Number, S: Scope<V>>(
     all: &All<V>,
     step: &str,
 ) -> Result<Reply, Refusal> {
-    let (handle, call) = step.split_once(' ').unwrap_or((step, ""));
-    let (handles, name) = all.named(handle);
-    let (op, numbers) = call.split_once(' ').unwrap_or((call, ""));
-    let (first, second) = numbers.split_once(' ').unwrap_or((numbers, ""));
+    let (handle, call) = first_word(step);
+    let (op, numbers) = first_word(call);
+    let (first, second) = first_word(numbers);
     let (first, second) = (number_of(first), number_of(second));
+    let (handles, name) = all.named(handle);
     match name {
-        "map" => on_map(tx, handles.map, op, first, second),
+        "map" => on_map(tx, all.alloc, handles.map, op, first, second),
         "bag" => on_bag(tx, handles.bag, op, first),
         "full_bag" => on_bag(tx, handles.full_bag, op, first),
         "least" => on_least(tx, handles.least, op, first),
         "full_least" => on_least(tx, handles.full_least, op, first),
         "queue" => on_queue(tx, handles.queue, op, first),
-        "wide_map" => on_map(tx, handles.wide_map, op, first, second),
+        "wide_map" => on_map(tx, all.alloc, handles.wide_map, op, first, second),
         "wide_bag" => on_bag(tx, handles.wide_bag, op, first),
         "lanes" => on_lanes(tx, handles.lanes, op, first),
         _ => on_word(tx, word_of(handles.words, name), op, first),
@@ -238,12 +250,13 @@ fn take<V: Number, S: Scope<V>>(
     if let Some(step) = step.strip_prefix("until refused ") {
         return Ok(repeat(text, tx, all, step)?);
     }
-    if let Some(step) = step.strip_suffix(" ?") {
-        let reply = make(tx, all, step)?;
-        return Ok(write!(text, "{reply} ")?);
-    }
+    let (step, ends) = match step.strip_suffix(" ?") {
+        Some(step) => (step, true),
+        None => (step, false),
+    };
     match make(tx, all, step) {
         Ok(reply) => Ok(write!(text, "{reply} ")?),
+        Err(refusal) if ends => Err(Ended::Refused(refusal)),
         Err(refusal) => Ok(write!(text, "{refusal} ")?),
     }
 }

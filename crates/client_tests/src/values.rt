@@ -1,18 +1,17 @@
 //! Values of each type that maps may hold: a map gives back what was put.
-use std::alloc::Global;
+use crate::numbers::{Brittle, Number};
+use std::alloc::{AllocError, Global};
 use std::fmt::Write;
-use wolimevar::{
-    Body, Entries, Layout, Map, Refusal, Scope, Shared, Store, Text, Transaction, Value,
-};
+use wolimevar::{Body, Entries, Layout, Map, Refusal, Scope, Store, Transaction, Value};
 
 /// A value is put, and got again.
 #[derive(Drop)]
-struct GiveBack<V> {
+struct GiveBack<'a, V> {
     map: Map<V>,
-    value: V,
+    value: &'a V,
 }
 
-impl<V: Value> Body<V> for GiveBack<V> {
+impl<V: Value> Body<V> for GiveBack<'_, V> {
     type Out = Option<V>;
 
     type Error = Refusal;
@@ -23,58 +22,55 @@ impl<V: Value> Body<V> for GiveBack<V> {
     }
 }
 
-fn open<V: Value>(alloc: Global) -> Result<(Store<V>, Map<V>), Refusal> {
-    let mut layout = Layout::new(alloc);
-    let map = layout.map(1, Entries::new(alloc))?;
-    let store = layout.open()?;
-    Ok((store, map))
-}
-
-fn given<V: Value>(store: &mut Store<V>, body: &GiveBack<V>) -> Result<Option<V>, Refusal> {
+fn given<V: Value>(store: &mut Store<V>, body: &GiveBack<'_, V>) -> Result<Option<V>, Refusal> {
     let (given, _) = store.atomically(1, body)?;
     Ok(given)
 }
 
-/// What a map gives back of the value, if that is the same.
-fn gives_back<V: Value>(alloc: Global, value: V) -> Result<Option<V>, Refusal> {
-    let (mut store, map) = open(alloc)?;
-    let body = GiveBack { map, value };
-    let given = given(&mut store, &body);
+/// What a map gives back of the value.
+fn gives_back<V: Value>(alloc: Global, value: &V) -> Result<Option<V>, Refusal> {
+    let mut layout = Layout::new(alloc);
+    let map = layout.map(1, Entries::new(alloc))?;
+    let mut store = layout.open()?;
+    let given = given(&mut store, &GiveBack { map, value });
     drop(store);
-    Ok(given?.filter(|given| given.same(&body.value)))
+    given
 }
 
-fn print_same<V: Value>(text: &mut String, value: V) -> Result<(), Refusal> {
-    let alloc = *text.allocator();
-    let gives_back = gives_back(alloc, value)?.is_some();
-    Ok(writeln!(text, "{gives_back}")?)
-}
-
-fn print_text(text: &mut String) -> Result<(), Refusal> {
-    let alloc = *text.allocator();
-    let given = gives_back(alloc, Text::of(alloc, "Ada")?)?;
-    let given = given.as_ref().map_or("", |given| given.as_str());
-    Ok(writeln!(text, "{given}")?)
-}
-
-fn print_shared(text: &mut String) -> Result<(), Refusal> {
-    let alloc = *text.allocator();
-    let shared = Text::from(format!(in alloc; "shared by {}", 2)?);
-    let given = gives_back(alloc, Shared::new(alloc, shared)?)?;
-    let given = given.as_ref().map_or("", |given| given.get().as_str());
-    Ok(writeln!(text, "{given}")?)
-}
-
-/// Prints whether a map of values of this type gives back what was put, and of texts what it gave.
-pub fn print_given(text: &mut String, name: &str) -> Result<(), Refusal> {
+/// Whether what was given is the same in what is of this type.
+fn is_same(value: &Brittle, given: &Brittle, name: &str) -> bool {
+    let (((small, yes), (unit, (pair, maybe))), _) = &value.others;
+    let (((given_small, given_yes), (given_unit, (given_pair, given_maybe))), _) = &given.others;
     match name {
-        "u64" => print_same(text, 7u64),
-        "u32" => print_same(text, 7u32),
-        "bool" => print_same(text, true),
-        "()" => print_same(text, ()),
-        "(u64, bool)" => print_same(text, (7u64, false)),
-        "Option<u32>" => print_same(text, Some(7u32)),
-        "Text" => print_text(text),
-        _ => print_shared(text),
+        "u64" => value.number.same(&given.number),
+        "u32" => small.same(given_small),
+        "bool" => yes.same(given_yes),
+        "()" => unit.same(given_unit),
+        "(u64, bool)" => pair.same(given_pair),
+        _ => maybe.same(given_maybe),
+    }
+}
+
+fn print_same(
+    text: &mut String,
+    value: &Brittle,
+    given: &Brittle,
+    name: &str,
+) -> Result<(), AllocError> {
+    let (_, (own, shared)) = &given.others;
+    match name {
+        "Text" => text.push_str(own.as_str()),
+        "Shared<Text>" => text.push_str(shared.get().as_str()),
+        _ => write!(text, "{}", is_same(value, given, name)),
+    }
+}
+
+/// Prints whether a map gives back what was put, in what is of this type, and of texts what it gave.
+pub fn print_given(text: &mut String, name: &str) -> Result<(), Refusal> {
+    let alloc = *text.allocator();
+    let value = Brittle::of(alloc, 7)?;
+    match gives_back(alloc, &value)? {
+        Some(given) => Ok(print_same(text, &value, &given, name)?),
+        None => Ok(text.push_str("none")?),
     }
 }
