@@ -356,7 +356,7 @@ fn lay_over_gates(
     Ok((map, bag, jobs))
 }
 
-fn work(text: &mut String, store: &mut Store<u64>, jobs: Lanes) -> Result<(), Refusal> {
+fn call_lanes(text: &mut String, store: &mut Store<u64>, jobs: Lanes) -> Result<(), Refusal> {
     let ((taken, left), _) = store.atomically(1_000, &Work(jobs))?;
     Ok(writeln!(text, "a queue in lanes = {taken:?} {left}")?)
 }
@@ -367,7 +367,7 @@ fn work_over_gates(text: &mut String) -> Result<(), Refusal> {
     let (map, bag, jobs) = lay_over_gates(alloc, &mut layout)?;
     let store = layout.open()?;
     let mut store = store;
-    work(text, &mut store, jobs)?;
+    call_lanes(text, &mut store, jobs)?;
     let contents = match store.close() {
         Ok(contents) => contents,
         Err(unread) => unread.read()?,

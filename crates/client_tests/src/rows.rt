@@ -21,9 +21,10 @@ use wolimevar::{Refusal, Store, Tally};
 /// be copied, N being the store's number. At the end of the part the store is closed, and what it held is printed.
 ///
 /// - `do STEPS`, `look STEPS` and `once STEPS` run a transaction, `once` with no attempt asked for. STEPS, between which stands `; `, are
-///   calls: a handle (`map`, `bag`, `least`, `queue`, `full_bag`, `full_least`, `wide_map`, `wide_bag`, `lanes`, or a word, `a`, `b` or `c`;
-///   with `other.` before it that of another store, with `beyond.` one beyond the layout, with `reversed.` one of another kind), what is
-///   done, and numbers. After ` ?` what refuses a call ends the body. `until refused CALL` is taken as often as it is answered, and `abort N` aborts.
+///   calls: a handle (`map`, `bag`, `least`, `queue`, `full_bag`, `full_least`, `wide_map`, `wide_bag`, `lanes`, or a word, `a`, `b` or
+///   `c`; with `other.` before it that of another store, with `beyond.` one beyond the layout, with `reversed.` one of another kind), what
+///   is done, and numbers. After ` ?` what refuses a call ends the body. `until refused CALL` is taken as often as it is answered, and
+///   `abort N` aborts.
 /// - `clients N PART / PART` has so many sessions do these parts, see [`crate::sessions`].
 /// - `learn N` learns a number, and `tally` counts how the store's attempts ended.
 ///
