@@ -6,10 +6,18 @@ use seq_model::{Held, Items, Request};
 pub const STEP_LIMIT: u64 = 1_000_000;
 
 /// A collection of a script's header.
-#[derive(Drop)]
 pub struct Collection {
     pub stripes: u32,
     pub held: Held<u64>,
+}
+
+impl Drop for Collection {
+    fn drop(self) {
+        let Collection {
+            stripes: _,
+            held: _,
+        } = self;
+    }
 }
 
 /// A line of a script's events.
@@ -27,10 +35,20 @@ pub enum EventLine {
 }
 
 /// A step script: what its world opens with, and what happens in it.
-#[derive(Drop)]
 pub struct Script {
     pub words: Items<u64>,
     pub clock: u64,
     pub collections: Items<Collection>,
     pub lines: Items<EventLine>,
+}
+
+impl Drop for Script {
+    fn drop(self) {
+        let Script {
+            words: _,
+            clock: _,
+            collections: _,
+            lines: _,
+        } = self;
+    }
 }

@@ -37,10 +37,22 @@ pub fn read_line(alloc: Global, tokens: &[&str]) -> Result<Option<ScriptLine>, M
         return Ok(None);
     };
     match *first {
-        "words" => Ok(read_words(alloc, tokens)?.map(ScriptLine::Words)),
-        "clock" => Ok(read_clock(tokens).map(ScriptLine::Clock)),
-        kind if is_kind(kind) => Ok(read_collection(alloc, tokens)?.map(ScriptLine::Holds)),
-        _ => Ok(read_event(tokens).map(ScriptLine::Event)),
+        "words" => match read_words(alloc, tokens)? {
+            Some(words) => Ok(Some(ScriptLine::Words(words))),
+            None => Ok(None),
+        },
+        "clock" => match read_clock(tokens) {
+            Some(clock) => Ok(Some(ScriptLine::Clock(clock))),
+            None => Ok(None),
+        },
+        kind if is_kind(kind) => match read_collection(alloc, tokens)? {
+            Some(collection) => Ok(Some(ScriptLine::Holds(collection))),
+            None => Ok(None),
+        },
+        _ => match read_event(tokens) {
+            Some(event) => Ok(Some(ScriptLine::Event(event))),
+            None => Ok(None),
+        },
     }
 }
 
@@ -92,9 +104,18 @@ fn read_held(alloc: Global, kind: &str, tokens: &[&str]) -> Result<Option<Held<u
     ensures only { IfOk result (λ read. (held : Held ℕ) → IsHeld kind.now (texts tokens.now) held → read ≡ Some held) }
 {
     match kind {
-        "map" => Ok(read_entries(alloc, tokens)?.map(Held::Map)),
-        "bag" => Ok(read_counts(alloc, tokens)?.map(Held::Bag)),
-        "pq" => Ok(read_counts(alloc, tokens)?.map(Held::Pq)),
+        "map" => match read_entries(alloc, tokens)? {
+            Some(entries) => Ok(Some(Held::Map(entries))),
+            None => Ok(None),
+        },
+        "bag" => match read_counts(alloc, tokens)? {
+            Some(counts) => Ok(Some(Held::Bag(counts))),
+            None => Ok(None),
+        },
+        "pq" => match read_counts(alloc, tokens)? {
+            Some(counts) => Ok(Some(Held::Pq(counts))),
+            None => Ok(None),
+        },
         "queue" => match read_numbers(alloc, tokens)? {
             Some(items) => Ok(Some(Held::Queue {
                 head: 0,

@@ -8,7 +8,7 @@ ghost use Rattle.text_formats.specs.SessionPrints.{customer_line, item_text, ite
 ghost use Rattle.text_formats.specs.SessionPrints.{reply_text, tables_text, wait_text};
 
 use seq_model::{LastAbort, Memory};
-use std::alloc::Global;
+use std::alloc::{AllocError, Global};
 use std::fmt::Write;
 use vac_model::{ActionReply, Booking, ChangeReply, Each, Item, Kind, KindReply, Tables, Wait};
 
@@ -31,7 +31,7 @@ pub fn print_sessions(alloc: Global, lines: &[Line], tables: &Tables) -> Result<
     Ok(text.into_bytes())
 }
 
-fn print_lines(text: &mut String, lines: &[Line]) -> Result<(), Memory>
+fn print_lines(text: &mut String, lines: &[Line]) -> Result<(), AllocError>
     ensures { OnOk result (string_bytes text.new ≡ string_bytes text.old ++ lines_text 1 lines.now) }
 {
     let mut session = 1;
@@ -42,7 +42,7 @@ fn print_lines(text: &mut String, lines: &[Line]) -> Result<(), Memory>
     Ok(())
 }
 
-fn print_line(text: &mut String, session: u64, line: &Line) -> Result<(), Memory>
+fn print_line(text: &mut String, session: u64, line: &Line) -> Result<(), AllocError>
     ensures { OnOk result (string_bytes text.new ≡ string_bytes text.old ++ line_text session line.now) }
 {
     write!(text, "{session} ")?;
@@ -51,45 +51,42 @@ fn print_line(text: &mut String, session: u64, line: &Line) -> Result<(), Memory
     Ok(())
 }
 
-fn print_outcome(text: &mut String, line: &Line) -> Result<(), Memory>
+fn print_outcome(text: &mut String, line: &Line) -> Result<(), AllocError>
     ensures { OnOk result (string_bytes text.new ≡ string_bytes text.old ++ outcome_text line.now) }
 {
     match line {
         Line::Done(number, reply) => {
             write!(text, "{number}: ")?;
-            print_reply(text, reply)?;
+            print_reply(text, reply)
         }
-        Line::Missed(cause) => print_missed(text, *cause)?,
+        Line::Missed(cause) => print_missed(text, *cause),
     }
-    Ok(())
 }
 
-fn print_missed(text: &mut String, cause: LastAbort) -> Result<(), Memory>
+fn print_missed(text: &mut String, cause: LastAbort) -> Result<(), AllocError>
     ensures { OnOk result (string_bytes text.new ≡ string_bytes text.old ++ missed_text cause) }
 {
     match cause {
-        LastAbort::Refused(refusal) => write!(text, "missed: {refusal}")?,
-        LastAbort::GivenUp => text.push_str("missed: given up")?,
-        LastAbort::NotStarted => text.push_str("missed: not started")?,
+        LastAbort::Refused(refusal) => write!(text, "missed: {refusal}"),
+        LastAbort::GivenUp => text.push_str("missed: given up"),
+        LastAbort::NotStarted => text.push_str("missed: not started"),
     }
-    Ok(())
 }
 
-fn print_reply(text: &mut String, reply: &ActionReply) -> Result<(), Memory>
+fn print_reply(text: &mut String, reply: &ActionReply) -> Result<(), AllocError>
     ensures { OnOk result (string_bytes text.new ≡ string_bytes text.old ++ reply_text reply.now) }
 {
     match reply {
-        ActionReply::Reserved(parts) => print_parts(text, parts)?,
-        ActionReply::Deleted(bill, served) => write!(text, "bill {bill} served {served}")?,
-        ActionReply::Updated(changes) => print_changes(text, changes.as_slice())?,
-        ActionReply::Found(item) => print_item(text, item)?,
-        ActionReply::Bill(sum) => write!(text, "bill {sum}")?,
-        ActionReply::Absent => text.push_str("absent")?,
+        ActionReply::Reserved(parts) => print_parts(text, parts),
+        ActionReply::Deleted(bill, served) => write!(text, "bill {bill} served {served}"),
+        ActionReply::Updated(changes) => print_changes(text, changes.as_slice()),
+        ActionReply::Found(item) => print_item(text, item),
+        ActionReply::Bill(sum) => write!(text, "bill {sum}"),
+        ActionReply::Absent => text.push_str("absent"),
     }
-    Ok(())
 }
 
-fn print_parts(text: &mut String, parts: &Each<KindReply>) -> Result<(), Memory>
+fn print_parts(text: &mut String, parts: &Each<KindReply>) -> Result<(), AllocError>
     ensures { OnOk result (string_bytes text.new ≡ string_bytes text.old ++ parts_text parts.now) }
 {
     print_part(text, &parts.car)?;
@@ -99,21 +96,20 @@ fn print_parts(text: &mut String, parts: &Each<KindReply>) -> Result<(), Memory>
     print_part(text, &parts.room)
 }
 
-fn print_part(text: &mut String, part: &KindReply) -> Result<(), Memory>
+fn print_part(text: &mut String, part: &KindReply) -> Result<(), AllocError>
     ensures { OnOk result (string_bytes text.new ≡ string_bytes text.old ++ part_text part.now) }
 {
     match part {
-        KindReply::Nothing => text.push_str("nothing")?,
-        KindReply::Already(id) => write!(text, "already {id}")?,
-        KindReply::Full(id) => write!(text, "full {id}")?,
-        KindReply::Booked(id, units, price) => write!(text, "booked {id} {units} {price}")?,
-        KindReply::NoFree(id) => write!(text, "nofree {id}")?,
-        KindReply::Waits(id, ticket) => write!(text, "waits {id} {ticket}")?,
+        KindReply::Nothing => text.push_str("nothing"),
+        KindReply::Already(id) => write!(text, "already {id}"),
+        KindReply::Full(id) => write!(text, "full {id}"),
+        KindReply::Booked(id, units, price) => write!(text, "booked {id} {units} {price}"),
+        KindReply::NoFree(id) => write!(text, "nofree {id}"),
+        KindReply::Waits(id, ticket) => write!(text, "waits {id} {ticket}"),
     }
-    Ok(())
 }
 
-fn print_changes(text: &mut String, changes: &[ChangeReply]) -> Result<(), Memory>
+fn print_changes(text: &mut String, changes: &[ChangeReply]) -> Result<(), AllocError>
     ensures { OnOk result (string_bytes text.new ≡ string_bytes text.old ++ changes_text changes.now) }
 {
     let [first, others @ ..] = changes else {
@@ -123,7 +119,7 @@ fn print_changes(text: &mut String, changes: &[ChangeReply]) -> Result<(), Memor
     print_others(text, others)
 }
 
-fn print_others(text: &mut String, changes: &[ChangeReply]) -> Result<(), Memory>
+fn print_others(text: &mut String, changes: &[ChangeReply]) -> Result<(), AllocError>
     ensures { OnOk result (string_bytes text.new ≡ string_bytes text.old ++ flat_map (λ made. codes " " ++ changed_text made) changes.now) }
 {
     for changed in changes {
@@ -142,7 +138,7 @@ fn word_of(changed: ChangeReply) -> &'static str
     }
 }
 
-fn print_item(text: &mut String, item: &Item) -> Result<(), Memory>
+fn print_item(text: &mut String, item: &Item) -> Result<(), AllocError>
     ensures { OnOk result (string_bytes text.new ≡ string_bytes text.old ++ item_text item.now) }
 {
     let Item {
@@ -151,11 +147,10 @@ fn print_item(text: &mut String, item: &Item) -> Result<(), Memory>
         free,
         price,
     } = *item;
-    write!(text, "total {total} used {used} free {free} price {price}")?;
-    Ok(())
+    write!(text, "total {total} used {used} free {free} price {price}")
 }
 
-fn print_tables(text: &mut String, tables: &Tables) -> Result<(), Memory>
+fn print_tables(text: &mut String, tables: &Tables) -> Result<(), AllocError>
     ensures { OnOk result (string_bytes text.new ≡ string_bytes text.old ++ tables_text tables.now) }
 {
     print_items(text, Kind::Car, tables)?;
@@ -167,7 +162,7 @@ fn print_tables(text: &mut String, tables: &Tables) -> Result<(), Memory>
     print_queue(text, Kind::Room, tables)
 }
 
-fn print_items(text: &mut String, kind: Kind, tables: &Tables) -> Result<(), Memory>
+fn print_items(text: &mut String, kind: Kind, tables: &Tables) -> Result<(), AllocError>
     ensures { OnOk result (string_bytes text.new ≡ string_bytes text.old ++ items_text kind tables.now) }
 {
     let word = name_of(kind);
@@ -179,7 +174,7 @@ fn print_items(text: &mut String, kind: Kind, tables: &Tables) -> Result<(), Mem
     Ok(())
 }
 
-fn print_customers(text: &mut String, tables: &Tables) -> Result<(), Memory>
+fn print_customers(text: &mut String, tables: &Tables) -> Result<(), AllocError>
     ensures { OnOk result (string_bytes text.new ≡ string_bytes text.old ++ flat_map customer_line (map.entries tables.now.customers)) }
 {
     for (number, customer) in tables.customers() {
@@ -191,7 +186,7 @@ fn print_customers(text: &mut String, tables: &Tables) -> Result<(), Memory>
     Ok(())
 }
 
-fn print_bookings(text: &mut String, bookings: &[Booking]) -> Result<(), Memory>
+fn print_bookings(text: &mut String, bookings: &[Booking]) -> Result<(), AllocError>
     ensures { OnOk result (string_bytes text.new ≡ string_bytes text.old ++ flat_map booking_text bookings.now) }
 {
     for booking in bookings {
@@ -207,7 +202,7 @@ fn print_bookings(text: &mut String, bookings: &[Booking]) -> Result<(), Memory>
     Ok(())
 }
 
-fn print_waits(text: &mut String, waits: &[Wait]) -> Result<(), Memory>
+fn print_waits(text: &mut String, waits: &[Wait]) -> Result<(), AllocError>
     ensures { OnOk result (string_bytes text.new ≡ string_bytes text.old ++ flat_map wait_text waits.now) }
 {
     for wait in waits {
@@ -223,7 +218,7 @@ fn print_waits(text: &mut String, waits: &[Wait]) -> Result<(), Memory>
     Ok(())
 }
 
-fn print_queue(text: &mut String, kind: Kind, tables: &Tables) -> Result<(), Memory>
+fn print_queue(text: &mut String, kind: Kind, tables: &Tables) -> Result<(), AllocError>
     ensures { OnOk result (string_bytes text.new ≡ string_bytes text.old ++ queue_text kind tables.now) }
 {
     let tickets = &tables.waiting(kind).tickets;
@@ -239,7 +234,7 @@ fn print_queue(text: &mut String, kind: Kind, tables: &Tables) -> Result<(), Mem
     Ok(())
 }
 
-fn print_numbers(text: &mut String, numbers: &[u64]) -> Result<(), Memory>
+fn print_numbers(text: &mut String, numbers: &[u64]) -> Result<(), AllocError>
     ensures { OnOk result (string_bytes text.new ≡ string_bytes text.old ++ flat_map number_text numbers.now) }
 {
     for number in numbers {
