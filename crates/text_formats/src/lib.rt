@@ -8,7 +8,7 @@
 //!
 //! [`generate`] draws sessions that clients might ask for, and [`opening`] tables to begin with. Each worker has a generator of its own, of
 //! the same seed, and the tables have one, too: so what is drawn for a worker depends on the seed, the worker's number and the [`Options`]
-//! alone. What is drawn, draw by draw, is a definition (`specs/Drawing.antt`, `specs/Openings.antt`), in words in docs/formats.md.
+//! alone. What is drawn, draw by draw, is a definition (`specs/DrawnActions.antt`, `specs/Openings.antt`), in words in docs/formats.md.
 #![tactic(auto)]
 
 mod cut;
