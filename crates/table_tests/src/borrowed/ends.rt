@@ -45,10 +45,7 @@ fn commit<V: Value>(tx: Tx<'_, V>) -> Result<Answer<V>, Refusal>
     requires since { HasBegunSince tx.table.now tx.seat.now }
     ensures ready { IsReady tx.entry.table.now tx.exit.1.0.now }
 {
-    match tx.commit() {
-        Ok(receipt) => Ok(Answer::Committed(receipt)),
-        Err(refusal) => Err(refusal),
-    }
+    Answer::of_commit(tx.commit())
 }
 
 fn abort<V: Value>(tx: Tx<'_, V>) -> Result<Answer<V>, Refusal>

@@ -1,16 +1,8 @@
 //! Jobs of workers, whose values are rationed.
-ghost use Rattle.std.specs.Prelude.{◌≡◌, ◌≤◌, length};
-ghost use Rattle.tx_table.specs.Seated.{view};
-ghost use Rattle.tx_engine.specs.Ready.{IsReady};
-
-use super::rations::{Ration, Rationed, get};
-use seq_model::{Ask, Call, Job, Memory, Op, Refusal, Reply};
+use super::rations::{Supply, get};
+use seq_model::{Call, Memory, Op, Reply, Value};
 use std::alloc::Global;
-use std::sync::Wait;
-use std::thread::Threads;
-use tx_engine::{Pause, TxSeat};
-use tx_table::TxTable;
-use workers::{Report, run_workers};
+use tx_engine::{Ask, Job};
 
 /// What a job asks.
 #[derive(Clone, Copy)]
@@ -31,21 +23,21 @@ pub struct Plan {
 
 /// A job that is planned so.
 #[derive(Drop)]
-struct Step {
-    ration: Ration,
+pub struct Step<S> {
+    supply: S,
     plan: Plan,
 }
 
-impl Job<Rationed> for Step {
+impl<V: Value, S: Supply<V>> Job<V> for Step<S> {
     ghost use Rattle.std.specs.Prelude.{⊤};
 
     ghost asks = { λ _ _ _. ⊤ };
 
-    fn ask(&self, replies: &[Reply<Rationed>]) -> Result<Ask<Rationed>, Memory> {
-        self.ration.steps().wait_for_row(self.plan.after);
+    fn ask(&self, replies: &[Reply<V>]) -> Result<Ask<V>, Memory> {
+        self.supply.wait_for_step(self.plan.after);
         match (replies.len(), self.plan.asks) {
             (0, Asks::Gets) => Ok(Ask::Call(get(5))),
-            (0, Asks::Puts) | (1, Asks::WritesAndPuts) => Ok(Ask::Call(self.ration.put(5)?)),
+            (0, Asks::Puts) | (1, Asks::WritesAndPuts) => Ok(Ask::Call(self.supply.put(5)?)),
             (0, _) => {
                 let op = Op::Write(7);
                 Ok(Ask::Call(Call { target: 0, op }))
@@ -55,41 +47,19 @@ impl Job<Rationed> for Step {
     }
 }
 
-/// These jobs are run, each in up to so many attempts. They stand in the order of their workers.
-pub fn run_plans<R: Threads + Wait + Sync, P: Pause + Sync>(
-    rt: &R,
+/// The jobs of each worker. The plans stand in the order of their workers.
+pub fn lists_of<V: Value, S: Supply<V>>(
     alloc: Global,
-    ration: &Ration,
-    table: &TxTable<Rationed>,
-    seat: &mut TxSeat<Rationed>,
+    supply: &S,
     plans: &[Plan],
-    tries: u64,
-    pause: &P,
-) -> Result<Report<Rationed>, Refusal>
-    requires some { 1 ≤ tries }
-    requires ready { IsReady table.now seat.old }
-    requires shares { (view seat.old.seat).shares ≡ 64 }
-    ensures ready { IsReady table.now seat.new }
-{
-    let lists = lists_of(alloc, ration, plans)?;
-    let count = lists.len();
-    if count == 0 || count > 64 {
-        return Err(Refusal::NoSuch);
-    }
-    match run_workers(rt, alloc, table, seat, lists, tries, pause) {
-        Ok(report) => Ok(report),
-        Err(_) => Err(Refusal::Memory),
-    }
-}
-
-fn lists_of(alloc: Global, ration: &Ration, plans: &[Plan]) -> Result<Vec<Vec<Step>>, Memory> {
-    let mut lists: Vec<Vec<Step>> = Vec::new(alloc);
+) -> Result<Vec<Vec<Step<S>>>, Memory> {
+    let mut lists: Vec<Vec<Step<S>>> = Vec::new(alloc);
     for plan in plans {
         if lists.len() as u64 != plan.worker {
             lists.push(Vec::new(alloc))?;
         }
         let step = Step {
-            ration: ration.share()?,
+            supply: supply.share()?,
             plan: *plan,
         };
         if let Some(list) = lists.last_mut() {
