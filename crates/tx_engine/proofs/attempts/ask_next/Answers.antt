@@ -79,8 +79,9 @@ returns-in_ok-push-in-Call-clause-same g c =
     (c.in_ok-reply-in-Call.ensures.called.calls (so_far.calls, so_far.stands))
 
 pub ask_on-requires : goal.ask_on-requires
-ask_on-requires g c =
-    subst (λ rs. IsPlaceIn (g.J.Job.stands c.args.job.now) rs c.args.place.now) (sym c.as_slice.ensures.value) c.requires.place
+ask_on-requires g c = record {
+  place = subst (λ rs. IsPlaceIn (g.J.Job.stands c.args.job.now) rs c.args.place.now) (sym c.as_slice.ensures.value) c.requires.place;
+}
 
 pub returns-in_ok-push-in-Call-clause-place : goal.returns-in_ok-push-in-Call-clause-place
 returns-in_ok-push-in-Call-clause-place g c =
