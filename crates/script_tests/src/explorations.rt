@@ -17,13 +17,11 @@ pub fn print_replayed(text: &mut String, script: &str) -> Result<(), RunFault> {
     let printed = std::str::from_utf8(bytes.as_slice()).unwrap_or("no text\n");
     let (outcomes, ending) = printed.split_once("outcomes ").unwrap_or(("", ""));
     let replayed = count_replayed(alloc, outcomes)?;
-    print_counts(text, ending.lines().next().unwrap_or(""), replayed)?;
-    Ok(())
+    Ok(print_counts(text, ending.lines().next().unwrap_or(""), replayed)?)
 }
 
 fn print_counts(text: &mut String, outcomes: &str, replayed: u64) -> Result<(), Memory> {
-    writeln!(text, "outcomes {outcomes} replayed {replayed}")?;
-    Ok(())
+    Ok(writeln!(text, "outcomes {outcomes} replayed {replayed}")?)
 }
 
 fn count_replayed(alloc: Global, outcomes: &str) -> Result<u64, RunFault> {
@@ -54,8 +52,7 @@ pub fn print_beside_all(text: &mut String, script: &str) -> Result<(), RunFault>
     let few = explore_script(alloc, &script, 1, Schedules::Apart, MOST, &NoProgress)?;
     let all = explore_script(alloc, &script, 1, Schedules::All, u64::MAX, &NoProgress)?;
     print_found(text, "apart", &few, &all)?;
-    print_found(text, "all", &all, &few)?;
-    Ok(())
+    Ok(print_found(text, "all", &all, &few)?)
 }
 
 // How many outcomes were found, how many of them the other has, and how many of these by no shorter script.
@@ -82,6 +79,5 @@ fn print_found(
         text,
         "{name}: outcomes {outcomes} shared {shared} shortest {shortest} "
     )?;
-    writeln!(text, "interleavings {interleavings} complete {complete}")?;
-    Ok(())
+    Ok(writeln!(text, "interleavings {interleavings} complete {complete}")?)
 }

@@ -52,6 +52,11 @@ fn push_spelt(bytes: &mut Vec<u8>, line: &str) -> Result<(), AllocError> {
     Ok(())
 }
 
+/// Adds a text, and drops it.
+pub fn push_owned(text: &mut String, added: String) -> Result<(), AllocError> {
+    text.push_str(added.as_str())
+}
+
 /// A file that is read.
 #[derive(Drop)]
 pub struct Input<'a> {

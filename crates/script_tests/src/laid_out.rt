@@ -15,10 +15,11 @@ use text_formats::parse_steps;
 pub fn print_laid_out(text: &mut String, laid_out: &str) -> Result<(), Refusal> {
     let alloc = *text.allocator();
     let (header, lines) = laid_out.split_once("--\n").unwrap_or(("", laid_out));
+    let state = header_of(alloc, header)?;
     let trace = Trace {
         records: Items::new(alloc),
         aborted: Items::new(alloc),
-        state: header_of(alloc, header)?,
+        state,
         half: Items::new(alloc),
     };
     let mut run = run_of(alloc, trace)?;
@@ -34,8 +35,7 @@ pub fn print_trace_alone(text: &mut String, trace: Trace<u64>) -> Result<(), Ref
 
 fn print_run(text: &mut String, run: &ScriptRun) -> Result<(), Refusal> {
     let printed = print_trace(*text.allocator(), run)?;
-    text.push_str(std::str::from_utf8(printed.as_slice()).unwrap_or("no text\n"))?;
-    Ok(())
+    Ok(text.push_str(std::str::from_utf8(printed.as_slice()).unwrap_or("no text\n"))?)
 }
 
 fn run_of(alloc: Global, trace: Trace<u64>) -> Result<ScriptRun, Refusal> {
@@ -55,12 +55,13 @@ fn header_of(alloc: Global, header: &str) -> Result<State<u64>, Refusal> {
 fn add_all(run: &mut ScriptRun, alloc: Global, lines: &str) -> Result<(), Refusal> {
     for line in lines.lines() {
         let (first, others) = line.split_once(' ').unwrap_or((line, ""));
-        match first {
-            "Quiet" => run.notices.push(Notice::Quiet)?,
-            "half" => run.trace.half.push(number_in(others)?)?,
-            "record" => run.trace.records.push(record_in(alloc, others)?)?,
-            actor => run.notices.push(notice_in(actor, others)?)?,
-        }
+        let added = match first {
+            "Quiet" => run.notices.push(Notice::Quiet),
+            "half" => run.trace.half.push(number_in(others)?),
+            "record" => run.trace.records.push(record_in(alloc, others)?),
+            actor => run.notices.push(notice_in(actor, others)?),
+        };
+        added?;
     }
     Ok(())
 }

@@ -8,8 +8,7 @@ use text_formats::{EventLine, Script, parse_steps};
 /// Prints what was read of a script: its words, its clock, its collections, and its lines.
 pub fn print_script(text: &mut String, lines: &str) -> Result<(), Refusal> {
     let script = parse_steps(*text.allocator(), lines.as_bytes())?;
-    print_read(text, &script)?;
-    Ok(())
+    Ok(print_read(text, &script)?)
 }
 
 fn print_read(text: &mut String, script: &Script) -> Result<(), Memory> {
@@ -56,8 +55,8 @@ fn print_request(text: &mut String, request: &Request<u64>) -> Result<(), AllocE
     if let Some(first) = first {
         write!(text, " {first}")?;
     }
-    if let Some(second) = second {
-        write!(text, " {second}")?;
+    match second {
+        Some(second) => write!(text, " {second}"),
+        None => Ok(()),
     }
-    Ok(())
 }

@@ -50,8 +50,7 @@ pub fn answer_section(text: &mut String, opening: &str, rows: &str) -> Result<()
         Some(opening) => run_ordered(text, opening, rows),
         None => run_interleaved(text, opening, rows),
     };
-    tell_refusal(text, "", answered, "\n")?;
-    Ok(())
+    Ok(tell_refusal(text, "", answered, "\n")?)
 }
 
 fn run_interleaved(text: &mut String, opening: &str, rows: &str) -> Result<(), Refusal> {

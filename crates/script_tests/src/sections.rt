@@ -1,6 +1,6 @@
 //! The sections, and what is made of each.
 use crate::explorations::{print_beside_all, print_replayed};
-use crate::files::{Input, Output, bytes_of, ending_of};
+use crate::files::{Input, Output, bytes_of, ending_of, push_owned};
 use crate::laid_out::print_laid_out;
 use crate::reading::print_script;
 use crate::reservations::{answer_section, opening_of};
@@ -68,30 +68,48 @@ fn run_section<H: Threads + Wait + Clock + Sync>(
 ) -> Result<(), RunFault> {
     let (_, kind) = name.split_once(" = ").unwrap_or((name, ""));
     match kind {
-        "script" => Ok(print_script(text, file)?),
-        "world" => Ok(print_worlds(text, file)?),
-        "trace" => Ok(print_laid_out(text, file)?),
         "replayed" => print_replayed(text, file),
         "schedules" => print_beside_all(text, file),
-        "files" => Ok(print_files(text, file)?),
-        "times" => Ok(print_missed(text)?),
-        "paces" => Ok(print_paces(text)?),
+        "script" | "world" | "trace" => Ok(print_by_script(text, kind, file)?),
+        _ => Ok(run_other(rt, text, kind, name, file)?),
+    }
+}
+
+fn print_by_script(text: &mut String, kind: &str, file: &str) -> Result<(), Refusal> {
+    match kind {
+        "script" => print_script(text, file),
+        "world" => print_worlds(text, file),
+        _ => print_laid_out(text, file),
+    }
+}
+
+fn run_other<H: Threads + Wait + Clock + Sync>(
+    rt: &H,
+    text: &mut String,
+    kind: &str,
+    name: &str,
+    file: &str,
+) -> Result<(), Memory> {
+    match kind {
+        "files" => print_files(text, file),
+        "times" => print_missed(text),
+        "paces" => print_paces(text),
         _ => match opening_of(file) {
-            Some((opening, rows)) => Ok(answer_section(text, opening, rows)?),
-            None => Ok(run_words(rt, text, name, file)?),
+            Some((opening, rows)) => answer_section(text, opening, rows),
+            None => run_words(rt, text, name, file),
         },
     }
 }
 
 // A refusal and a fault are printed, but for that of memory.
 fn tell(text: &mut String, run: Result<(), RunFault>) -> Result<(), Memory> {
-    match run {
-        Ok(()) => {}
+    let told = match run {
+        Ok(()) => Ok(()),
         Err(RunFault::Refused(Refusal::Memory)) => return Err(Memory),
-        Err(RunFault::Refused(refusal)) => writeln!(text, "refused: {refusal}")?,
-        Err(fault) => writeln!(text, "fault: {fault}")?,
-    }
-    Ok(())
+        Err(RunFault::Refused(refusal)) => writeln!(text, "refused: {refusal}"),
+        Err(fault) => writeln!(text, "fault: {fault}"),
+    };
+    Ok(told?)
 }
 
 fn words_of(alloc: Global, asked: &str) -> Result<Vec<String>, AllocError> {
@@ -115,11 +133,11 @@ fn print_files(text: &mut String, lines: &str) -> Result<(), Memory> {
 fn print_file(text: &mut String, asked: &str) -> Result<(), Memory> {
     let alloc = *text.allocator();
     let words = words_of(alloc, asked)?;
-    match file_of(alloc, words.as_slice())? {
-        Some(file) => text.push_str(file.as_str())?,
-        None => text.push_str("no file")?,
-    }
-    Ok(())
+    let printed = match file_of(alloc, words.as_slice())? {
+        Some(file) => push_owned(text, file),
+        None => text.push_str("no file"),
+    };
+    Ok(printed?)
 }
 
 fn run_words<H: Threads + Wait + Clock + Sync>(
@@ -139,8 +157,7 @@ fn run_words<H: Threads + Wait + Clock + Sync>(
         rest: bytes.as_slice(),
         end,
     };
-    run_over(rt, text, words.as_slice(), &mut input, &mut out, shown)?;
-    Ok(())
+    Ok(run_over(rt, text, words.as_slice(), &mut input, &mut out, shown)?)
 }
 
 fn output(alloc: Global, is_full: bool) -> Result<Output, AllocError> {
@@ -163,11 +180,12 @@ fn run_over<H: Threads + Wait + Clock + Sync>(
         return Err(AllocError);
     }
     let lines = text_of(out.bytes.as_slice());
-    match shown {
-        "races" => print_raced(text, lines)?,
-        "end" => print_last(text, lines)?,
-        _ => print_lines(text, lines)?,
-    }
+    let printed = match shown {
+        "races" => print_raced(text, lines),
+        "end" => print_last(text, lines),
+        _ => print_lines(text, lines),
+    };
+    printed?;
     print_end(text, status, err.bytes.as_slice())
 }
 

@@ -1,4 +1,5 @@
 //! What is printed of the times of a run, and of how far one has come.
+use crate::files::push_owned;
 use command_line::{Pace, Speed, Times, print_times, print_times_as_values};
 use seq_model::Memory;
 use std::alloc::{AllocError, Global};
@@ -9,9 +10,8 @@ use std::time::Duration;
 pub(crate) fn print_missed(text: &mut String) -> Result<(), Memory> {
     let alloc = *text.allocator();
     let times = times_of(alloc)?;
-    text.push_str(print_times(alloc, &times)?.as_str())?;
-    text.push_str(print_times_as_values(alloc, &times)?.as_str())?;
-    Ok(())
+    push_owned(text, print_times(alloc, &times)?)?;
+    Ok(push_owned(text, print_times_as_values(alloc, &times)?)?)
 }
 
 /// Of six sessions three have a receipt, each after one attempt, one was missed after five, and no attempt was made of two.
@@ -48,6 +48,5 @@ pub(crate) fn print_paces(text: &mut String) -> Result<(), Memory> {
         most: 100_000,
         time: Duration::from_millis(1_167),
     };
-    writeln!(text, "{speed}")?;
-    Ok(())
+    Ok(writeln!(text, "{speed}")?)
 }

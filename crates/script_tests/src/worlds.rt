@@ -3,7 +3,7 @@ use crate::laid_out::print_trace_alone;
 use row_parts::{shape_of, state_of};
 use seq_model::{Event, Memory, Refusal};
 use std::alloc::Global;
-use step_world::{World, run_world};
+use step_world::{Trace, World, run_world};
 use text_formats::{EventLine, Script, parse_steps};
 
 /// Prints what has come of the events of a script, of which `A REQUEST` is a request, `A step K` is K steps, whatever they answer, and
@@ -20,17 +20,27 @@ fn print_by_run(text: &mut String, script: &Script) -> Result<(), Refusal> {
     let events = events_of(alloc, script)?;
     let state = state_of(alloc, script, script.clock)?;
     let trace = run_world(alloc, &shape, state, events.as_slice())?;
-    text.push_str("run_world\n")?;
-    print_trace_alone(text, trace)
+    print_named(text, "run_world\n", trace)
 }
 
 fn print_by_world(text: &mut String, script: &Script) -> Result<(), Refusal> {
     let world = fed(*text.allocator(), script)?;
-    let trace = world.trace()?;
-    text.push_str("trace\n")?;
-    print_trace_alone(text, trace)?;
-    let trace = world.into_trace()?;
-    text.push_str("into_trace\n")?;
+    match print_shown(text, &world) {
+        Ok(()) => print_named(text, "into_trace\n", world.into_trace()?),
+        Err(refusal) => {
+            drop(world);
+            Err(refusal)
+        }
+    }
+}
+
+fn print_shown(text: &mut String, world: &World<u64>) -> Result<(), Refusal> {
+    print_named(text, "trace\n", world.trace()?)
+}
+
+// A trace after its name.
+fn print_named(text: &mut String, name: &str, trace: Trace<u64>) -> Result<(), Refusal> {
+    text.push_str(name)?;
     print_trace_alone(text, trace)
 }
 

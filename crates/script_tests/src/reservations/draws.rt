@@ -1,8 +1,8 @@
 //! Sessions and tables that are drawn from a seed.
 use super::prints::name_of;
-use row_parts::location;
+use row_parts::{location, print_all};
 use seq_model::Refusal;
-use std::alloc::Global;
+use std::alloc::{AllocError, Global};
 use std::fmt::Write;
 use text_formats::{Options, generate, opening};
 use vac_model::{Action, Change, Tables};
@@ -47,37 +47,38 @@ pub fn answer_drawn(text: &mut String, numbers: &[u64]) -> Result<(), Refusal> {
     Ok(())
 }
 
-fn print_action(text: &mut String, action: &Action) -> Result<(), Refusal> {
+fn print_action(text: &mut String, action: &Action) -> Result<(), AllocError> {
     match action {
         Action::Reserve(customer, units, asks) => {
-            write!(text, "reserve {customer} {units}")?;
+            print_all(text, "reserve", &[*customer, *units])?;
             for ask in asks.as_slice() {
                 let (kind, id) = (name_of(ask.kind), ask.id);
                 write!(text, " {kind} {id}")?;
             }
+            Ok(())
         }
-        Action::Delete(customer) => write!(text, "delete {customer}")?,
-        Action::Update(changes) => print_changes(text, changes.as_slice())?,
-        Action::QueryItem(_, id) => write!(text, "item {id}")?,
-        Action::QueryBill(customer) => write!(text, "bill {customer}")?,
+        Action::Delete(customer) => print_all(text, "delete", &[*customer]),
+        Action::Update(changes) => print_changes(text, changes.as_slice()),
+        Action::QueryItem(_, id) => print_all(text, "item", &[*id]),
+        Action::QueryBill(customer) => print_all(text, "bill", &[*customer]),
     }
-    Ok(())
 }
 
-fn print_changes(text: &mut String, changes: &[Change]) -> Result<(), Refusal> {
+fn print_changes(text: &mut String, changes: &[Change]) -> Result<(), AllocError> {
     let mut first = true;
     for change in changes {
         text.push_str(if first { "update " } else { " and " })?;
         first = false;
-        match change {
+        let printed = match change {
             Change::Add(kind, id, units, price) => {
                 let kind = name_of(*kind);
-                write!(text, "add {kind} {id} {units} {price}")?;
+                write!(text, "add {kind} {id} {units} {price}")
             }
-            Change::TakeCar(id, units) => write!(text, "take car {id} {units}")?,
-            Change::TakeRoom(id, units) => write!(text, "take room {id} {units}")?,
-            Change::DropFlight(id) => write!(text, "drop {id}")?,
-        }
+            Change::TakeCar(id, units) => print_all(text, "take car", &[*id, *units]),
+            Change::TakeRoom(id, units) => print_all(text, "take room", &[*id, *units]),
+            Change::DropFlight(id) => print_all(text, "drop", &[*id]),
+        };
+        printed?;
     }
     Ok(())
 }

@@ -2,6 +2,7 @@
 ghost use Rattle.std.specs.Prelude.{IfOk};
 ghost use Rattle.vac_model.specs.Balanced.{IsBalanced};
 
+use super::files::parsed;
 use row_parts::{location_in, split};
 use seq_model::{Items, Refusal};
 use std::alloc::Global;
@@ -40,7 +41,8 @@ pub fn action_in(alloc: Global, line: &str) -> Result<Action, Refusal> {
     }
     let mut text = String::from_str(alloc, line)?;
     text.push('\n')?;
-    let (_, mut actions) = parse_sessions(alloc, text.as_bytes())?;
+    let (tables, mut actions) = parsed(alloc, text.into_bytes())?;
+    drop(tables);
     match actions.pop() {
         Some(action) => Ok(action),
         None => Err(Refusal::NoSuch),
@@ -74,16 +76,15 @@ fn add(alloc: Global, events: &mut Vec<VacEvent>, row: &str) -> Result<(), Refus
     let client = location_in(digits)?;
     let (verb, others) = words.split_once(' ').unwrap_or((words, ""));
     match verb {
-        "starts" => events.push(VacEvent::Start(client, action_in(alloc, others)?))?,
-        "starves" => events.push(VacEvent::Starve(client))?,
-        "steps" => add_steps(events, client, None, others)?,
+        "starts" => Ok(events.push(VacEvent::Start(client, action_in(alloc, others)?))?),
+        "starves" => Ok(events.push(VacEvent::Starve(client))?),
+        "steps" => add_steps(events, client, None, others),
         "and" => {
             let (second, times) = split(others, " step ")?;
-            add_steps(events, client, Some(location_in(second)?), times)?;
+            add_steps(events, client, Some(location_in(second)?), times)
         }
-        _ => return Err(Refusal::NoSuch),
+        _ => Err(Refusal::NoSuch),
     }
-    Ok(())
 }
 
 // So many steps, or so many turns of two.

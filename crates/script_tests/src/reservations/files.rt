@@ -1,5 +1,5 @@
 //! Session files, and the actions that they say.
-use super::prints::print_lines;
+use super::prints::{print_lines, print_reply};
 use row_parts::number_in;
 use seq_model::Refusal;
 use std::alloc::Global;
@@ -31,12 +31,12 @@ fn bytes_of(alloc: Global, file: &str) -> Result<Vec<u8>, Refusal> {
 }
 
 // What the parser promises is no concern of the rows.
-fn parsed(alloc: Global, bytes: &[u8]) -> Result<(Tables, Vec<Action>), Refusal> {
-    parse_sessions(alloc, bytes)
+pub fn parsed(alloc: Global, bytes: Vec<u8>) -> Result<(Tables, Vec<Action>), Refusal> {
+    parse_sessions(alloc, bytes.as_slice())
 }
 
-/// Makes the action. Tables that are out of balance have none.
-pub fn act(tables: &mut Tables, action: &Action) -> Result<ActionReply, Refusal> {
+// Tables that are out of balance have none.
+fn act(tables: &mut Tables, action: &Action) -> Result<ActionReply, Refusal> {
     if !tables.balanced() {
         return Err(Refusal::NoSuch);
     }
@@ -47,20 +47,27 @@ pub fn act(tables: &mut Tables, action: &Action) -> Result<ActionReply, Refusal>
     }
 }
 
+/// Makes the action, and prints its reply.
+pub fn answer_action(
+    text: &mut String,
+    tables: &mut Tables,
+    action: Action,
+) -> Result<(), Refusal> {
+    let reply = act(tables, &action)?;
+    print_reply(text, tables, reply)
+}
+
 /// Reads a session file.
 pub fn answer_file(text: &mut String, file: &str) -> Result<(), Refusal> {
     let alloc = *text.allocator();
-    let bytes = bytes_of(alloc, file)?;
-    drop(parsed(alloc, bytes.as_slice())?);
-    text.push_str(" read")?;
-    Ok(())
+    drop(parsed(alloc, bytes_of(alloc, file)?)?);
+    Ok(text.push_str(" read")?)
 }
 
 /// Makes the sessions of a file, which commit with these numbers: what is printed.
 pub fn answer_printed(text: &mut String, numbers: &[u64], file: &str) -> Result<(), Refusal> {
     let alloc = *text.allocator();
-    let bytes = bytes_of(alloc, file)?;
-    let (mut tables, actions) = parsed(alloc, bytes.as_slice())?;
+    let (mut tables, actions) = parsed(alloc, bytes_of(alloc, file)?)?;
     print_made(text, &mut tables, numbers, actions.as_slice())
 }
 
@@ -73,8 +80,7 @@ fn print_made(
     let alloc = *text.allocator();
     let mut lines = Vec::new(alloc);
     for (number, action) in numbers.iter().zip(actions) {
-        let reply = act(tables, action)?;
-        lines.push(Line::Done(*number, reply))?;
+        lines.push(Line::Done(*number, act(tables, action)?))?;
     }
     print_lines(text, lines.as_slice(), tables)
 }

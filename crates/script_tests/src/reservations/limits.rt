@@ -1,5 +1,5 @@
 //! Actions and customers that are made of numbers.
-use super::files::act;
+use super::files::answer_action;
 use super::prints::print_reply;
 use seq_model::{Items, Memory, Refusal, Value};
 use std::alloc::Global;
@@ -38,14 +38,13 @@ pub fn answer_built(
         return Err(Refusal::NoSuch);
     };
     let (alloc, id) = (*text.allocator(), 1);
-    let action = match name {
-        "asks" => reservation(alloc, *first, *second)?,
-        "adds" => update(alloc, Change::Add(Kind::Room, id, *first, *second), 1)?,
-        "takes" => update(alloc, Change::TakeRoom(id, *first), 1)?,
-        _ => update(alloc, Change::DropFlight(id), *first)?,
+    let built = match name {
+        "asks" => reservation(alloc, *first, *second),
+        "adds" => update(alloc, Change::Add(Kind::Room, id, *first, *second), 1),
+        "takes" => update(alloc, Change::TakeRoom(id, *first), 1),
+        _ => update(alloc, Change::DropFlight(id), *first),
     };
-    let reply = act(tables, &action)?;
-    print_reply(text, tables, reply)
+    answer_action(text, tables, built?)
 }
 
 // Gives the customer bookings of cars and waits for rooms, so many of each.
@@ -104,10 +103,6 @@ pub fn answer_copy(text: &mut String, numbers: &[u64]) -> Result<(), Refusal> {
     add_places(&mut who, *bookings, 0)?;
     let mut copy = who.try_copy()?;
     add_places(&mut copy, *more, 0)?;
-    text.push_str(if who.same(&copy) {
-        " the same"
-    } else {
-        " another"
-    })?;
-    Ok(())
+    let same = who.same(&copy);
+    Ok(text.push_str(if same { " the same" } else { " another" })?)
 }

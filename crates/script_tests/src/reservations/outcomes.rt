@@ -1,5 +1,6 @@
 //! What came of sessions, as text.
 use super::prints::lines_of;
+use crate::files::push_owned;
 use client_sessions::tables_of;
 use seq_model::{Items, Refusal};
 use std::fmt::Write;
@@ -21,8 +22,7 @@ pub fn print_trace(
     let alloc = *text.allocator();
     let lines = print_done(text, done)?;
     print_ended(text, aborted, half)?;
-    text.push_str(lines_of(alloc, lines.as_slice(), tables)?.as_str())?;
-    Ok(())
+    Ok(push_owned(text, lines_of(alloc, lines.as_slice(), tables)?)?)
 }
 
 // Whether a session ended as memory ran out where no row starved it.
@@ -76,6 +76,5 @@ pub fn print_ordered(text: &mut String, ordered: &Ordered) -> Result<(), Refusal
     }
     let alloc = *text.allocator();
     let tables = tables_of(alloc, &ordered.state)?;
-    text.push_str(lines_of(alloc, &[], &tables)?.as_str())?;
-    Ok(())
+    Ok(push_owned(text, lines_of(alloc, &[], &tables)?)?)
 }

@@ -64,9 +64,9 @@ fn copy_of_lines(tables: &Tables) -> Result<Each<Queue>, Memory> {
 
 /// Tables of the parts that these tables' readers give.
 pub fn rebuilt(alloc: Global, tables: &Tables) -> Result<Tables, Memory> {
-    let items = copy_of_items(alloc, tables)?;
     let customers = copy_of(alloc, tables.customers())?;
     let tickets = copy_of(alloc, tables.tickets())?;
+    let items = copy_of_items(alloc, tables)?;
     let waiting = copy_of_lines(tables)?;
     let next = tables.next_ticket();
     Ok(Tables::of_maps(alloc, items, customers, tickets, waiting, next))

@@ -16,10 +16,9 @@ pub fn lines_of(alloc: Global, lines: &[Line], tables: &Tables) -> Result<String
 
 /// Prints what came of sessions after the line of the row, the last line without its line feed.
 pub fn print_lines(text: &mut String, lines: &[Line], tables: &Tables) -> Result<(), Refusal> {
-    let printed = lines_of(*text.allocator(), lines, tables)?;
     text.push('\n')?;
-    text.push_str(printed.strip_suffix('\n').unwrap_or(""))?;
-    Ok(())
+    let printed = lines_of(*text.allocator(), lines, tables)?;
+    Ok(text.push_str(printed.strip_suffix('\n').unwrap_or(""))?)
 }
 
 /// Prints sessions without a receipt, for each kind of cause.
@@ -41,12 +40,13 @@ pub fn print_missed(text: &mut String) -> Result<(), Refusal> {
 
 /// Prints the reply as a session's, without the numbers before it.
 pub fn print_reply(text: &mut String, tables: &Tables, reply: ActionReply) -> Result<(), Refusal> {
-    let lines = [Line::Done(0, reply)];
-    let printed = lines_of(*text.allocator(), &lines, tables)?;
-    let (line, _) = printed.split_once('\n').unwrap_or(("", ""));
     text.push(' ')?;
-    text.push_str(line.strip_prefix("1 0: ").unwrap_or(line))?;
-    Ok(())
+    let lines = [Line::Done(0, reply)];
+    let printed = lines_of(*text.allocator(), &lines, tables);
+    drop(lines);
+    let printed = printed?;
+    let (line, _) = printed.split_once('\n').unwrap_or(("", ""));
+    Ok(text.push_str(line.strip_prefix("1 0: ").unwrap_or(line))?)
 }
 
 /// Prints what the tables hold, and the tickets.

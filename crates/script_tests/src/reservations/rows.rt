@@ -1,10 +1,10 @@
 //! The rows, and who answers each.
 use super::draws::{answer_drawn, opened_by_draws};
 use super::events::action_in;
-use super::files::{act, answer_file, answer_printed, numbers_of};
+use super::files::{answer_action, answer_file, answer_printed, numbers_of};
 use super::limits::{answer_built, answer_copy, answer_places};
 use super::parts::{of_parts, rebuilt};
-use super::prints::{print_left, print_missed, print_reply};
+use super::prints::{print_left, print_missed};
 use row_parts::tell_refusal;
 use seq_model::{Memory, Refusal};
 use std::alloc::Global;
@@ -57,7 +57,9 @@ fn answer_row(text: &mut String, tables: &mut Tables, row: &str) -> Result<(), R
         }
         "missed" => print_missed(text),
         "file" => answer_file(text, file),
-        "reserve" | "delete" | "update" | "item" | "bill" => answer_action(text, tables, row),
+        "reserve" | "delete" | "update" | "item" | "bill" => {
+            answer_action(text, tables, action_in(alloc, row)?)
+        }
         _ => {
             let numbers = numbers_of(alloc, others)?;
             answer_numbers(text, tables, name, numbers.as_slice(), file)
@@ -98,10 +100,4 @@ fn opened(alloc: Global, name: &str, numbers: &[u64]) -> Result<Tables, Refusal>
         "opening" => opened_by_draws(alloc, *first, others),
         _ => Err(Refusal::NoSuch),
     }
-}
-
-fn answer_action(text: &mut String, tables: &mut Tables, row: &str) -> Result<(), Refusal> {
-    let action = action_in(*text.allocator(), row)?;
-    let reply = act(tables, &action)?;
-    print_reply(text, tables, reply)
 }
