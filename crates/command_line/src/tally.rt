@@ -5,7 +5,7 @@ use crate::lines::Missed;
 use crate::progress::Receipts;
 use client_sessions::Progress;
 use seq_model::{Memory, Refusal};
-use std::alloc::Global;
+use std::alloc::{AllocError, Global};
 use std::fmt::Write;
 use std::sync::atomic::{AtomicU64, Ordering};
 use std::time::Duration;
@@ -231,13 +231,19 @@ pub(crate) fn causes_of(
 ) -> Result<Vec<(&'static str, u64)>, Memory> {
     let mut causes: Vec<(&'static str, u64)> = Vec::new(alloc);
     for job in missed {
-        let name = name_of(job.2);
-        match causes.iter_mut().find(|cause| cause.0 == name) {
-            Some(cause) => cause.1 = cause.1.saturating_add(1),
-            None => causes.push((name, 1))?,
-        }
+        add_cause(&mut causes, name_of(job.2))?;
     }
     Ok(causes)
+}
+
+fn add_cause(causes: &mut Vec<(&'static str, u64)>, name: &'static str) -> Result<(), Memory> {
+    for cause in causes.iter_mut() {
+        if cause.0 == name {
+            cause.1 = cause.1.saturating_add(1);
+            return Ok(());
+        }
+    }
+    Ok(causes.push((name, 1))?)
 }
 
 pub(crate) fn milliseconds(time: Duration) -> u64 {
@@ -246,10 +252,9 @@ pub(crate) fn milliseconds(time: Duration) -> u64 {
         .saturating_add(u64::from(time.subsec_millis()))
 }
 
-fn print_seconds(text: &mut String, name: &str, time: Duration) -> Result<(), Memory> {
+fn print_seconds(text: &mut String, name: &str, time: Duration) -> Result<(), AllocError> {
     let (whole, part) = (time.as_secs(), time.subsec_millis());
-    writeln!(text, "{name} {whole}.{part:03} seconds")?;
-    Ok(())
+    writeln!(text, "{name} {whole}.{part:03} seconds")
 }
 
 /// How many sessions had their receipts a second.
@@ -271,28 +276,31 @@ fn attempted_in(times: &Times) -> u64 {
 /// The times as text, a line for each.
 pub fn print_times(alloc: Global, times: &Times) -> Result<String, Memory> {
     let mut text = String::new(alloc);
-    print_speed(&mut text, times)?;
-    print_counts(&mut text, "refused", times.refused.as_slice())?;
-    print_counts(&mut text, "missed", times.causes.as_slice())?;
+    write_times(&mut text, times)?;
     Ok(text)
 }
 
-fn print_speed(text: &mut String, times: &Times) -> Result<(), Memory> {
+fn write_times(text: &mut String, times: &Times) -> Result<(), AllocError> {
+    print_speed(text, times)?;
+    print_counts(text, "refused", times.refused.as_slice())?;
+    print_counts(text, "missed", times.causes.as_slice())
+}
+
+fn print_speed(text: &mut String, times: &Times) -> Result<(), AllocError> {
     print_seconds(text, "run", times.run)?;
     print_seconds(text, "audit", times.audit)?;
     let speed = speed_in(times);
     writeln!(text, "sessions a second: {speed}")?;
     let hundredths = times.tries.saturating_mul(100) / attempted_in(times).max(1);
     let (mean, part, most) = (hundredths / 100, hundredths % 100, times.most);
-    writeln!(text, "tries a session: mean {mean}.{part:02}, most {most}")?;
-    Ok(())
+    writeln!(text, "tries a session: mean {mean}.{part:02}, most {most}")
 }
 
 fn print_counts(
     text: &mut String,
     what: &str,
     counts: &[(&'static str, u64)],
-) -> Result<(), Memory> {
+) -> Result<(), AllocError> {
     for (name, count) in counts {
         writeln!(text, "{what}, {name}: {count}")?;
     }
@@ -302,33 +310,35 @@ fn print_counts(
 /// The times as comma-separated values: a line of names, and a line of numbers.
 pub fn print_times_as_values(alloc: Global, times: &Times) -> Result<String, Memory> {
     let mut text = String::new(alloc);
+    write_values(&mut text, times)?;
+    Ok(text)
+}
+
+fn write_values(text: &mut String, times: &Times) -> Result<(), AllocError> {
     text.push_str(COLUMNS)?;
     for name in REFUSED_COLUMNS.iter() {
         write!(text, ",{name}")?;
     }
     text.push_str("\n")?;
-    print_values(&mut text, times)?;
+    print_values(text, times)?;
     for name in NAMES.iter() {
         let count = count_in(times.refused.as_slice(), name);
         write!(text, ",{count}")?;
     }
-    text.push_str("\n")?;
-    Ok(text)
+    text.push_str("\n")
 }
 
-fn print_values(text: &mut String, times: &Times) -> Result<(), Memory> {
+fn print_values(text: &mut String, times: &Times) -> Result<(), AllocError> {
     print_decimal(text, times.run)?;
     print_decimal(text, times.audit)?;
     let (sessions, missed) = (times.receipts, missed_in(times));
     let (speed, tries, most) = (speed_in(times), times.tries, times.most);
-    write!(text, "{sessions},{missed},{speed},{tries},{most}")?;
-    Ok(())
+    write!(text, "{sessions},{missed},{speed},{tries},{most}")
 }
 
-fn print_decimal(text: &mut String, time: Duration) -> Result<(), Memory> {
+fn print_decimal(text: &mut String, time: Duration) -> Result<(), AllocError> {
     let (whole, part) = (time.as_secs(), time.subsec_millis());
-    write!(text, "{whole}.{part:03},")?;
-    Ok(())
+    write!(text, "{whole}.{part:03},")
 }
 
 fn missed_in(times: &Times) -> u64 {

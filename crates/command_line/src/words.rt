@@ -24,18 +24,18 @@ use std::alloc::{AllocError, Global};
 fn command<'a>(alloc: Global) -> Result<Command<'a>, AllocError>
     ensures { IfOk result (λ command. app_of command ≡ tool_app) }
 {
-    let step = step_command(alloc)?;
-    let explore = explore_command(alloc)?;
-    let vacation = vacation_command(alloc)?;
-    let bench = bench_command(alloc)?;
     let bare = Command::new(alloc, NAME)
         .version(VERSION)
         .no_binary_name(true)
         .subcommand_required(true);
     let described = with_name(explained(bare, texts::TOOL, texts::TOOL_ENDING))?;
+    let step = step_command(alloc)?;
     let with_step = described.subcommand(step)?;
+    let explore = explore_command(alloc)?;
     let with_explore = with_step.subcommand(explore)?;
+    let vacation = vacation_command(alloc)?;
     let with_vacation = with_explore.subcommand(vacation)?;
+    let bench = bench_command(alloc)?;
     with_vacation.subcommand(bench)
 }
 
