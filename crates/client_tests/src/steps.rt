@@ -58,32 +58,51 @@ impl fmt::Display for Reply {
     }
 }
 
-fn found(number: Option<u64>) -> Reply {
-    match number {
-        Some(number) => Reply::Number(number),
-        None => Reply::Nothing,
-    }
+/// What a call of a handle answers.
+trait Answer {
+    fn reply(self) -> Reply;
 }
 
-fn held<V: Number>(value: Option<V>) -> Reply {
-    match value {
-        Some(value) => Reply::Number(value.number()),
-        None => Reply::Nothing,
-    }
-}
-
-fn room(room: Result<(), Full>) -> Reply {
-    match room {
-        Ok(()) => Reply::Done,
-        Err(Full) => Reply::Full,
-    }
-}
-
-fn taken(was_there: bool) -> Reply {
-    if was_there {
+impl Answer for () {
+    fn reply(self) -> Reply {
         Reply::Done
-    } else {
-        Reply::Nothing
+    }
+}
+
+impl Answer for u64 {
+    fn reply(self) -> Reply {
+        Reply::Number(self)
+    }
+}
+
+impl Answer for bool {
+    fn reply(self) -> Reply {
+        if self { Reply::Done } else { Reply::Nothing }
+    }
+}
+
+impl<V: Number> Answer for Option<V> {
+    fn reply(self) -> Reply {
+        match self {
+            Some(value) => Reply::Number(value.number()),
+            None => Reply::Nothing,
+        }
+    }
+}
+
+impl Answer for Result<(), Full> {
+    fn reply(self) -> Reply {
+        match self {
+            Ok(()) => Reply::Done,
+            Err(Full) => Reply::Full,
+        }
+    }
+}
+
+fn replied<A: Answer>(called: Result<A, Refusal>) -> Result<Reply, Refusal> {
+    match called {
+        Ok(answer) => Ok(answer.reply()),
+        Err(refusal) => Err(refusal),
     }
 }
 
@@ -109,15 +128,16 @@ fn on_word<V: Number, S: Scope<V>>(
     op: &str,
     number: u64,
 ) -> Result<Reply, Refusal> {
-    if op == "read" {
-        return Ok(Reply::Number(word.read(tx)?));
-    }
-    let number = match op {
+    let held = match op {
         "write" => number,
-        _ => word.read(tx)?.saturating_add(1),
+        _ => word.read(tx)?,
     };
-    word.write(tx, number)?;
-    Ok(Reply::Done)
+    let next = match op {
+        "read" => return Ok(Reply::Number(held)),
+        "write" => held,
+        _ => held.saturating_add(1),
+    };
+    replied(word.write(tx, next))
 }
 
 fn on_map<V: Number, S: Scope<V>>(
@@ -129,10 +149,13 @@ fn on_map<V: Number, S: Scope<V>>(
     number: u64,
 ) -> Result<Reply, Refusal> {
     match op {
-        "put" => Ok(held(map.put(tx, key, V::of(alloc, number)?)?)),
-        "get" => Ok(held(map.get(tx, key)?)),
-        "remove" => Ok(held(map.remove(tx, key)?)),
-        _ => Ok(Reply::Number(map.len(tx)?)),
+        "put" => {
+            let value = V::of(alloc, number)?;
+            replied(map.put(tx, key, value))
+        }
+        "get" => replied(map.get(tx, key)),
+        "remove" => replied(map.remove(tx, key)),
+        _ => replied(map.len(tx)),
     }
 }
 
@@ -143,9 +166,9 @@ fn on_bag<V: Number, S: Scope<V>>(
     element: u64,
 ) -> Result<Reply, Refusal> {
     match op {
-        "add" => Ok(room(bag.add(tx, element)?)),
-        "take" => Ok(taken(bag.take(tx, element)?)),
-        _ => Ok(Reply::Number(bag.count(tx, element)?)),
+        "add" => replied(bag.add(tx, element)),
+        "take" => replied(bag.take(tx, element)),
+        _ => replied(bag.count(tx, element)),
     }
 }
 
@@ -156,9 +179,9 @@ fn on_least<V: Number, S: Scope<V>>(
     element: u64,
 ) -> Result<Reply, Refusal> {
     match op {
-        "insert" => Ok(room(queue.insert(tx, element)?)),
-        "take" => Ok(found(queue.take_least(tx)?)),
-        _ => Ok(found(queue.least(tx)?)),
+        "insert" => replied(queue.insert(tx, element)),
+        "take" => replied(queue.take_least(tx)),
+        _ => replied(queue.least(tx)),
     }
 }
 
@@ -169,10 +192,10 @@ fn on_queue<V: Number, S: Scope<V>>(
     item: u64,
 ) -> Result<Reply, Refusal> {
     match op {
-        "enqueue" => Ok(room(queue.enqueue(tx, item)?)),
-        "dequeue" => Ok(found(queue.dequeue(tx)?)),
-        "peek" => Ok(found(queue.peek(tx)?)),
-        _ => Ok(Reply::Number(queue.len(tx)?)),
+        "enqueue" => replied(queue.enqueue(tx, item)),
+        "dequeue" => replied(queue.dequeue(tx)),
+        "peek" => replied(queue.peek(tx)),
+        _ => replied(queue.len(tx)),
     }
 }
 
@@ -183,9 +206,9 @@ fn on_lanes<V: Number, S: Scope<V>>(
     item: u64,
 ) -> Result<Reply, Refusal> {
     match op {
-        "enqueue" => Ok(room(lanes.enqueue(tx, item)?)),
-        "dequeue" => Ok(found(lanes.dequeue(tx)?)),
-        _ => Ok(Reply::Number(lanes.len(tx)?)),
+        "enqueue" => replied(lanes.enqueue(tx, item)),
+        "dequeue" => replied(lanes.dequeue(tx)),
+        _ => replied(lanes.len(tx)),
     }
 }
 
