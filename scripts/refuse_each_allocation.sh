@@ -103,13 +103,19 @@ is_refused_row() {
 
 # refuse_each NAME: refuses each allocation of the run on what was taken.
 refuse_each() {
-    local refused=0 quiet=0 inside=0 n=$first output status
+    local refused=0 quiet=0 inside=0 unseen=0 n=$first note=$folder/note output status
     while [ "$quiet" -lt 40 ] && { [ "$last" -eq 0 ] || [ "$n" -le "$last" ]; }; do
+        rm -f "$note"
         # (for at most as long as the gate runs a program)
-        output=$(timeout 120 env -i REFUSED_ALLOCATION="$n" "$folder/program" "${words[@]}" < "$stdin" 2>&1)
+        output=$(timeout 120 env -i REFUSED_ALLOCATION="$n" REFUSED_NOTE="$note" "$folder/program" "${words[@]}" < "$stdin" 2>&1)
         status=$?
         if [ "$status" -eq 0 ] && [ "$output" = "$wanted" ]; then
-            quiet=$((quiet + 1))
+            if [ -e "$note" ]; then
+                unseen=$((unseen + 1))
+                quiet=0
+            else
+                quiet=$((quiet + 1))
+            fi
         elif [ "$status" -eq 2 ] && [ "$output" = Memory ]; then
             refused=$((refused + 1))
             quiet=0
@@ -124,7 +130,9 @@ refuse_each() {
         n=$((n + 1))
     done
     total=$((total + refused))
-    echo "$1: $refused refusals, each answered by Memory with status 2${rows:+, and $inside in a row}; none from allocation $((n - quiet)) on"
+    [ "$unseen" -gt 0 ] || unseen=
+    echo "$1: $refused refusals, each answered by Memory with status 2${rows:+, and $inside in a row}${unseen:+, and $unseen by what is stored};" \
+        "none from allocation $((n - quiet)) on"
 }
 
 take_input ${inputs[0]:+"${inputs[0]}"}

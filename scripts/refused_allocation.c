@@ -1,5 +1,5 @@
 // The allocator of a program that `build_unproved.sh --refusing` builds: one allocation fails, that with the number in REFUSED_ALLOCATION,
-// counted from 1. None does without a number.
+// counted from 1. None does without a number. Once it has failed, the file named by REFUSED_NOTE is there.
 
 typedef struct {
     long is_there, place;
@@ -9,6 +9,8 @@ extern Found rattle_alloc(long size, long align);
 extern Found rattle_realloc(long place, long size, long align, long new_size);
 extern char *getenv(const char *name);
 extern long strtol(const char *text, char **end, int base);
+extern int creat(const char *name, unsigned mode);
+extern int close(int file);
 
 static long asked, refused = -1;
 static char nowhere;
@@ -18,7 +20,12 @@ static int is_refused(void) {
         const char *number = getenv("REFUSED_ALLOCATION");
         refused = number ? strtol(number, 0, 10) : 0;
     }
-    return __atomic_add_fetch(&asked, 1, __ATOMIC_RELAXED) == refused;
+    if (__atomic_add_fetch(&asked, 1, __ATOMIC_RELAXED) != refused)
+        return 0;
+    const char *note = getenv("REFUSED_NOTE");
+    if (note)
+        close(creat(note, 0600));
+    return 1;
 }
 
 Found try_rattle_alloc(long size, long align) {
