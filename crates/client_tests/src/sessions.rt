@@ -8,11 +8,17 @@ use std::fmt::Write;
 use std::thread::{Threads, yield_now};
 use wolimevar::{Client, Refusal, Scope, Session, Store, Tally};
 
-/// How often a client looks at most while it waits.
-const LOOKS: u64 = 10_000_000;
+/// How often a client looks at most whether another one has committed, and after how many looks it lets others run. So it looks for some
+/// tenths of a second, and where processors are shared for some seconds.
+const LOOKS: u64 = 4_000_000;
+
+const LOOKS_BETWEEN: u64 = 4_096;
+
+/// How many commits of others it waits for at most.
+const COMMITS: u64 = 1_000;
 
 /// What a client does, part by part: a row of its own, `learn N`, `tally`, `quietly STEPS`, which prints only what refused them, or
-/// `wait N STEP`, up to where the step answers N or more.
+/// `wait N STEP`, up to where the step answers N or more; where others commit no more before that, it prints a refusal.
 #[derive(Drop)]
 #[derive_where(Clone, Copy)]
 pub struct Guest<'a, V> {
@@ -80,13 +86,15 @@ impl<V: Number> Guest<'_, V> {
         waited: &str,
     ) -> Result<(), AllocError> {
         let (number, step) = first_word(waited);
-        for _ in 0..LOOKS {
+        for _ in 0..COMMITS {
             if self.shows(client, step, number_of(number)) {
                 return Ok(());
             }
-            yield_now();
+            if !sees_commit(client) {
+                break;
+            }
         }
-        text.push_str("waited in vain")
+        text.push_str("refused, waited in vain")
     }
 
     fn shows<S: Scope<V>>(&self, client: &mut Client<'_, V, S>, step: &str, number: u64) -> bool {
@@ -95,6 +103,20 @@ impl<V: Number> Guest<'_, V> {
             Err(_) => false,
         }
     }
+}
+
+/// Whether another client commits while this one looks. Looking allocates nothing, so a run allocates no more where it waits longer.
+fn sees_commit<V: Number, S: Scope<V>>(client: &mut Client<'_, V, S>) -> bool {
+    let next = client.last_number().saturating_add(1);
+    for look in 0..LOOKS {
+        if client.learn(next).is_ok() {
+            return true;
+        }
+        if look % LOOKS_BETWEEN == 0 {
+            yield_now();
+        }
+    }
+    false
 }
 
 /// Prints what a client or a store answers to a number that it is to learn, and the last number that it knows then.
