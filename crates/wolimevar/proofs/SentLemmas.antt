@@ -11,7 +11,7 @@ use Rattle.counted_slot.proofs.Counted.TheSendSync as counted
 use Rattle.actor_parts.proofs.Boxed.TheSendSync as boxed
 use Rattle.replay_log.proofs.base.Base.TheSendSync as base
 use Rattle.tx_actor.proofs.actor.TxActor.TheSendSync as actor
-use Rattle.tx_table.specs.contracts.seat.Asked as Asked
+use Rattle.tx_table.specs.contracts.seat.EventsSinceStep as EventsSinceStep
 use Rattle.tx_table.specs.contracts.seat.Seat as Seat
 use Rattle.tx_table.proofs.home.Home.TheSendSync as base_home
 use Rattle.tx_table.proofs.table.TxTable.TheSendSync as table
@@ -36,18 +36,18 @@ captures_send name A B C a b c = search sendable depth 30
 
 -- Each type as a field of another, from its own fields.
 module _ (V : RattleType) where
-  asked_send : IsSend (Asked.the_field V).row
-  asked_send = search (sendable, crosses) depth 30
+  events_send : IsSend (EventsSinceStep.the_field V).row
+  events_send = search (sendable, crosses) depth 30
 
-  asked_sync : IsSync (Asked.the_field V).row
-  asked_sync = search (sendable, crosses) depth 30
+  events_sync : IsSync (EventsSinceStep.the_field V).row
+  events_sync = search (sendable, crosses) depth 30
 
   module _ (s : IsSend V) where
     seat_send : IsSend (Seat.the_field V).row
-    seat_send = search (sendable, crosses, place.the_send, asked_send, boxed.the_send, base_home.the_send, base.the_send) depth 30
+    seat_send = search (sendable, crosses, place.the_send, events_send, boxed.the_send, base_home.the_send, base.the_send) depth 30
 
     seat_sync : IsSync (Seat.the_field V).row
-    seat_sync = search (sendable, crosses, place_sync, asked_sync, boxed.the_send, base_home.the_send, base.the_send) depth 30
+    seat_sync = search (sendable, crosses, place_sync, events_sync, boxed.the_send, base_home.the_send, base.the_send) depth 30
 
     tx_seat_send : IsSend (TxSeat.the_field V).row
     tx_seat_send = search (sendable, crosses, seat_send, actor.the_field_send, boxed.the_send, base.the_send, replies.the_send) depth 30
