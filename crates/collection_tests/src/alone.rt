@@ -11,8 +11,11 @@ use conflict::{Change, Changes, LocSet};
 use replay_log::{Base, LocationEditions, Log, Touch, TouchedKey};
 use row_parts::{location_in, print_all, print_base, script_of, split};
 use seq_model::{Held, Memory, Op, Refusal};
-use std::alloc::Global;
+use std::alloc::{AllocError, Global};
 use std::fmt::Write;
+
+/// What stands before the editions of a base.
+const EDITIONS: &str = "editions";
 
 /// No edition that is raised here is so high.
 pub const HIGH: u64 = 1 << 62;
@@ -63,10 +66,15 @@ fn locations(base: &Base<u64>, stripes: u32) -> u32
     }
 }
 
-fn print_editions(text: &mut String, base: &Base<u64>, stripes: u32) -> Result<(), Refusal>
+fn print_editions(
+    text: &mut String,
+    name: &str,
+    base: &Base<u64>,
+    stripes: u32,
+) -> Result<(), AllocError>
     requires { stripes_of base.now ≡ stripes }
 {
-    text.push_str("editions")?;
+    text.push_str(name)?;
     for location in 0..locations(base, stripes) {
         let edition = base.edition(location);
         write!(text, " {edition}")?;
@@ -79,7 +87,9 @@ pub fn answer_new(text: &mut String, row: &str) -> Result<(), Refusal> {
     let (kind, stripes) = split(row, " ")?;
     let stripes = location_in(stripes)?;
     let base = new_of(*text.allocator(), kind, stripes)?;
-    print_editions(text, &base, stripes)
+    let printed = print_editions(text, EDITIONS, &base, stripes);
+    drop(base);
+    Ok(printed?)
 }
 
 fn is_raisable(base: &Base<u64>, stripes: u32, location: u32) -> bool
@@ -136,12 +146,19 @@ pub fn answer_raised(text: &mut String, row: &str) -> Result<(), Refusal> {
 fn print_raised(text: &mut String, base: &Base<u64>, stripes: u32) -> Result<(), Refusal>
     requires { stripes_of base.now ≡ stripes }
 {
-    print_editions(text, base, stripes)?;
+    print_editions(text, EDITIONS, base, stripes)?;
     let copy = base.try_copy()?;
-    text.push_str(", copied ")?;
-    print_editions(text, &copy, stripes)?;
+    let printed = print_copied(text, &copy, stripes);
+    drop(copy);
+    printed
+}
+
+fn print_copied(text: &mut String, copy: &Base<u64>, stripes: u32) -> Result<(), Refusal>
+    requires { stripes_of copy.now ≡ stripes }
+{
+    print_editions(text, ", copied editions", copy, stripes)?;
     text.push_str(", ")?;
-    print_base(text, &copy)
+    print_base(text, copy)
 }
 
 // Two puts on one stripe, each pushed with it.
@@ -175,34 +192,33 @@ pub fn answer_two_puts(text: &mut String, row: &str) -> Result<(), Refusal> {
     let mut base = new_of(alloc, "map", 2)?;
     fold(alloc, &mut base)?;
     match row {
-        "puts logged" => print_editions(text, &base, 2),
+        "puts logged" => Ok(print_editions(text, EDITIONS, &base, 2)?),
         "puts touched" => print_all_touches(text, &base),
         _ => Err(Refusal::NoSuch),
     }
 }
 
 fn print_all_touches(text: &mut String, base: &Base<u64>) -> Result<(), Refusal> {
-    for op in [Op::Get(3), Op::Remove(4), Op::Len].as_slice() {
-        print_touch(text, &base.touch(op)?)?;
-    }
+    print_touch(text, base.touch(&Op::Get(3))?)?;
+    print_touch(text, base.touch(&Op::Remove(4))?)?;
+    print_touch(text, base.touch(&Op::Len)?)?;
     let mut lent = LocationEditions::new(*text.allocator());
-    print_touch(text, &base.touch_summed(&Op::Len, &mut lent)?)?;
-    Ok(())
+    Ok(print_touch(text, base.touch_summed(&Op::Len, &mut lent)?)?)
 }
 
 // What was touched, and each location with its edition.
-fn print_touch(text: &mut String, touch: &Touch<u64>) -> Result<(), Memory> {
-    match &touch.held {
-        TouchedKey::Entry(key, Some(value)) => write!(text, "Entry {key} {value}")?,
-        TouchedKey::Entry(key, None) => write!(text, "Entry {key} none")?,
-        TouchedKey::Copies(element, copies) => write!(text, "Copies {element} {copies}")?,
-        TouchedKey::Counts(counts) => print_all(text, "Counts", counts.as_slice())?,
-        TouchedKey::Total(total) => write!(text, "Total {total}")?,
-    }
+fn print_touch(text: &mut String, touch: Touch<u64>) -> Result<(), AllocError> {
+    let touched = match &touch.held {
+        TouchedKey::Entry(key, Some(value)) => print_all(text, "Entry", &[*key, *value]),
+        TouchedKey::Entry(key, None) => write!(text, "Entry {key} none"),
+        TouchedKey::Copies(element, copies) => print_all(text, "Copies", &[*element, *copies]),
+        TouchedKey::Counts(counts) => print_all(text, "Counts", counts.as_slice()),
+        TouchedKey::Total(total) => print_all(text, "Total", &[*total]),
+    };
+    touched?;
     text.push_str(" at")?;
     for entry in touch.editions.as_slice() {
         write!(text, " {}:{}", entry.0, entry.1)?;
     }
-    text.push_str("; ")?;
-    Ok(())
+    text.push_str("; ")
 }

@@ -1,7 +1,7 @@
 //! Rows of records: audits on one word that is 0 at first, and records in commit order.
-use row_parts::{location_in, number_in, split};
+use row_parts::{location_in, number_in, print_all, split};
 use seq_model::{AuditFault, Call, Items, Op, Record, Refusal, Reply, State, audit, insert_record};
-use std::alloc::Global;
+use std::alloc::{AllocError, Global};
 use std::fmt::Write;
 
 fn call_in(row: &str) -> Result<(Call<u64>, Reply<u64>), Refusal> {
@@ -61,25 +61,24 @@ fn word_of(alloc: Global, word: u64) -> Result<State<u64>, Refusal> {
 pub fn answer_audit(text: &mut String, row: &str) -> Result<(), Refusal> {
     let alloc = *text.allocator();
     let (last, records) = split(row, ": ")?;
-    let (opening, last) = (word_of(alloc, 0)?, word_of(alloc, number_in(last)?)?);
     let records = records_in(alloc, records)?;
-    let audited = audit(alloc, &opening, records.as_slice(), &last);
-    print_audited(text, audited)
+    let last = word_of(alloc, number_in(last)?)?;
+    let opening = word_of(alloc, 0)?;
+    match audit(alloc, &opening, records.as_slice(), &last) {
+        Ok(()) => Ok(text.push_str("no fault")?),
+        Err(AuditFault::Memory) => Err(Refusal::Memory),
+        Err(fault) => Ok(print_fault(text, fault)?),
+    }
 }
 
-fn print_audited(text: &mut String, audited: Result<(), AuditFault>) -> Result<(), Refusal> {
-    let Err(fault) = audited else {
-        text.push_str("no fault")?;
-        return Ok(());
-    };
+fn print_fault(text: &mut String, fault: AuditFault) -> Result<(), AllocError> {
     write!(text, "{fault}, ")?;
     match fault {
-        AuditFault::DoubleNumber(number) => write!(text, "DoubleNumber {number}")?,
-        AuditFault::WrongReply { entry, call } => write!(text, "WrongReply {entry} {call}")?,
-        AuditFault::WrongState => text.push_str("WrongState")?,
-        AuditFault::Memory => return Err(Refusal::Memory),
+        AuditFault::DoubleNumber(number) => print_all(text, "DoubleNumber", &[number]),
+        AuditFault::WrongReply { entry, call } => print_all(text, "WrongReply", &[entry, call]),
+        AuditFault::WrongState => text.push_str("WrongState"),
+        AuditFault::Memory => Ok(()),
     }
-    Ok(())
 }
 
 type Placed = Vec<(u32, Record<u64>)>;

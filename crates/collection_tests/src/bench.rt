@@ -1,7 +1,7 @@
 //! A collection and the sequential model beside it, and the calls on them.
 ghost use Rattle.std.specs.Prelude.{◌≡◌, [], IfOk};
 
-use crate::changes::{changes_of, print_changes, print_outcome};
+use crate::changes::{changes_of, print_log, print_outcome};
 use crate::memos::answer_remembered;
 use crate::parts::{Footprint, tell_conflict};
 use conflict::{Changes, LocSet};
@@ -11,14 +11,19 @@ use row_parts::{
 };
 use seq_model::{Call, Memory, Op, Refusal, Reply, Request, State};
 use shadow::Shadow;
-use std::alloc::Global;
+use std::alloc::{AllocError, Global};
 use text_formats::{EventLine, Script};
 
 /// A collection, and the state of the sequential model after the same calls.
-#[derive(Drop)]
 pub struct Bench {
     base: Base<u64>,
     state: State<u64>,
+}
+
+impl Drop for Bench {
+    fn drop(self) {
+        let Bench { base: _, state: _ } = self;
+    }
 }
 
 impl Bench {
@@ -67,11 +72,12 @@ impl Bench {
                 text.push_str("; ")?;
             }
             first = false;
-            match line {
-                EventLine::Ask(_, Request::Call(asked)) => look(text, &self.base, &asked.op)?,
-                EventLine::Do(_, Request::Call(asked)) => self.make(text, asked)?,
-                _ => return Err(Refusal::NoSuch),
-            }
+            let made = match line {
+                EventLine::Ask(_, Request::Call(asked)) => look(text, &self.base, &asked.op),
+                EventLine::Do(_, Request::Call(asked)) => self.make(text, asked),
+                _ => Err(Refusal::NoSuch),
+            };
+            made?;
         }
         Ok(())
     }
@@ -80,11 +86,10 @@ impl Bench {
         look(text, &self.base, &asked.op)?;
         let reply = call(*text.allocator(), &mut self.base, &asked.op)?;
         let wanted = self.state.apply(asked)?;
-        if !reply.same(&wanted) {
-            text.push_str(", but the model ")?;
-            print_reply(text, &wanted)?;
+        if reply.same(&wanted) {
+            return Ok(());
         }
-        Ok(())
+        Ok(print_wanted(text, &wanted)?)
     }
 
     fn copy(&self, alloc: Global) -> Result<Bench, Memory> {
@@ -117,10 +122,16 @@ impl Bench {
     fn reopen(&mut self, text: &mut String, stripes: &str) -> Result<(), Refusal> {
         let stripes = location_in(stripes)?;
         let copy = self.base.try_copy()?;
-        self.base = Base::open(*text.allocator(), stripes, copy.held()?)?;
-        text.push_str("opened")?;
-        Ok(())
+        let held = copy.held();
+        drop(copy);
+        self.base = Base::open(*text.allocator(), stripes, held?)?;
+        Ok(text.push_str("opened")?)
     }
+}
+
+fn print_wanted(text: &mut String, wanted: &Reply<u64>) -> Result<(), AllocError> {
+    text.push_str(", but the model ")?;
+    print_reply(text, wanted)
 }
 
 fn replay(text: &mut String, base: &mut Base<u64>, changes: &str) -> Result<(), Refusal> {
@@ -129,14 +140,12 @@ fn replay(text: &mut String, base: &mut Base<u64>, changes: &str) -> Result<(), 
     base.prepare(changes.as_slice())?;
     let none = LocSet::empty(alloc);
     base.replay(changes, &none);
-    text.push_str("done")?;
-    Ok(())
+    Ok(text.push_str("done")?)
 }
 
 fn look(text: &mut String, base: &Base<u64>, op: &Op<u64>) -> Result<(), Refusal> {
     let outcome = base.outcome(op)?;
-    print_outcome(text, base, &outcome)?;
-    Ok(())
+    Ok(print_outcome(text, base, &outcome)?)
 }
 
 fn log_of(alloc: Global, changes: Changes<u64>) -> Result<Log<u64>, Memory>
@@ -171,15 +180,26 @@ fn answer_shadowed(text: &mut String, base: &Base<u64>, calls: &str) -> Result<(
     let alloc = *text.allocator();
     let script = script_of(alloc, calls)?;
     let mut shadow = Shadow::of_copy(alloc, base.try_copy()?);
-    for line in script.lines.as_slice() {
+    match shadow_all(text, &mut shadow, script.lines.as_slice()) {
+        Ok(()) => Ok(print_log(text, shadow.log())?),
+        Err(refusal) => {
+            drop(shadow);
+            Err(refusal)
+        }
+    }
+}
+
+fn shadow_all(
+    text: &mut String,
+    shadow: &mut Shadow<u64>,
+    lines: &[EventLine],
+) -> Result<(), Refusal> {
+    for line in lines {
         match line {
-            EventLine::Do(_, Request::Call(asked)) => shadow_call(text, &mut shadow, &asked.op)?,
+            EventLine::Do(_, Request::Call(asked)) => shadow_call(text, shadow, &asked.op)?,
             _ => return Err(Refusal::NoSuch),
         }
     }
-    text.push_str("log")?;
-    let log = shadow.log();
-    print_changes(text, log.changes())?;
     Ok(())
 }
 

@@ -1,10 +1,9 @@
 //! Changes that a row spells, and outcomes as text.
-use conflict::{Change, Changes, Outcome};
-use replay_log::Base;
+use conflict::{Change, Changes, LocSet, Outcome};
+use replay_log::{Base, Log};
 use row_parts::{Call, call_of, print_all, print_reply};
 use seq_model::{Memory, Refusal};
-use std::alloc::Global;
-use std::fmt::Write;
+use std::alloc::{AllocError, Global};
 
 fn change_of(call: Call<'_>) -> Result<Change<u64>, Refusal> {
     match call.name {
@@ -23,8 +22,7 @@ fn change_of(call: Call<'_>) -> Result<Change<u64>, Refusal> {
 pub fn changes_of(alloc: Global, row: &str) -> Result<Changes<u64>, Refusal> {
     let mut changes = Vec::new(alloc);
     for spelled in row.split(", ") {
-        let change = change_of(call_of(spelled)?)?;
-        changes.push(change)?;
+        changes.push(change_of(call_of(spelled)?)?)?;
     }
     Ok(changes)
 }
@@ -36,24 +34,40 @@ pub fn print_outcome(
     outcome: &Outcome<u64>,
 ) -> Result<(), Memory> {
     print_reply(text, &outcome.reply)?;
-    print_all(text, ", reads", base.reads(outcome)?.as_slice())?;
-    print_all(text, ", writes", base.writes(outcome)?.as_slice())?;
-    print_changes(text, base.changes(outcome)?.as_slice())
+    print_locations(text, ", reads", base.reads(outcome)?)?;
+    print_locations(text, ", writes", base.writes(outcome)?)?;
+    let changes = base.changes(outcome)?;
+    Ok(print_changes(text, changes.as_slice())?)
 }
 
-/// Prints changes, each after a comma.
-pub fn print_changes(text: &mut String, changes: &[Change<u64>]) -> Result<(), Memory> {
+/// Prints a name, and these locations after it.
+pub fn print_locations(text: &mut String, name: &str, set: LocSet) -> Result<(), AllocError> {
+    print_all(text, name, set.as_slice())
+}
+
+/// Prints a log's changes.
+pub fn print_log(text: &mut String, log: Log<u64>) -> Result<(), AllocError> {
+    text.push_str("log")?;
+    print_changes(text, log.changes())
+}
+
+// Each after a comma.
+fn print_changes(text: &mut String, changes: &[Change<u64>]) -> Result<(), AllocError> {
     for change in changes {
-        match change {
-            Change::Put(key, value) => write!(text, ", Put {key} {value}")?,
-            Change::Remove(key) => write!(text, ", Remove {key}")?,
-            Change::Add(element) => write!(text, ", Add {element}")?,
-            Change::Take(element) => write!(text, ", Take {element}")?,
-            Change::SetLeast(Some(least)) => write!(text, ", SetLeast {least}")?,
-            Change::SetLeast(None) => text.push_str(", SetLeast none")?,
-            Change::Enqueue(index, item) => write!(text, ", Enqueue {index} {item}")?,
-            Change::Dequeue(index) => write!(text, ", Dequeue {index}")?,
-        }
+        print_change(text, change)?;
     }
     Ok(())
+}
+
+fn print_change(text: &mut String, change: &Change<u64>) -> Result<(), AllocError> {
+    match change {
+        Change::Put(key, value) => print_all(text, ", Put", &[*key, *value]),
+        Change::Remove(key) => print_all(text, ", Remove", &[*key]),
+        Change::Add(element) => print_all(text, ", Add", &[*element]),
+        Change::Take(element) => print_all(text, ", Take", &[*element]),
+        Change::SetLeast(Some(least)) => print_all(text, ", SetLeast", &[*least]),
+        Change::SetLeast(None) => text.push_str(", SetLeast none"),
+        Change::Enqueue(index, item) => print_all(text, ", Enqueue", &[*index, *item]),
+        Change::Dequeue(index) => print_all(text, ", Dequeue", &[*index]),
+    }
 }

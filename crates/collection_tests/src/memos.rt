@@ -1,5 +1,5 @@
 //! Calls on a memo of the keys that they touch.
-use crate::changes::print_changes;
+use crate::changes::print_log;
 use replay_log::Base;
 use row_parts::{print_reply, script_of};
 use seq_model::{Kind, Op, Refusal, Request};
@@ -14,15 +14,27 @@ pub fn answer_remembered(text: &mut String, base: &Base<u64>, calls: &str) -> Re
     let alloc = *text.allocator();
     let script = script_of(alloc, calls)?;
     let mut memo = memo_of(alloc, base)?;
-    for line in script.lines.as_slice() {
+    match remember_all(text, base, &mut memo, script.lines.as_slice()) {
+        Ok(()) => Ok(print_log(text, memo.log())?),
+        Err(refusal) => {
+            drop(memo);
+            Err(refusal)
+        }
+    }
+}
+
+fn remember_all(
+    text: &mut String,
+    base: &Base<u64>,
+    memo: &mut Memo<u64>,
+    lines: &[EventLine],
+) -> Result<(), Refusal> {
+    for line in lines {
         match line {
-            EventLine::Do(_, Request::Call(asked)) => remember(text, base, &mut memo, &asked.op)?,
+            EventLine::Do(_, Request::Call(asked)) => remember(text, base, memo, &asked.op)?,
             _ => return Err(Refusal::NoSuch),
         }
     }
-    text.push_str("log")?;
-    let log = memo.log();
-    print_changes(text, log.changes())?;
     Ok(())
 }
 

@@ -3,19 +3,20 @@ use row_parts::{
     Call as Spelled, call_of, location, parts_of, print_all, print_held, print_reply, refusal_of,
     script_of, split, state_of,
 };
-use seq_model::{Call, Event, Memory, Refusal, Request, State};
+use seq_model::{Call, Event, Refusal, Request, State};
+use std::alloc::AllocError;
 use std::fmt::Write;
 use step_core::WordRefusal;
 use text_formats::EventLine;
 
 fn tell_call(text: &mut String, state: &mut State<u64>, call: &Call<u64>) -> Result<(), Refusal> {
-    match state.apply(call) {
-        Ok(reply) => print_reply(text, &reply)?,
-        Err(Refusal::NoSuch) => text.push_str("NoSuch")?,
+    let told = match state.apply(call) {
+        Ok(reply) => print_reply(text, &reply),
+        Err(Refusal::NoSuch) => text.push_str("NoSuch"),
         Err(refusal) => return Err(refusal),
-    }
-    text.push_str("; ")?;
-    Ok(())
+    };
+    told?;
+    Ok(text.push_str("; ")?)
 }
 
 // The state that a script leaves, whose calls are printed.
@@ -49,12 +50,8 @@ pub fn answer_same(text: &mut String, row: &str) -> Result<(), Refusal> {
     let one = left_by(text, one)?;
     let other = left_by(text, other)?;
     let copy = one.try_copy(*text.allocator())?;
-    text.push_str(if copy.same(&other) {
-        "the same"
-    } else {
-        "another"
-    })?;
-    Ok(())
+    let same = copy.same(&other);
+    Ok(text.push_str(if same { "the same" } else { "another" })?)
 }
 
 /// `LINE`: a copy of the event that the line asks.
@@ -72,24 +69,27 @@ fn tell_copy(text: &mut String, actor: u32, request: &Request<u64>) -> Result<()
         return Err(Refusal::NoSuch);
     };
     write!(text, "{actor} asks ")?;
-    match request {
-        Request::Begin => text.push_str("begin")?,
-        Request::BeginRead => text.push_str("begin_read")?,
-        Request::Call(call) => print_call(text, call)?,
-        Request::Commit => text.push_str("commit")?,
-        Request::Abort => text.push_str("abort")?,
-    }
-    Ok(())
+    Ok(print_request(text, request)?)
 }
 
-fn print_call(text: &mut String, call: &Call<u64>) -> Result<(), Memory> {
+fn print_request(text: &mut String, request: &Request<u64>) -> Result<(), AllocError> {
+    match request {
+        Request::Begin => text.push_str("begin"),
+        Request::BeginRead => text.push_str("begin_read"),
+        Request::Call(call) => print_call(text, call),
+        Request::Commit => text.push_str("commit"),
+        Request::Abort => text.push_str("abort"),
+    }
+}
+
+fn print_call(text: &mut String, call: &Call<u64>) -> Result<(), AllocError> {
     let (name, number, _) = parts_of(&call.op);
     let target = call.target;
     write!(text, "{name} of {target}")?;
-    if let Some(number) = number {
-        write!(text, " {number}")?;
+    match number {
+        Some(number) => write!(text, " {number}"),
+        None => Ok(()),
     }
-    Ok(())
 }
 
 fn word_refusal_of(call: Spelled<'_>) -> Result<WordRefusal, Refusal> {
@@ -111,10 +111,10 @@ fn word_refusal_of(call: Spelled<'_>) -> Result<WordRefusal, Refusal> {
 /// `NAME NUMBERS`: what the refusal prints, one of words or any.
 pub fn answer_refusal(text: &mut String, of_words: bool, row: &str) -> Result<(), Refusal> {
     let call = call_of(row)?;
-    if of_words {
-        write!(text, "{}", word_refusal_of(call)?)?;
+    let printed = if of_words {
+        write!(text, "{}", word_refusal_of(call)?)
     } else {
-        write!(text, "{}", refusal_of(call)?)?;
-    }
-    Ok(())
+        write!(text, "{}", refusal_of(call)?)
+    };
+    Ok(printed?)
 }

@@ -71,8 +71,7 @@ fn footprint_in(alloc: Global, row: &str) -> Result<Footprint, Refusal> {
 /// Whether two calls conflict with these footprints.
 pub fn tell_conflict(text: &mut String, one: &Footprint, other: &Footprint) -> Result<(), Refusal> {
     let meet = conflicts(&one.reads, &one.writes, &other.reads, &other.writes);
-    text.push_str(if meet { "yes" } else { "no" })?;
-    Ok(())
+    Ok(text.push_str(if meet { "yes" } else { "no" })?)
 }
 
 /// `reads LOCATIONS, writes LOCATIONS; reads LOCATIONS, writes LOCATIONS`: whether the two conflict.
@@ -135,8 +134,7 @@ pub fn answer_editions(text: &mut String, row: &str) -> Result<(), Refusal> {
     if let Some(raised) = raised.strip_prefix(" ") {
         raise(alloc, &mut editions, count, locations_in(raised)?)?;
     }
-    print_copy(text, &editions, count)?;
-    Ok(())
+    Ok(print_copy(text, &editions, count)?)
 }
 
 fn step(text: &mut String, table: &mut RoomMap<u64>, asked: Call<'_>) -> Result<(), Refusal> {
@@ -144,23 +142,28 @@ fn step(text: &mut String, table: &mut RoomMap<u64>, asked: Call<'_>) -> Result<
         "put" => {
             table.reserve(1)?;
             table.insert_reserved(asked.at, asked.value);
+            Ok(())
         }
-        "remove" => table.remove(asked.at),
-        "get" => match table.get(asked.at) {
-            Some(value) => write!(text, "{value}; ")?,
-            None => text.push_str("none; ")?,
-        },
-        _ => return Err(Refusal::NoSuch),
+        "remove" => {
+            table.remove(asked.at);
+            Ok(())
+        }
+        "get" => {
+            let printed = match table.get(asked.at) {
+                Some(value) => write!(text, "{value}; "),
+                None => text.push_str("none; "),
+            };
+            Ok(printed?)
+        }
+        _ => Err(Refusal::NoSuch),
     }
-    Ok(())
 }
 
 fn print_table(text: &mut String, table: &RoomMap<u64>) -> Result<(), Refusal> {
     let count = table.len();
     write!(text, "{count} keys, ")?;
     let held = Held::Map(table.to_entries()?);
-    print_held(text, &held)?;
-    Ok(())
+    Ok(print_held(text, &held)?)
 }
 
 /// `STEPS`: a table on which `put KEY VALUE`, `remove KEY` and `get KEY` are made; what it holds, and what a table does that is
@@ -168,10 +171,21 @@ fn print_table(text: &mut String, table: &RoomMap<u64>) -> Result<(), Refusal> {
 pub fn answer_hash_map(text: &mut String, row: &str) -> Result<(), Refusal> {
     let alloc = *text.allocator();
     let mut table = RoomMap::new(alloc);
+    let answered = make_steps(alloc, text, &mut table, row);
+    drop(table);
+    answered
+}
+
+fn make_steps(
+    alloc: Global,
+    text: &mut String,
+    table: &mut RoomMap<u64>,
+    row: &str,
+) -> Result<(), Refusal> {
     for asked in row.split(", ") {
-        step(text, &mut table, call_of(asked)?)?;
+        step(text, table, call_of(asked)?)?;
     }
-    print_table(text, &table)?;
+    print_table(text, table)?;
     text.push_str("; again ")?;
     let again = RoomMap::of_entries(alloc, table.try_copy()?.to_entries()?)?;
     print_table(text, &again)

@@ -2,13 +2,14 @@
 use crate::alone::{answer_new, answer_of_kind, answer_raised, answer_two_puts};
 use crate::audits::{answer_audit, answer_records};
 use crate::bench::Bench;
+use crate::changes::print_locations;
 use crate::models::{answer_event, answer_refusal, answer_same, answer_state};
 use crate::parts::{answer_below, answer_editions, answer_hash_map, answer_meet, set_in};
 use crate::sets::{answer_lock, call_all};
 use crate::words::{answer_on, tell, words_of};
-use row_parts::{print_all, script_of, split, tell_refusal};
+use row_parts::{script_of, split, tell_refusal};
 use seq_model::{Memory, Refusal};
-use std::alloc::Global;
+use std::alloc::{AllocError, Global};
 use std::fmt::Write;
 use step_core::Words;
 use text_formats::number;
@@ -67,19 +68,25 @@ enum Opened {
 pub fn answer_all(alloc: Global, rows: &str) -> Result<String, Memory> {
     let mut text = String::new(alloc);
     let mut opened = Opened::Nothing;
+    let answered = answer_each(&mut text, &mut opened, rows);
+    drop(opened);
+    answered?;
+    Ok(text)
+}
+
+fn answer_each(text: &mut String, opened: &mut Opened, rows: &str) -> Result<(), AllocError> {
     let mut count = 0u64;
     for row in rows.lines() {
         text.push_str(row)?;
         if !matches!(row.as_bytes(), [] | [b'#', ..]) {
             count = count.saturating_add(1);
             text.push_str(" = ")?;
-            let answered = answer_row(&mut text, &mut opened, row);
-            tell_refusal(&mut text, "", answered, "")?;
+            let answered = answer_row(text, opened, row);
+            tell_refusal(text, "", answered, "")?;
         }
         text.push('\n')?;
     }
-    writeln!(text, "rows {count}")?;
-    Ok(text)
+    writeln!(text, "rows {count}")
 }
 
 fn answer_row(text: &mut String, opened: &mut Opened, row: &str) -> Result<(), Refusal> {
@@ -96,7 +103,7 @@ fn answer_row(text: &mut String, opened: &mut Opened, row: &str) -> Result<(), R
         "audit" => answer_audit(text, others),
         "records" => answer_records(text, others),
         "refusal" => answer_refusal(text, matches!(opened, Opened::Words(_)), others),
-        "set" => Ok(print_all(text, "holds", set_in(alloc, row)?.as_slice())?),
+        "set" => Ok(print_locations(text, "holds", set_in(alloc, row)?)?),
         "below" => answer_below(text, others),
         "meet" => answer_meet(text, others),
         "editions" => answer_editions(text, others),
@@ -116,9 +123,13 @@ fn answer_row(text: &mut String, opened: &mut Opened, row: &str) -> Result<(), R
 fn answer_opening(text: &mut String, opened: &mut Opened, row: &str) -> Result<(), Refusal> {
     let alloc = *text.allocator();
     let script = script_of(alloc, row)?;
-    *opened = Opened::Collection(Bench::open(alloc, &script)?);
-    text.push_str("opened")?;
-    Ok(())
+    let bench = Bench::open(alloc, &script)?;
+    open(text, opened, Opened::Collection(bench))
+}
+
+fn open(text: &mut String, opened: &mut Opened, new: Opened) -> Result<(), Refusal> {
+    *opened = new;
+    Ok(text.push_str("opened")?)
 }
 
 // A table of words begins with its clock.
@@ -128,11 +139,8 @@ fn answer_table(text: &mut String, opened: &mut Opened, row: &str) -> Result<(),
         return answer_hash_map(text, row);
     };
     let alloc = *text.allocator();
-    let values = words_of(alloc, values)?;
-    match Words::new(alloc, clock, values) {
-        Ok(words) => *opened = Opened::Words(words),
-        Err(refusal) => return tell(text, Err(refusal)),
+    match Words::new(alloc, clock, words_of(alloc, values)?) {
+        Ok(words) => open(text, opened, Opened::Words(words)),
+        Err(refusal) => tell(text, Err(refusal)),
     }
-    text.push_str("opened")?;
-    Ok(())
 }

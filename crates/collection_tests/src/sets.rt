@@ -9,20 +9,20 @@ use vlock_word::LockWord;
 pub fn answer_lock(text: &mut String, row: &str) -> Result<(), Refusal> {
     let call = call_of(row)?;
     let version = u64::from(location(call.at)?);
-    match call.name {
-        "free" => write!(text, "{}", LockWord::free(version).bits())?,
-        "locked" => write!(text, "{}", LockWord::locked(version).bits())?,
+    let told = match call.name {
+        "free" => write!(text, "{}", LockWord::free(version).bits()),
+        "locked" => write!(text, "{}", LockWord::locked(version).bits()),
         "read" => {
             let word = LockWord::read(version);
-            write!(text, "{word:?}")?;
+            write!(text, "{word:?}")
         }
         "usable" => {
             let usable = LockWord::read(version).usable(call.value);
-            text.push_str(if usable { "yes" } else { "no" })?;
+            text.push_str(if usable { "yes" } else { "no" })
         }
         _ => return Err(Refusal::NoSuch),
-    }
-    Ok(())
+    };
+    Ok(told?)
 }
 
 /// Makes the calls on a set.
@@ -67,27 +67,26 @@ fn put_first<Role>(set: &mut AccessSet<Role>, count: u32, value: u64) -> Result<
 }
 
 fn tell(text: &mut String, answer: Result<(), SetRefusal>) -> Result<(), Refusal> {
-    match answer {
-        Ok(()) => text.push_str("done")?,
+    let told = match answer {
+        Ok(()) => text.push_str("done"),
         Err(SetRefusal::Memory) => return Err(Refusal::Memory),
-        Err(SetRefusal::TooLong) => text.push_str("TooLong")?,
-    }
-    Ok(())
+        Err(SetRefusal::TooLong) => text.push_str("TooLong"),
+    };
+    Ok(told?)
 }
 
 /// Prints a number, or the other text where there is none.
 pub fn print_found(text: &mut String, found: Option<u64>, none: &str) -> Result<(), Refusal> {
-    match found {
-        Some(value) => write!(text, "{value}")?,
-        None => text.push_str(none)?,
-    }
-    Ok(())
+    let printed = match found {
+        Some(value) => write!(text, "{value}"),
+        None => text.push_str(none),
+    };
+    Ok(printed?)
 }
 
 fn print_entries(text: &mut String, entries: &[(u32, u64)]) -> Result<(), Refusal> {
     for (at, value) in entries {
         write!(text, "{at}:{value} ")?;
     }
-    text.push_str("in all")?;
-    Ok(())
+    Ok(text.push_str("in all")?)
 }

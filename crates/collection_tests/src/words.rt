@@ -33,13 +33,13 @@ pub fn words_of(alloc: Global, row: &str) -> Result<Vec<u64>, Refusal> {
 
 /// Prints what a move is answered.
 pub fn tell(text: &mut String, answer: Answer) -> Result<(), Refusal> {
-    match answer {
+    let told = match answer {
         Err(WordRefusal::Memory) => return Err(Refusal::Memory),
-        Err(refusal) => write!(text, "{refusal}")?,
-        Ok(Some(answer)) => write!(text, "{answer:?}")?,
-        Ok(None) => text.push_str("..")?,
-    }
-    Ok(())
+        Err(refusal) => write!(text, "{refusal}"),
+        Ok(Some(answer)) => write!(text, "{answer:?}"),
+        Ok(None) => text.push_str(".."),
+    };
+    Ok(told?)
 }
 
 /// Answers a row that speaks of a table.
@@ -77,8 +77,7 @@ fn print_calls(text: &mut String, history: &[WordRecord]) -> Result<(), Refusal>
             write!(text, "{call:?} ")?;
         }
     }
-    text.push_str("in all")?;
-    Ok(())
+    Ok(text.push_str("in all")?)
 }
 
 fn make_all(text: &mut String, words: &mut Words, actor: u32, moves: &str) -> Result<(), Refusal> {
