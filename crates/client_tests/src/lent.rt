@@ -8,7 +8,9 @@ use crate::steps::{Ended, first_word, number_of};
 use std::alloc::{AllocError, Global};
 use std::fmt::Write;
 use std::thread::Threads;
-use wolimevar::{Failure, Lender, LentClient, Refusal, Serving, StillLent, Store};
+use wolimevar::{
+    Client, Failure, Lender, LentClient, Refusal, Scope, Serving, Session, StillLent, Store,
+};
 
 /// One more than the clients that may be lent at once.
 const ONE_TOO_MANY: u64 = 64;
@@ -90,12 +92,26 @@ fn run_both<V: Number>(
     Ok((made, lender))
 }
 
+/// A guest that counts the word, and owns the handles, as a thread of its own needs.
+#[derive(Drop)]
+struct Lodger<V> {
+    all: All<V>,
+}
+
+impl<V: Number> Session<V> for Lodger<V> {
+    type Out = Result<String, AllocError>;
+
+    fn serve<S: Scope<V>>(self, client: &mut Client<'_, V, S>) -> Result<String, AllocError> {
+        let mut text = String::new(self.all.alloc);
+        let (all, parts) = (&self.all, QUIETLY);
+        Guest { all, parts }.serve_all(&mut text, client)?;
+        Ok(text)
+    }
+}
+
 /// How many transactions of a session committed, if they all did.
-fn commits_of<R: Threads, V: Number>(rt: &R, serving: Serving<V, Guest<'static, V>>) -> u64
-where
-    V: Send + Sync + 'static,
-{
-    let served: Result<String, AllocError> = serving.join(rt);
+fn commits_of<R: Threads, V: Number>(rt: &R, serving: Serving<V, Lodger<V>>) -> u64 {
+    let served = serving.join(rt);
     match &served {
         Ok(printed) if printed.is_empty() => TIMES,
         _ => 0,
@@ -109,9 +125,8 @@ fn serve_two<R: Threads, V: Number + Send + Sync + 'static>(
     lender: &mut Lender<V>,
     all: &All<V>,
 ) -> Result<(), Refusal> {
-    let parts = QUIETLY;
-    let first = lender.spawn(rt, Guest { all: *all, parts })?;
-    let second = lender.spawn(rt, Guest { all: *all, parts })?;
+    let first = lender.spawn(rt, Lodger { all: *all })?;
+    let second = lender.spawn(rt, Lodger { all: *all })?;
     let commits = commits_of(rt, first).saturating_add(commits_of(rt, second));
     let out = lender.take_back();
     writeln!(

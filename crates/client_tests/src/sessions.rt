@@ -22,7 +22,7 @@ const COMMITS: u64 = 1_000;
 #[derive(Drop)]
 #[derive_where(Clone, Copy)]
 pub struct Guest<'a, V> {
-    pub all: All<V>,
+    pub all: &'a All<V>,
     pub parts: &'a str,
 }
 
@@ -37,7 +37,8 @@ impl<V: Number> Session<V> for Guest<'_, V> {
 }
 
 impl<V: Number> Guest<'_, V> {
-    fn serve_all<S: Scope<V>>(
+    /// Does the parts, and prints what they print.
+    pub fn serve_all<S: Scope<V>>(
         &self,
         text: &mut String,
         client: &mut Client<'_, V, S>,
@@ -75,7 +76,7 @@ impl<V: Number> Guest<'_, V> {
     }
 
     fn ran<S: Scope<V>>(&self, client: &mut Client<'_, V, S>, verb: &str, steps: &str) -> Ran {
-        let all = &self.all;
+        let all = self.all;
         run_at_client(client, verb, &Script { all, steps })
     }
 
@@ -158,7 +159,7 @@ pub fn answer_clients<R: Threads + Sync, V: Number + Send + Sync>(
     asked: &str,
 ) -> Result<(), AllocError> {
     let (count, parts) = first_word(asked);
-    let guests = guests(Guest { all: *all, parts }, number_of(count))?;
+    let guests = guests(Guest { all, parts }, number_of(count))?;
     match store.run(rt, guests) {
         Ok(outs) => {
             let printed = print_outs(text, outs.as_slice());
