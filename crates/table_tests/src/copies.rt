@@ -15,53 +15,72 @@ mod worlds;
 use seq_model::Refusal;
 use std::sync::Wait;
 use std::thread::Threads;
-use tables::{Place, run_at};
+use tables::{Work, on_table};
 
 /// A run makes fewer copies than so many.
 const COPIES: u64 = 1_000;
 
-const AT_SEAT: &str =
-    "at a seat: each refused copy is an allocation that fails, and the seat commits after it\n";
-
-const OF_WORKERS: &str =
-    "of workers: for each refused copy one of them misses its job, and the seat commits after it\n";
-
-const IN_WORLD: &str = "in a world: each refused copy is an allocation that fails, from then on\n";
-
-const IN_COMMIT: &str = "in a commit: the other worker is refused, and commits after it\n";
+/// Where a copy is refused.
+#[derive(Clone, Copy)]
+enum Place {
+    Seat,
+    Workers(usize),
+    World,
+}
 
 /// The runs in this place, `at a seat`, `of two workers`, `of four workers`, `in a world` or `in a commit`, and what came of them.
 pub fn answer_copies<R: Threads + Wait + Sync>(
     rt: &R,
     text: &mut String,
-    words: &str,
+    place: &str,
 ) -> Result<(), Refusal> {
-    let (place, told) = match words {
-        "at a seat" => (Place::Seat, AT_SEAT),
-        "of two workers" => (Place::Workers(2), OF_WORKERS),
-        "of four workers" => (Place::Workers(4), OF_WORKERS),
-        "in a world" => (Place::World, IN_WORLD),
-        "in a commit" => (Place::Commit, IN_COMMIT),
+    match place {
+        "at a seat" => refuse_each(rt, text, Place::Seat)?,
+        "of two workers" => refuse_each(rt, text, Place::Workers(2))?,
+        "of four workers" => refuse_each(rt, text, Place::Workers(4))?,
+        "in a world" => refuse_each(rt, text, Place::World)?,
+        "in a commit" => {
+            let _ = on_table(rt, text, Work::Held)?;
+        }
         _ => return Err(Refusal::NoSuch),
-    };
-    refuse_each(rt, text, place)?;
-    text.push_str(told)?;
+    }
+    text.push_str(told(place))?;
     Ok(())
 }
 
-// At least one copy is refused, but for a commit, which is held once.
+// At least one copy is refused.
 fn refuse_each<R: Threads + Wait + Sync>(
     rt: &R,
     text: &mut String,
     place: Place,
 ) -> Result<(), Refusal> {
     for copy in 0..COPIES {
-        if !run_at(rt, text, place, copy)? {
-            if copy > 0 || matches!(place, Place::Commit) {
-                return Ok(());
-            }
+        let is_refused = match place {
+            Place::Seat => on_table(rt, text, Work::Refused(copy))?,
+            Place::Workers(workers) => on_table(rt, text, Work::Raced(copy, workers))?,
+            Place::World => worlds::is_refused(*text.allocator(), copy)?,
+        };
+        if !is_refused && copy > 0 {
+            return Ok(());
+        }
+        if !is_refused {
             return Err(Refusal::NoSuch);
         }
     }
     Err(Refusal::TooLong)
+}
+
+fn told(place: &str) -> &'static str {
+    match place {
+        "at a seat" => {
+            "at a seat: each refused copy is an allocation that fails, and the seat commits after it\n"
+        }
+        "in a world" => {
+            "in a world: each refused copy is an allocation that fails, from then on\n"
+        }
+        "in a commit" => "in a commit: the other worker is refused, and commits after it\n",
+        _ => {
+            "of workers: for each refused copy one of them misses its job, and the seat commits after it\n"
+        }
+    }
 }

@@ -3,8 +3,8 @@ ghost use Rattle.std.specs.Prelude.{◌≡◌};
 ghost use Rattle.tx_table.specs.Seated.{view};
 ghost use Rattle.tx_engine.specs.Ready.{IsReady};
 
-use crate::engine::turns::{answer_seats, in_turn};
-use crate::shared::{Meeting, Order, Page, Told};
+use crate::engine::turns::{at_once, in_turn};
+use crate::shared::{Order, Page, Told};
 use crate::worker::retries::{ALONE, commit_after};
 use std::thread::Threads;
 use tx_engine::TxSeat;
@@ -28,11 +28,7 @@ pub fn run_seats<R: Threads + Sync, V: Told + Send + Sync>(
     let (others, order, rows) = others_of(rows);
     match others {
         0 => run_pair(page, table, seat, rows),
-        _ => {
-            let meeting = Meeting::new(others.saturating_add(1), order);
-            answer_seats(rt, page, table, seat, 1, others, &meeting, rows);
-            page.hear_meeting(meeting);
-        }
+        _ => at_once(rt, page, table, seat, others, order, rows),
     }
 }
 
@@ -41,10 +37,10 @@ fn run_pair<V: Told>(page: &mut Page<V>, table: &TxTable<V>, first: &mut TxSeat<
     requires shares { (view first.old.seat).shares ≡ 64 }
     ensures ready { IsReady table.now first.new }
 {
-    let mut second = table.split(first, SECOND_SHARES);
+    let mut second = first.split(table, SECOND_SHARES);
     in_turn(page, table, first, &mut second, rows);
     commit_after(page, table, &mut second, ALONE, false);
-    table.join(first, second);
+    first.join(table, second);
 }
 
 // How many other seats there are where each answers its rows in a thread, in which order, and the rows after what says so.

@@ -7,11 +7,11 @@
 //! audit is to be Ok, too; then that is answered as `Memory`.
 mod served;
 
-use crate::worker::lists::number_or_0;
 use seq_model::Refusal;
 use served::{Options, serve_sessions};
 use std::sync::Wait;
 use std::thread::Threads;
+use text_formats::number;
 
 /// The sessions of this session file, served as these words say.
 pub fn answer_sessions<R: Threads + Wait + Sync>(
@@ -20,18 +20,24 @@ pub fn answer_sessions<R: Threads + Wait + Sync>(
     words: &str,
     file: &str,
 ) -> Result<(), Refusal> {
-    serve_sessions(rt, text, options_of(words), file)
+    match options_of(words) {
+        Some(options) => serve_sessions(rt, text, options, file),
+        None => Err(Refusal::NoSuch),
+    }
 }
 
-// What is no number is 0.
-fn options_of(words: &str) -> Options {
-    let (workers, words) = words.split_once(' ').unwrap_or((words, ""));
-    let (stripes, words) = words.split_once(' ').unwrap_or((words, ""));
-    let (tries, meet) = words.split_once(' ').unwrap_or((words, ""));
-    Options {
-        workers: number_or_0(workers) as usize,
-        stripes: u32::try_from(number_or_0(stripes)).unwrap_or(0),
-        tries: number_or_0(tries),
-        meet: number_or_0(meet),
+fn options_of(words: &str) -> Option<Options> {
+    let (workers, words) = words.split_once(' ')?;
+    let (stripes, limits) = words.split_once(' ')?;
+    let (tries, meet) = limits.split_once(' ')?;
+    let (workers, stripes) = (number(workers)?, number(stripes)?);
+    if workers > 64 || stripes > u64::from(u32::MAX) {
+        return None;
     }
+    Some(Options {
+        workers: workers as usize,
+        stripes: stripes as u32,
+        tries: number(tries)?,
+        meet: number(meet)?,
+    })
 }

@@ -5,16 +5,43 @@ ghost use Rattle.tx_engine.specs.Ready.{IsReady};
 
 use crate::pairs::run_seats;
 use crate::shared::{Page, Told, close, open, say_left, say_places};
-use crate::worker::lists::number_or_0;
+use crate::worker::lists::{Limits, limits_of};
 use crate::worker::retries::{ALONE, commit_after, retry_rows};
 use crate::worker::runs::run_lists;
 use row_parts::{script_of, shape_of, state_of};
-use seq_model::{Refusal, State};
+use seq_model::{Refusal, Shape, State};
 use std::sync::Wait;
 use std::thread::Threads;
-use text_formats::Script;
+use text_formats::number;
 use tx_engine::TxSeat;
 use tx_table::TxTable;
+
+/// What the rows on a table are.
+#[derive(Clone, Copy)]
+enum Kind {
+    /// Rows at two seats.
+    Seats,
+    /// Jobs of workers.
+    Workers(Limits),
+    /// Jobs of one seat, each in up to so many attempts.
+    Retries(u64),
+}
+
+impl Kind {
+    fn of(word: &str, limits: &str) -> Option<Kind> {
+        match word {
+            "seats" => Some(Kind::Seats),
+            "workers" => Some(Kind::Workers(limits_of(limits)?)),
+            "retries" => Some(Kind::Retries(number(limits)?)),
+            _ => None,
+        }
+    }
+
+    /// Whether the clock depends on how the workers stood in each other's way.
+    fn is_crowd(self) -> bool {
+        matches!(self, Kind::Workers(limits) if limits.is_crowd)
+    }
+}
 
 /// The table that the words after the kind open, and what comes of the rows on it.
 pub fn answer_table<R: Threads + Wait + Sync>(
@@ -24,29 +51,31 @@ pub fn answer_table<R: Threads + Wait + Sync>(
     words: &str,
     rows: &str,
 ) -> Result<(), Refusal> {
-    let alloc = *text.allocator();
     let (limits, header) = words.split_once(" on ").unwrap_or(("", words));
-    let mut page = Page::<u64>::new(alloc)?;
+    let Some(kind) = Kind::of(kind, limits) else {
+        return Err(Refusal::NoSuch);
+    };
+    let alloc = *text.allocator();
     let script = script_of(alloc, header)?;
+    let shape = shape_of(alloc, &script)?;
     let opening = state_of(alloc, &script, 0)?;
-    let ran = run_opening(rt, &mut page, kind, limits, &script, &opening, rows);
-    // Of a crowd the clock depends on how the workers stood in each other's way.
-    let has_clock = !limits.ends_with("crowd");
-    page.end(text, &opening, ran, has_clock, rows)
+    drop(script);
+    let mut page = Page::<u64>::new(alloc)?;
+    let (clock, mut last) = run_opening(rt, &mut page, kind, &shape, &opening, rows)?;
+    let clock = if kind.is_crowd() { None } else { Some(clock) };
+    page.end(text, &opening, clock, &mut last, rows)
 }
 
 fn run_opening<R: Threads + Wait + Sync, V: Told + Send + Sync>(
     rt: &R,
     page: &mut Page<V>,
-    kind: &str,
-    limits: &str,
-    script: &Script,
+    kind: Kind,
+    shape: &Shape,
     opening: &State<V>,
     rows: &str,
 ) -> Result<(u64, State<V>), Refusal> {
-    let alloc = page.alloc();
-    let (table, mut seat) = open(alloc, &shape_of(alloc, script)?, opening)?;
-    let is_refused = run_seat(rt, page, kind, limits, &table, &mut seat, rows);
+    let (table, mut seat) = open(page.alloc(), shape, opening)?;
+    let is_refused = run_seat(rt, page, kind, &table, &mut seat, rows);
     commit_after(page, &table, &mut seat, ALONE, is_refused);
     say_places(page, &table, rows);
     let closed = close(table, seat)?;
@@ -55,13 +84,11 @@ fn run_opening<R: Threads + Wait + Sync, V: Told + Send + Sync>(
     Ok((clock, closed.state()?))
 }
 
-// What the rows are, which the kind says: `seats`, rows at two seats; `workers`, jobs of workers; `retries`, jobs of one seat, each in up to
-// so many attempts. Whether jobs ran out of memory that were to have none.
+// Whether jobs ran out of memory that were to have none.
 fn run_seat<R: Threads + Wait + Sync, V: Told + Send + Sync>(
     rt: &R,
     page: &mut Page<V>,
-    kind: &str,
-    limits: &str,
+    kind: Kind,
     table: &TxTable<V>,
     seat: &mut TxSeat<V>,
     rows: &str,
@@ -71,17 +98,19 @@ fn run_seat<R: Threads + Wait + Sync, V: Told + Send + Sync>(
     ensures ready { IsReady table.now seat.new }
 {
     match kind {
-        "seats" => {
+        Kind::Seats => {
             run_seats(rt, page, table, seat, rows);
             false
         }
-        "workers" => run_lists(rt, page, limits, table, seat, rows),
-        "retries" => {
-            retry_rows(page, number_or_0(limits), table, seat, rows);
-            false
-        }
-        _ => {
-            page.fail(Refusal::NoSuch);
+        Kind::Workers(limits) => match run_lists(rt, page, limits, table, seat, rows) {
+            Ok(is_refused) => is_refused,
+            Err(refusal) => {
+                page.fail(refusal);
+                false
+            }
+        },
+        Kind::Retries(tries) => {
+            retry_rows(page, tries, table, seat, rows);
             false
         }
     }

@@ -45,7 +45,10 @@ fn commit<V: Value>(tx: Tx<'_, V>) -> Result<Answer<V>, Refusal>
     requires since { HasBegunSince tx.table.now tx.seat.now }
     ensures ready { IsReady tx.entry.table.now tx.exit.1.0.now }
 {
-    Answer::of_commit(tx.commit())
+    match tx.commit() {
+        Ok(receipt) => Ok(Answer::Committed(receipt)),
+        Err(refusal) => Err(refusal),
+    }
 }
 
 fn abort<V: Value>(tx: Tx<'_, V>) -> Result<Answer<V>, Refusal>

@@ -1,8 +1,16 @@
 //! Jobs of workers, whose values are rationed.
-use super::rations::{Supply, get};
-use seq_model::{Call, Memory, Op, Reply, Value};
+ghost use Rattle.std.specs.Prelude.{◌≡◌, ◌≤◌, length};
+ghost use Rattle.tx_table.specs.Seated.{view};
+ghost use Rattle.tx_engine.specs.Ready.{IsReady};
+
+use super::rations::{Ration, Rationed, get};
+use seq_model::{Ask, Call, Job, Memory, Op, Refusal, Reply};
 use std::alloc::Global;
-use tx_engine::{Ask, Job};
+use std::sync::Wait;
+use std::thread::Threads;
+use tx_engine::{Pause, TxSeat};
+use tx_table::TxTable;
+use workers::{Report, run_workers};
 
 /// What a job asks.
 #[derive(Clone, Copy)]
@@ -23,21 +31,21 @@ pub struct Plan {
 
 /// A job that is planned so.
 #[derive(Drop)]
-pub struct Step<S> {
-    supply: S,
+struct Step {
+    ration: Ration,
     plan: Plan,
 }
 
-impl<V: Value, S: Supply<V>> Job<V> for Step<S> {
+impl Job<Rationed> for Step {
     ghost use Rattle.std.specs.Prelude.{⊤};
 
     ghost asks = { λ _ _ _. ⊤ };
 
-    fn ask(&self, replies: &[Reply<V>]) -> Result<Ask<V>, Memory> {
-        self.supply.wait_for_step(self.plan.after);
+    fn ask(&self, replies: &[Reply<Rationed>]) -> Result<Ask<Rationed>, Memory> {
+        self.ration.steps().wait_for_row(self.plan.after);
         match (replies.len(), self.plan.asks) {
             (0, Asks::Gets) => Ok(Ask::Call(get(5))),
-            (0, Asks::Puts) | (1, Asks::WritesAndPuts) => Ok(Ask::Call(self.supply.put(5)?)),
+            (0, Asks::Puts) | (1, Asks::WritesAndPuts) => Ok(Ask::Call(self.ration.put(5)?)),
             (0, _) => {
                 let op = Op::Write(7);
                 Ok(Ask::Call(Call { target: 0, op }))
@@ -47,19 +55,41 @@ impl<V: Value, S: Supply<V>> Job<V> for Step<S> {
     }
 }
 
-/// The jobs of each worker. The plans stand in the order of their workers.
-pub fn lists_of<V: Value, S: Supply<V>>(
+/// These jobs are run, each in up to so many attempts. They stand in the order of their workers.
+pub fn run_plans<R: Threads + Wait + Sync, P: Pause + Sync>(
+    rt: &R,
     alloc: Global,
-    supply: &S,
+    ration: &Ration,
+    table: &TxTable<Rationed>,
+    seat: &mut TxSeat<Rationed>,
     plans: &[Plan],
-) -> Result<Vec<Vec<Step<S>>>, Memory> {
-    let mut lists: Vec<Vec<Step<S>>> = Vec::new(alloc);
+    tries: u64,
+    pause: &P,
+) -> Result<Report<Rationed>, Refusal>
+    requires some { 1 ≤ tries }
+    requires ready { IsReady table.now seat.old }
+    requires shares { (view seat.old.seat).shares ≡ 64 }
+    ensures ready { IsReady table.now seat.new }
+{
+    let lists = lists_of(alloc, ration, plans)?;
+    let count = lists.len();
+    if count == 0 || count > 64 {
+        return Err(Refusal::NoSuch);
+    }
+    match run_workers(rt, alloc, table, seat, lists, tries, pause) {
+        Ok(report) => Ok(report),
+        Err(_) => Err(Refusal::Memory),
+    }
+}
+
+fn lists_of(alloc: Global, ration: &Ration, plans: &[Plan]) -> Result<Vec<Vec<Step>>, Memory> {
+    let mut lists: Vec<Vec<Step>> = Vec::new(alloc);
     for plan in plans {
         if lists.len() as u64 != plan.worker {
             lists.push(Vec::new(alloc))?;
         }
         let step = Step {
-            supply: supply.share()?,
+            ration: ration.share()?,
             plan: *plan,
         };
         if let Some(list) = lists.last_mut() {

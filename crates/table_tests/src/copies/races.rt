@@ -3,13 +3,13 @@ ghost use Rattle.std.specs.Prelude.{◌≡◌};
 ghost use Rattle.tx_table.specs.Seated.{view};
 ghost use Rattle.tx_engine.specs.Ready.{IsReady};
 
-use super::jobs::{Asks, Plan, lists_of};
-use super::rations::Supply;
+use super::jobs::{Asks, Plan, run_plans};
+use super::rations::{Ration, Rationed};
+use super::seats::commit_puts;
 use super::tables::Made;
 use crate::shared::{Meeting, Order, keep_all};
 use crate::worker::reports::memory_missed;
-use crate::worker::runs::run_jobs;
-use seq_model::{Record, Refusal, Value};
+use seq_model::{Record, Refusal};
 use std::alloc::Global;
 use std::sync::Wait;
 use std::thread::Threads;
@@ -45,16 +45,16 @@ const PUTS: [Plan; 4] = [
 ];
 
 /// The copy at this position is refused, of all that so many workers make, up to four, who put a value each; whether one was. One job is
-/// missed as `Memory` then, and else none is.
-pub fn race<R: Threads + Wait + Sync, V: Value + Send + Sync, S: Supply<V> + Send + Sync>(
+/// missed as `Memory` then, and else none is; the seat commits after it.
+pub fn race<R: Threads + Wait + Sync>(
     rt: &R,
     alloc: Global,
-    supply: &S,
-    table: &TxTable<V>,
-    seat: &mut TxSeat<V>,
+    ration: &Ration,
+    table: &TxTable<Rationed>,
+    seat: &mut TxSeat<Rationed>,
     place: u64,
     workers: usize,
-    receipts: &mut Vec<Record<V>>,
+    receipts: &mut Vec<Record<Rationed>>,
 ) -> Made
     requires ready { IsReady table.now seat.old }
     requires shares { (view seat.old.seat).shares ≡ 64 }
@@ -63,18 +63,20 @@ pub fn race<R: Threads + Wait + Sync, V: Value + Send + Sync, S: Supply<V> + Sen
     let Some(plans) = PUTS.get(..workers) else {
         return Err(Refusal::NoSuch);
     };
-    let lists = lists_of(alloc, supply, plans)?;
     let meeting = Meeting::new(workers as u64, Order::LastIsFirst);
-    supply.refuse(place);
-    let report = run_jobs(rt, alloc, table, seat, lists, TRIES, &meeting);
-    let was_refused = supply.lift();
-    judge(keep_report(report, receipts), was_refused)
+    ration.refuse(place);
+    let report = run_plans(rt, alloc, ration, table, seat, plans, TRIES, &meeting);
+    let was_refused = ration.lift();
+    drop(meeting);
+    let missed = keep_report(report, receipts);
+    receipts.push(commit_puts(table, seat, ration)?)?;
+    judge(missed?, was_refused)
 }
 
 // How many jobs ran out of memory; `NotIdle` where one was missed for another cause.
-fn keep_report<V: Value>(
-    report: Result<Report<V>, Refusal>,
-    receipts: &mut Vec<Record<V>>,
+fn keep_report(
+    report: Result<Report<Rationed>, Refusal>,
+    receipts: &mut Vec<Record<Rationed>>,
 ) -> Result<u64, Refusal> {
     let Report {
         receipts: lists,
@@ -89,11 +91,12 @@ fn keep_report<V: Value>(
 }
 
 // One job is out of memory where a copy was refused; that others are is that the run is out of memory.
-fn judge(missed: Result<u64, Refusal>, was_refused: bool) -> Made {
-    match missed {
-        Ok(missed) if missed == u64::from(was_refused) => Ok(was_refused),
-        Ok(0) => Err(Refusal::NotIdle),
-        Ok(_) => Err(Refusal::Memory),
-        Err(refusal) => Err(refusal),
+fn judge(missed: u64, was_refused: bool) -> Made {
+    if missed == u64::from(was_refused) {
+        Ok(was_refused)
+    } else if missed == 0 {
+        Err(Refusal::NotIdle)
+    } else {
+        Err(Refusal::Memory)
     }
 }

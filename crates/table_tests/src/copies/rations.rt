@@ -7,31 +7,10 @@ use std::alloc::Global;
 use std::marker::Model;
 use std::sync::Arc;
 use std::sync::atomic::{AtomicBool, AtomicU64, Ordering};
-use workers::Pause;
+use tx_engine::Pause;
 
 /// The position of a copy that no run makes.
 const NEVER: u64 = u64::MAX;
-
-/// What puts such values. It is written for any of them, since a search then compares no whole seats.
-pub trait Supply<V: Value>: Drop + Pause {
-    /// The same supply, for another owner.
-    fn share(&self) -> Result<Self, Memory>;
-
-    /// `put KEY 60` on the first collection.
-    fn put(&self, key: u64) -> Result<Call<V>, Memory>;
-
-    /// From now on the copy at this position is refused, counted from 0.
-    fn refuse(&self, place: u64);
-
-    /// No copy is refused from now on. Whether one was.
-    fn lift(&self) -> bool;
-
-    /// Waits for so many steps of workers.
-    fn wait_for_step(&self, step: u64);
-
-    /// Whether one waited in vain.
-    fn is_missed(&self) -> bool;
-}
 
 /// Which copy is the refused one, of all that are made from some moment on; and for how many steps a value waits as it is dropped.
 #[derive(Drop)]
@@ -69,11 +48,42 @@ impl Ration {
         })
     }
 
-    fn value(&self, number: u64) -> Result<Rationed, Memory>
+    /// From now on the copy at this position is refused, counted from 0.
+    pub fn refuse(&self, place: u64) {
+        self.copies.made.store(0, Ordering::SeqCst);
+        self.copies.refused.store(place, Ordering::SeqCst);
+    }
+
+    /// No copy is refused from now on. Whether one was.
+    pub fn lift(&self) -> bool {
+        self.copies.refused.store(NEVER, Ordering::SeqCst);
+        self.copies.has_refused.load(Ordering::SeqCst)
+    }
+
+    /// The steps of workers.
+    pub fn steps(&self) -> &Meeting {
+        &self.copies.steps
+    }
+
+    /// The same ration, for another owner.
+    pub fn share(&self) -> Result<Ration, Memory> {
+        let copies = Arc::try_clone(&self.copies)?;
+        Ok(Ration { copies })
+    }
+
+    pub fn value(&self, number: u64) -> Result<Rationed, Memory>
         ensures { IfOk result (λ value. value ≡ number) }
     {
         let ration = self.share()?;
         Ok(Rationed { number, ration })
+    }
+
+    /// `put KEY 60` on the first collection.
+    pub fn put(&self, key: u64) -> Result<Call<Rationed>, Memory> {
+        Ok(Call {
+            target: 0,
+            op: Op::Put(key, self.value(60)?),
+        })
     }
 
     /// A word, and a map that holds such a value at the key 5.
@@ -81,38 +91,6 @@ impl Ration {
         let mut map = Entries::new(alloc);
         let _ = map.insert(5, self.value(50)?)?;
         State::new(vec![in alloc; 0u64]?, vec![in alloc; Held::Map(map)]?)
-    }
-}
-
-impl Supply<Rationed> for Ration {
-    fn share(&self) -> Result<Ration, Memory> {
-        let copies = Arc::try_clone(&self.copies)?;
-        Ok(Ration { copies })
-    }
-
-    fn put(&self, key: u64) -> Result<Call<Rationed>, Memory> {
-        Ok(Call {
-            target: 0,
-            op: Op::Put(key, self.value(60)?),
-        })
-    }
-
-    fn refuse(&self, place: u64) {
-        self.copies.made.store(0, Ordering::SeqCst);
-        self.copies.refused.store(place, Ordering::SeqCst);
-    }
-
-    fn lift(&self) -> bool {
-        self.copies.refused.store(NEVER, Ordering::SeqCst);
-        self.copies.has_refused.load(Ordering::SeqCst)
-    }
-
-    fn wait_for_step(&self, step: u64) {
-        self.copies.steps.wait_for_row(step);
-    }
-
-    fn is_missed(&self) -> bool {
-        self.copies.steps.is_missed()
     }
 }
 
@@ -126,14 +104,14 @@ impl Pause for Ration {
     }
 
     fn after_receipt(&self, _worker: u64, _number: u64) {
-        self.copies.steps.end_row(0);
+        self.steps().end_row(0);
     }
 
     fn after_refusal(&self, _worker: u64, cause: Refusal) {
         if matches!(cause, Refusal::Memory) {
-            self.copies.steps.leave();
+            self.steps().leave();
         }
-        self.copies.steps.end_row(0);
+        self.steps().end_row(0);
     }
 }
 
@@ -142,8 +120,8 @@ impl Drop for Rationed {
         let Rationed { number: _, ration } = self;
         let steps = ration.copies.waits.swap(0, Ordering::SeqCst);
         if steps > 0 {
-            ration.copies.steps.end_row(0);
-            ration.copies.steps.wait_for_row(steps);
+            ration.steps().end_row(0);
+            ration.steps().wait_for_row(steps);
         }
         drop(ration);
     }
@@ -172,7 +150,7 @@ impl Value for Rationed {
 }
 
 /// `get KEY` on the first collection.
-pub fn get<V>(key: u64) -> Call<V> {
+pub fn get(key: u64) -> Call<Rationed> {
     Call {
         target: 0,
         op: Op::Get(key),

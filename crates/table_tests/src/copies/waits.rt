@@ -4,13 +4,13 @@ ghost use Rattle.std.specs.Prelude.{◌≡◌};
 ghost use Rattle.tx_table.specs.Seated.{view};
 ghost use Rattle.tx_engine.specs.Ready.{IsReady};
 
-use super::jobs::{Asks, Plan, lists_of};
-use super::rations::Supply;
+use super::jobs::{Asks, Plan, run_plans};
+use super::rations::{Ration, Rationed};
+use super::seats::commit_puts;
 use super::tables::Made;
 use crate::shared::keep_all;
 use crate::worker::reports::{memory_missed, print_missed, print_own};
-use crate::worker::runs::run_jobs;
-use seq_model::{Record, Refusal, Value};
+use seq_model::{Record, Refusal};
 use std::sync::Wait;
 use std::thread::Threads;
 use tx_engine::TxSeat;
@@ -41,34 +41,36 @@ const PLANS: [Plan; 4] = [
     },
 ];
 
-/// Both workers are run: the receipts of each, and what was missed.
-pub fn hold<R: Threads + Wait + Sync, V: Value + Send + Sync, S: Supply<V> + Send + Sync>(
+/// Both workers are run: the receipts of each, and what was missed. Where an allocation failed, the seat commits a write after it.
+pub fn hold<R: Threads + Wait + Sync>(
     rt: &R,
     text: &mut String,
-    supply: &S,
-    table: &TxTable<V>,
-    seat: &mut TxSeat<V>,
-    receipts: &mut Vec<Record<V>>,
+    ration: &Ration,
+    table: &TxTable<Rationed>,
+    seat: &mut TxSeat<Rationed>,
+    receipts: &mut Vec<Record<Rationed>>,
 ) -> Made
     requires ready { IsReady table.now seat.old }
     requires shares { (view seat.old.seat).shares ≡ 64 }
     ensures ready { IsReady table.now seat.new }
 {
     let alloc = *text.allocator();
-    let lists = lists_of(alloc, supply, &PLANS)?;
-    let report = run_jobs(rt, alloc, table, seat, lists, 1, supply);
+    let report = run_plans(rt, alloc, ration, table, seat, &PLANS, 1, ration);
     match hear(text, report, receipts) {
-        Ok(()) if supply.is_missed() => Err(Refusal::NotIdle),
+        Ok(()) if ration.steps().is_missed() => Err(Refusal::NotIdle),
         Ok(()) => Ok(false),
-        Err(refusal) => Err(refusal),
+        Err(refusal) => {
+            receipts.push(commit_puts(table, seat, ration)?)?;
+            Err(refusal)
+        }
     }
 }
 
 // All receipts are kept, whether there is memory to print them or not.
-fn hear<V: Value>(
+fn hear(
     text: &mut String,
-    report: Result<Report<V>, Refusal>,
-    receipts: &mut Vec<Record<V>>,
+    report: Result<Report<Rationed>, Refusal>,
+    receipts: &mut Vec<Record<Rationed>>,
 ) -> Result<(), Refusal> {
     let Report {
         receipts: lists,

@@ -1,47 +1,37 @@
 //! A transaction in a running world, one of whose copies is refused.
-use super::rations::{Supply, get, one_stripe};
-use super::tables::Made;
+use super::rations::{Ration, Rationed, get, one_stripe};
 use crate::shared::audit_receipts;
-use seq_model::{Event, Notice, Record, Refusal, Request, State, Value};
-use step_world::{Trace, World};
+use seq_model::{Event, Notice, Refusal, Request};
+use std::alloc::Global;
+use step_world::World;
 
 /// No request of the transaction has so many steps.
 const STEPS: u64 = 1_000;
 
 /// Runs the transaction with the copy at this position refused; whether one was. It is answered as `Memory` then, and so is all that
 /// the world is asked after it; else the transaction commits, and what the world holds is what it leaves. `NotIdle` where it isn't so.
-pub fn is_refused<V: Value, S: Supply<V>>(
-    supply: &S,
-    opening: &State<V>,
-    place: u64,
-    receipts: &mut Vec<Record<V>>,
-) -> Made {
-    let alloc = *receipts.allocator();
-    let mut world = World::open(alloc, &one_stripe(alloc)?, opening.try_copy(alloc)?)?;
-    if put_all(&mut world, supply, place)? {
+pub fn is_refused(alloc: Global, place: u64) -> Result<bool, Refusal> {
+    let ration = Ration::new(alloc)?;
+    let opening = ration.opening(alloc)?;
+    let shape = one_stripe(alloc)?;
+    let mut world = World::open(alloc, &shape, opening.try_copy(alloc)?)?;
+    if put_all(&mut world, &ration, place)? {
         return Ok(true);
     }
-    audit_trace(opening, world.into_trace()?, receipts)
-}
-
-fn audit_trace<V: Value>(
-    opening: &State<V>,
-    trace: Trace<V>,
-    receipts: &mut Vec<Record<V>>,
-) -> Made {
+    let trace = world.into_trace()?;
+    let mut receipts = Vec::new(alloc);
     for (_, record) in trace.records.into_vec() {
         receipts.push(record)?;
     }
-    let alloc = *receipts.allocator();
-    audit_receipts(alloc, opening, receipts.as_slice(), &trace.state)?;
+    audit_receipts(alloc, &opening, receipts.as_slice(), &trace.state)?;
     Ok(false)
 }
 
 // Whether a copy was refused, and the world failed by that.
-fn put_all<V: Value, S: Supply<V>>(world: &mut World<V>, supply: &S, place: u64) -> Made {
-    supply.refuse(place);
-    let committed = commit_puts(world, supply);
-    let was_refused = supply.lift();
+fn put_all(world: &mut World<Rationed>, ration: &Ration, place: u64) -> Result<bool, Refusal> {
+    ration.refuse(place);
+    let committed = commit_puts(world, ration);
+    let was_refused = ration.lift();
     match committed {
         Ok(()) if !was_refused => Ok(false),
         Err(Refusal::Memory) if was_refused => {
@@ -55,17 +45,17 @@ fn put_all<V: Value, S: Supply<V>>(world: &mut World<V>, supply: &S, place: u64)
     }
 }
 
-fn commit_puts<V: Value, S: Supply<V>>(world: &mut World<V>, supply: &S) -> Result<(), Refusal> {
+fn commit_puts(world: &mut World<Rationed>, ration: &Ration) -> Result<(), Refusal> {
     ask(world, Request::Begin)?;
     for key in 5..7u64 {
-        ask(world, Request::Call(supply.put(key)?))?;
+        ask(world, Request::Call(ration.put(key)?))?;
         ask(world, Request::Call(get(key)))?;
     }
     ask(world, Request::Commit)
 }
 
 // A request, and steps up to where it is answered.
-fn ask<V: Value>(world: &mut World<V>, request: Request<V>) -> Result<(), Refusal> {
+fn ask(world: &mut World<Rationed>, request: Request<Rationed>) -> Result<(), Refusal> {
     let mut event = Event::Ask(1, request);
     for _ in 0..STEPS {
         match world.feed(event)? {

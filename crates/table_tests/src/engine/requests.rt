@@ -40,9 +40,9 @@ fn ask<V: Told>(
         Request::BeginRead => begin_as(table, seat, true),
         Request::Call(call) => {
             let call = V::call_of(call)?;
-            Answer::of(shown::call(table, seat, call))
+            Ok(Answer::Replied(shown::call(table, seat, call)?))
         }
-        Request::Commit => Answer::of_commit(shown::commit(table, seat)),
+        Request::Commit => Ok(Answer::Committed(shown::commit(table, seat)?)),
         Request::Abort => {
             shown::abort(table, seat);
             Ok(Answer::Said("aborted"))

@@ -48,10 +48,28 @@ pub fn in_turn<V: Told>(
     page.hear_meeting(meeting);
 }
 
-/// The rows of this seat, whose number is given, and of so many others, which are split off, each in a thread of its own. On the page those
-/// of the first seat stand before those of the second, and so on.
+/// The rows of this seat and of so many others, which are split off, each in a thread of its own. On the page those of the first seat stand
+/// before those of the second, and so on.
+pub fn at_once<R: Threads + Sync, V: Told + Send + Sync>(
+    rt: &R,
+    page: &mut Page<V>,
+    table: &TxTable<V>,
+    seat: &mut TxSeat<V>,
+    others: u64,
+    order: Order,
+    rows: &str,
+)
+    requires ready { IsReady table.now seat.old }
+    ensures ready { IsReady table.now seat.new }
+{
+    let meeting = Meeting::new(others.saturating_add(1), order);
+    answer_seats(rt, page, table, seat, 1, others, &meeting, rows);
+    page.hear_meeting(meeting);
+}
+
+// The worker is the first of these seats.
 #[cycle(seats)]
-pub fn answer_seats<R: Threads + Sync, V: Told + Send + Sync>(
+fn answer_seats<R: Threads + Sync, V: Told + Send + Sync>(
     rt: &R,
     page: &mut Page<V>,
     table: &TxTable<V>,

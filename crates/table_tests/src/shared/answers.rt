@@ -23,14 +23,6 @@ impl<V: Value> Answer<V> {
             Err(refusal) => Err(refusal),
         }
     }
-
-    /// What a commit is answered.
-    pub fn of_commit(committed: Result<Record<V>, Refusal>) -> Result<Answer<V>, Refusal> {
-        match committed {
-            Ok(receipt) => Ok(Answer::Committed(receipt)),
-            Err(refusal) => Err(refusal),
-        }
-    }
 }
 
 /// A receipt: its number, whether it has written, and how many calls it has.

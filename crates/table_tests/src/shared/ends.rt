@@ -57,8 +57,10 @@ pub fn keep_all<V: Value>(
 pub fn print_closed<V: Told>(page: &mut Page<V>, last: &mut State<V>, rows: &str) {
     for row in rows.lines() {
         if let Some(call) = row.strip_prefix("closed ") {
+            page.begin_row(row);
             let answered = answer_call(page.alloc(), last, call);
-            page.tell(row, answered);
+            page.hear(answered);
+            page.end_row();
         }
     }
 }
@@ -71,7 +73,7 @@ fn answer_call<V: Told>(
     let script = script_of(alloc, call)?;
     match script.lines.as_slice().first() {
         Some(EventLine::Do(_, Request::Call(call))) => {
-            Answer::of(last.apply(&V::call_of(call)?))
+            Ok(Answer::Replied(last.apply(&V::call_of(call)?)?))
         }
         _ => Err(Refusal::NoSuch),
     }

@@ -1,10 +1,9 @@
 //! Jobs that a row spells.
 use super::told::Told;
 use row_parts::script_of;
-use seq_model::{Memory, Refusal, Reply, Request};
+use seq_model::{Ask, Job, Memory, Refusal, Reply, Request};
 use std::alloc::Global;
 use text_formats::{EventLine, Script};
-use tx_engine::{Ask, Job};
 
 /// A job that a row spells.
 #[derive(Drop)]

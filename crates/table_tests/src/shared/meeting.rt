@@ -2,7 +2,7 @@
 use seq_model::Refusal;
 use std::sync::atomic::{AtomicBool, AtomicU64, Ordering};
 use std::thread::yield_now;
-use workers::Pause;
+use tx_engine::Pause;
 
 /// A worker is held for at most so many turns.
 const TURNS: u64 = 10_000_000;

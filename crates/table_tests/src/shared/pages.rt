@@ -88,13 +88,6 @@ impl<V: Told> Page<V> {
         self.note(is_heard);
     }
 
-    /// A row and its answer.
-    pub fn tell(&mut self, row: &str, answered: Result<Answer<V>, Refusal>) {
-        self.begin_row(row);
-        self.hear(answered);
-        self.end_row();
-    }
-
     /// Where an allocation failed, those who meet are held in vain.
     pub fn hear_meeting(&mut self, meeting: Meeting) {
         if meeting.is_missed() && !self.wants_memory() {
@@ -117,26 +110,25 @@ impl<V: Told> Page<V> {
         }
     }
 
-    /// What a table that was closed held, with its clock, is audited, and all that was printed of it joins the text. Else it is refused as
-    /// the run or the page has failed, and `NotIdle` where the receipts do not leave what the table held.
+    /// What a table that was closed held, audited, and all that was printed of it, which joins the text. Else it is refused as the page has
+    /// failed, and `NotIdle` where the receipts do not leave what the table held.
     pub fn end(
         &mut self,
         text: &mut String,
         opening: &State<V>,
-        ran: Result<(u64, State<V>), Refusal>,
-        has_clock: bool,
+        clock: Option<u64>,
+        last: &mut State<V>,
         rows: &str,
     ) -> Result<(), Refusal> {
-        let (clock, mut last) = ran?;
-        let audited = audit_receipts(self.alloc(), opening, self.receipts.as_slice(), &last);
-        if has_clock {
-            let is_printed = writeln!(self.text, "closed: clock {clock}, audit ok").is_ok();
-            self.note(is_printed);
-        } else {
-            self.print("closed: audit ok\n");
+        let audited = audit_receipts(self.alloc(), opening, self.receipts.as_slice(), last);
+        match clock {
+            Some(clock) => {
+                let is_printed = writeln!(self.text, "closed: clock {clock}, audit ok").is_ok();
+                self.note(is_printed);
+            }
+            None => self.print("closed: audit ok\n"),
         }
-        print_closed(self, &mut last, rows);
-        drop(last);
+        print_closed(self, last, rows);
         audited?;
         if let Some(refusal) = self.fault {
             return Err(refusal);

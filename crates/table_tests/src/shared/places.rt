@@ -12,7 +12,9 @@ use tx_table::{Closed, TxTable};
 pub fn say_places<V: Told>(page: &mut Page<V>, table: &TxTable<V>, rows: &str) {
     for row in rows.lines() {
         if let Some(asked) = row.strip_prefix("the ") {
-            page.tell(row, Ok(place_of(table, asked)));
+            page.begin_row(row);
+            page.hear(Ok(place_of(table, asked)));
+            page.end_row();
         }
     }
 }

@@ -14,24 +14,20 @@ pub struct Limits {
     pub is_crowd: bool,
 }
 
-/// `1000000 2`, `1000000 2 in order`, or `1000000 crowd`. What is no number is 0.
-pub fn limits_of(words: &str) -> Limits {
-    let (tries, meet) = words.split_once(' ').unwrap_or((words, ""));
+/// `1000000 2`, `1000000 2 in order`, or `1000000 crowd`.
+pub fn limits_of(words: &str) -> Option<Limits> {
+    let (tries, meet) = words.split_once(' ')?;
     let (meet, order) = match meet.strip_suffix(" in order") {
         Some(meet) => (meet, Order::LastIsFirst),
         None => (meet, Order::FirstIsLast),
     };
-    Limits {
-        tries: number_or_0(tries),
-        meet: number_or_0(meet),
+    let is_crowd = meet == "crowd";
+    Some(Limits {
+        tries: number(tries)?,
+        meet: if is_crowd { 0 } else { number(meet)? },
         order,
-        is_crowd: meet == "crowd",
-    }
-}
-
-/// The number that these digits spell, or 0.
-pub fn number_or_0(digits: &str) -> u64 {
-    number(digits).unwrap_or(0)
+        is_crowd,
+    })
 }
 
 /// The list of each worker, which stand in the order of the workers.

@@ -27,8 +27,10 @@ pub fn retry_rows<V: Told>(
 {
     'rows: for row in rows.lines() {
         if let Some(words) = row.strip_prefix("1 ") {
+            page.begin_row(row);
             let answered = retry_words(page.alloc(), tries, table, seat, words);
-            page.tell(row, answered);
+            page.hear(answered);
+            page.end_row();
         }
     }
 }
