@@ -1,4 +1,4 @@
--- What a request results in. Where a transaction stands, and what is answered, say where it stands next (`PhaseLemmas`). Besides, a commit
+-- What a request results in. Where a transaction stands, and what is answered, say where it stands next (`KnownStageLemmas`). Besides, a commit
 -- answers the number of its record, which remains its seat's until its last release; and a transaction that is aborted has noted its cause,
 -- and answers it last.
 use Rattle.std.proofs.Common.{◌≡◌, ◌⊎◌, ℕ, Bool, true, false, true≢false, ◌||◌, List, [], ◌∷◌, Option, Some, None, inl, inr, refl, sym, ◌∙◌}

@@ -2,10 +2,9 @@
 //! their own. Then one is dropped after a body that has aborted, and as many are lent as there can be.
 use crate::handles::{All, all_of, open};
 use crate::numbers::Number;
-use crate::scripts::{Ran, Script, run_at_lent, run_at_store};
-use crate::sessions::Guest;
+use crate::scripts::{Ran, Script, run_at_client, run_at_lent, run_at_store};
 use crate::steps::{Ended, first_word, number_of};
-use std::alloc::{AllocError, Global};
+use std::alloc::Global;
 use std::fmt::Write;
 use std::thread::Threads;
 use wolimevar::{
@@ -21,12 +20,6 @@ const COUNT: &str = "a read; a increase";
 /// How often a client counts the word.
 const TIMES: u64 = 10;
 
-/// As often in a session, which prints nothing if all of them commit.
-const QUIETLY: &str =
-    "quietly a increase / quietly a increase / quietly a increase / quietly a increase / \
-    quietly a increase / quietly a increase / quietly a increase / quietly a increase / quietly a increase / \
-    quietly a increase";
-
 /// What transactions that count a word have read: how many committed, and the sum of what the word held before each.
 #[derive(Clone, Copy)]
 struct Made {
@@ -34,27 +27,29 @@ struct Made {
     sum: u64,
 }
 
-/// What the first call of a transaction replied, and the transaction's number.
-fn replied(ran: &Ran) -> (u64, u64) {
+/// What the first call of a transaction replied, and the transaction's number; or what refused it.
+fn replied(ran: Ran) -> Result<(u64, u64), Refusal> {
     match ran {
         Ok((replies, number, _)) => {
             let (first, _) = first_word(replies.as_str());
-            (number_of(first), *number)
+            Ok((number_of(first), number))
         }
-        Err(_) => (0, 0),
+        Err(Failure::Refused(refusal)) => Err(refusal),
+        Err(Failure::Aborted(Ended::Refused(refusal))) => Err(refusal),
+        Err(Failure::Aborted(Ended::By(_))) => Err(Refusal::NotIdle),
     }
 }
 
 /// The client counts the word, and adds what it read to the sum.
-fn work<V: Number>(client: &mut LentClient<V>, all: &All<V>, made: Made) -> Made {
+fn work<V: Number>(client: &mut LentClient<V>, all: &All<V>, made: Made) -> Result<Made, Refusal> {
     let script = Script { all, steps: COUNT };
     let mut sum = made.sum;
     for _ in 0..TIMES {
-        let (read, _) = replied(&run_at_lent(client, &script));
+        let (read, _) = replied(run_at_lent(client, &script))?;
         sum = sum.saturating_add(read);
     }
     let commits = made.commits.saturating_add(client.tally().committed);
-    Made { commits, sum }
+    Ok(Made { commits, sum })
 }
 
 /// A lender that is asked to end while clients are out.
@@ -77,10 +72,10 @@ fn run_both<V: Number>(
     let mut first = lender.client()?;
     let mut second = lender.client()?;
     let none = Made { commits: 0, sum: 0 };
-    let made = work(&mut first, all, none);
+    let made = work(&mut first, all, none)?;
     let asked = still_lent(lender);
     drop(first);
-    let made = work(&mut second, all, made);
+    let made = work(&mut second, all, made)?;
     let StillLent { lender, clients } = asked?;
     let mut lender = lender;
     let out = lender.take_back();
@@ -99,22 +94,17 @@ struct Lodger<V> {
 }
 
 impl<V: Number> Session<V> for Lodger<V> {
-    type Out = Result<String, AllocError>;
+    type Out = Result<u64, Refusal>;
 
-    fn serve<S: Scope<V>>(self, client: &mut Client<'_, V, S>) -> Result<String, AllocError> {
-        let mut text = String::new(self.all.alloc);
-        let (all, parts) = (&self.all, QUIETLY);
-        Guest { all, parts }.serve_all(&mut text, client)?;
-        Ok(text)
-    }
-}
-
-/// How many transactions of a session committed, if they all did.
-fn commits_of<R: Threads, V: Number>(rt: &R, serving: Serving<V, Lodger<V>>) -> u64 {
-    let served = serving.join(rt);
-    match &served {
-        Ok(printed) if printed.is_empty() => TIMES,
-        _ => 0,
+    fn serve<S: Scope<V>>(self, client: &mut Client<'_, V, S>) -> Result<u64, Refusal> {
+        let script = Script {
+            all: &self.all,
+            steps: COUNT,
+        };
+        for _ in 0..TIMES {
+            replied(run_at_client(client, "do", &script))?;
+        }
+        Ok(client.tally().committed)
     }
 }
 
@@ -127,8 +117,9 @@ fn serve_two<R: Threads, V: Number + Send + Sync + 'static>(
 ) -> Result<(), Refusal> {
     let first = lender.spawn(rt, Lodger { all: *all })?;
     let second = lender.spawn(rt, Lodger { all: *all })?;
-    let commits = commits_of(rt, first).saturating_add(commits_of(rt, second));
+    let (first, second) = (first.join(rt), second.join(rt));
     let out = lender.take_back();
+    let commits = first?.saturating_add(second?);
     writeln!(
         text,
         "two sessions in threads = {commits} commits, then {out} out"
@@ -145,10 +136,15 @@ fn drop_after_abort<V: Number>(
     let mut client = lender.client()?;
     let steps = "a write 99; abort 1";
     let undone = run_at_lent(&mut client, &Script { all, steps });
-    let aborted = matches!(undone, Err(Failure::Aborted(Ended::By(1))));
     let tally = client.tally();
-    drop(undone);
     drop(client);
+    let aborted = match undone {
+        Err(Failure::Aborted(Ended::By(number))) => number == 1,
+        ended => {
+            replied(ended)?;
+            false
+        }
+    };
     let out = lender.take_back();
     writeln!(
         text,
@@ -196,7 +192,7 @@ fn close<V: Number>(
     made: Made,
 ) -> Result<(), Refusal> {
     let script = Script { all, steps: COUNT };
-    let (word, number) = replied(&run_at_store(&mut store, "do", &script));
+    let (word, number) = replied(run_at_store(&mut store, "do", &script))?;
     let is_last = store.last_number() == number;
     let contents = store.close()?;
     let left = contents.word(all.own.words[0]);

@@ -60,7 +60,7 @@ impl<V: Value> Contents<V> {
         let held = self.all_held(map.store)?;
         let gates = map.gates;
         match gates.held_at(held, 0) {
-            Some(Held::Map(_)) => Some(MapEntries { held, gates }),
+            Some(Held::Map(_)) => Some(MapEntries::new(held, gates)),
             _ => None,
         }
     }
@@ -77,7 +77,7 @@ impl<V: Value> Contents<V> {
         let held = self.all_held(bag.store)?;
         let gates = bag.gates;
         match gates.held_at(held, 0) {
-            Some(Held::Bag(_)) => Some(BagCounts { held, gates }),
+            Some(Held::Bag(_)) => Some(BagCounts::new(held, gates)),
             _ => None,
         }
     }
@@ -123,7 +123,7 @@ impl<V: Value> Contents<V> {
         let held = self.all_held(lanes.store)?;
         let gates = lanes.gates;
         match gates.held_at(held, 0) {
-            Some(Held::Queue { .. }) => Some(LaneItems { held, gates }),
+            Some(Held::Queue { .. }) => Some(LaneItems::new(held, gates)),
             _ => None,
         }
     }

@@ -18,11 +18,19 @@ use std::collections::btree_map::Iter;
 #[derive(Drop)]
 #[derive_where(Clone, Copy)]
 pub struct MapEntries<'a, V> {
-    pub held: &'a [Held<V>],
-    pub gates: Gates,
+    held: &'a [Held<V>],
+    gates: Gates,
 }
 
 impl<'a, V: Value> MapEntries<'a, V> {
+    /// Returns what the collections of these gates hold, of all that a store held.
+    pub fn new(held: &'a [Held<V>], gates: Gates) -> Self
+        ensures held { result.held.now ≡ held.now }
+        ensures gates { result.gates ≡ gates }
+    {
+        MapEntries { held, gates }
+    }
+
     /// The value at a key.
     ///
     /// ```
@@ -147,11 +155,19 @@ impl<'a, V: Value> Iterator for MapIter<'a, V> {
 #[derive(Drop)]
 #[derive_where(Clone, Copy)]
 pub struct BagCounts<'a, V> {
-    pub held: &'a [Held<V>],
-    pub gates: Gates,
+    held: &'a [Held<V>],
+    gates: Gates,
 }
 
 impl<'a, V: Value> BagCounts<'a, V> {
+    /// Returns what the collections of these gates hold, of all that a store held.
+    pub fn new(held: &'a [Held<V>], gates: Gates) -> Self
+        ensures held { result.held.now ≡ held.now }
+        ensures gates { result.gates ≡ gates }
+    {
+        BagCounts { held, gates }
+    }
+
     /// How many copies of an element there are.
     ///
     /// ```
@@ -249,11 +265,19 @@ impl<'a, V: Value> Iterator for BagIter<'a, V> {
 #[derive(Drop)]
 #[derive_where(Clone, Copy)]
 pub struct LaneItems<'a, V> {
-    pub held: &'a [Held<V>],
-    pub gates: Gates,
+    held: &'a [Held<V>],
+    gates: Gates,
 }
 
 impl<'a, V: Value> LaneItems<'a, V> {
+    /// Returns what the collections of these gates hold, of all that a store held.
+    pub fn new(held: &'a [Held<V>], gates: Gates) -> Self
+        ensures held { result.held.now ≡ held.now }
+        ensures gates { result.gates ≡ gates }
+    {
+        LaneItems { held, gates }
+    }
+
     /// The items of one lane, counted from 0, the first one first.
     ///
     /// ```
