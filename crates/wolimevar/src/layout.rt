@@ -1,5 +1,5 @@
 //! What a store opens with.
-ghost use Rattle.std.specs.Prelude.{◌≡◌, IfOk, Some, map, slice_get};
+ghost use Rattle.std.specs.Prelude.{◌≡◌, ◌++◌, ◌∷◌, [], IfOk, OnErr, OnOk, Some, map, slice_get};
 ghost use Rattle.tx_handles.specs.Gates.{LieOver};
 ghost use Rattle.seq_model.specs.declared.held.Held.TheVariants as held;
 
@@ -77,7 +77,10 @@ impl<V: Value> Layout<V> {
 
     fn add(&mut self, stripes: u32, held: Held<V>) -> Result<u32, Refusal>
         ensures same { self.new.store ≡ self.old.store }
+        ensures words { self.new.words ≡ self.old.words }
         ensures holds { IfOk result (λ number. slice_get (map (λ c. c.held) self.new.collections.items) number ≡ Some held) }
+        ensures added { OnOk result (map (λ c. c.held) self.new.collections.items ≡ map (λ c. c.held) self.old.collections.items ++ held ∷ []) }
+        ensures none { OnErr result (self.new.collections.items ≡ self.old.collections.items) }
     {
         let Ok(number) = u32::try_from(self.collections.len()) else {
             return Err(Refusal::TooLong);
@@ -95,7 +98,10 @@ impl<V: Value> Layout<V> {
     pub fn word(&mut self, number: u64) -> Result<Word, Refusal>
         ensures same { self.new.store ≡ self.old.store }
         ensures store { IfOk result (λ handle. handle.store ≡ self.new.store) }
+        ensures collections { self.new.collections ≡ self.old.collections }
         ensures holds { IfOk result (λ handle. slice_get self.new.words.items handle.number ≡ Some number) }
+        ensures added { OnOk result (self.new.words.items ≡ self.old.words.items ++ number ∷ []) }
+        ensures none { OnErr result (self.new.words.items ≡ self.old.words.items) }
     {
         let Ok(next) = u32::try_from(self.words.len()) else {
             return Err(Refusal::TooLong);
@@ -118,8 +124,11 @@ impl<V: Value> Layout<V> {
     pub fn map(&mut self, stripes: u32, entries: Entries<V>) -> Result<Map<V>, Refusal>
         ensures same { self.new.store ≡ self.old.store }
         ensures store { IfOk result (λ handle. handle.store ≡ self.new.store) }
+        ensures words { self.new.words ≡ self.old.words }
         ensures holds { IfOk result (λ handle. slice_get (map (λ c. c.held) self.new.collections.items) handle.gates.first ≡ Some (held.Map entries)) }
         ensures lies { IfOk result (λ handle. LieOver held.Map handle.gates entries (map (λ c. c.held) self.new.collections.items)) }
+        ensures added { OnOk result (map (λ c. c.held) self.new.collections.items ≡ map (λ c. c.held) self.old.collections.items ++ held.Map entries ∷ []) }
+        ensures none { OnErr result (self.new.collections.items ≡ self.old.collections.items) }
     {
         let number = self.add(stripes, Held::Map(entries))?;
         Ok(map_at(self.store, Gates::one(number)))
@@ -136,8 +145,11 @@ impl<V: Value> Layout<V> {
     pub fn bag(&mut self, stripes: u32, counts: Counts) -> Result<Bag, Refusal>
         ensures same { self.new.store ≡ self.old.store }
         ensures store { IfOk result (λ handle. handle.store ≡ self.new.store) }
+        ensures words { self.new.words ≡ self.old.words }
         ensures holds { IfOk result (λ handle. slice_get (map (λ c. c.held) self.new.collections.items) handle.gates.first ≡ Some (held.Bag counts)) }
         ensures lies { IfOk result (λ handle. LieOver held.Bag handle.gates counts (map (λ c. c.held) self.new.collections.items)) }
+        ensures added { OnOk result (map (λ c. c.held) self.new.collections.items ≡ map (λ c. c.held) self.old.collections.items ++ held.Bag counts ∷ []) }
+        ensures none { OnErr result (self.new.collections.items ≡ self.old.collections.items) }
     {
         let number = self.add(stripes, Held::Bag(counts))?;
         Ok(Bag {
@@ -156,7 +168,10 @@ impl<V: Value> Layout<V> {
     pub fn priority_queue(&mut self, stripes: u32, counts: Counts) -> Result<PriorityQueue, Refusal>
         ensures same { self.new.store ≡ self.old.store }
         ensures store { IfOk result (λ handle. handle.store ≡ self.new.store) }
+        ensures words { self.new.words ≡ self.old.words }
         ensures holds { IfOk result (λ handle. slice_get (map (λ c. c.held) self.new.collections.items) handle.number ≡ Some (held.Pq counts)) }
+        ensures added { OnOk result (map (λ c. c.held) self.new.collections.items ≡ map (λ c. c.held) self.old.collections.items ++ held.Pq counts ∷ []) }
+        ensures none { OnErr result (self.new.collections.items ≡ self.old.collections.items) }
     {
         let number = self.add(stripes, Held::Pq(counts))?;
         Ok(PriorityQueue {
@@ -175,7 +190,10 @@ impl<V: Value> Layout<V> {
     pub fn queue(&mut self, stripes: u32, items: QueueItems) -> Result<Queue, Refusal>
         ensures same { self.new.store ≡ self.old.store }
         ensures store { IfOk result (λ handle. handle.store ≡ self.new.store) }
+        ensures words { self.new.words ≡ self.old.words }
         ensures holds { IfOk result (λ handle. slice_get (map (λ c. c.held) self.new.collections.items) handle.number ≡ Some (held.Queue 0 items)) }
+        ensures added { OnOk result (map (λ c. c.held) self.new.collections.items ≡ map (λ c. c.held) self.old.collections.items ++ held.Queue 0 items ∷ []) }
+        ensures none { OnErr result (self.new.collections.items ≡ self.old.collections.items) }
     {
         let number = self.add(stripes, Held::Queue { head: 0, items })?;
         Ok(Queue {

@@ -42,7 +42,9 @@ impl<V: Value> Layout<V> {
     ) -> Result<Map<V>, Refusal>
         ensures same { self.new.store ≡ self.old.store }
         ensures store { IfOk result (λ handle. handle.store ≡ self.new.store) }
+        ensures words { self.new.words ≡ self.old.words }
         ensures holds { IfOk result (λ handle. LieOver held.Map handle.gates entries (map (λ c. c.held) self.new.collections.items)) }
+        ensures rest { OnOk result ((more : _) × (map (λ c. c.held) self.new.collections.items ≡ map (λ c. c.held) self.old.collections.items ++ more)) }
         ensures none { OnErr result (self.new.collections.items ≡ self.old.collections.items) }
     {
         let gates = self.next_gates(gates)?;
@@ -60,7 +62,9 @@ impl<V: Value> Layout<V> {
     pub fn bag_over(&mut self, gates: u32, stripes: u32, counts: Counts) -> Result<Bag, Refusal>
         ensures same { self.new.store ≡ self.old.store }
         ensures store { IfOk result (λ handle. handle.store ≡ self.new.store) }
+        ensures words { self.new.words ≡ self.old.words }
         ensures holds { IfOk result (λ handle. LieOver held.Bag handle.gates counts (map (λ c. c.held) self.new.collections.items)) }
+        ensures rest { OnOk result ((more : _) × (map (λ c. c.held) self.new.collections.items ≡ map (λ c. c.held) self.old.collections.items ++ more)) }
         ensures none { OnErr result (self.new.collections.items ≡ self.old.collections.items) }
     {
         let gates = self.next_gates(gates)?;
@@ -82,7 +86,9 @@ impl<V: Value> Layout<V> {
     pub fn lanes(&mut self, lanes: u32, stripes: u32, items: QueueItems) -> Result<Lanes, Refusal>
         ensures same { self.new.store ≡ self.old.store }
         ensures store { IfOk result (λ handle. handle.store ≡ self.new.store) }
+        ensures words { self.new.words ≡ self.old.words }
         ensures holds { IfOk result (λ handle. AreLanes handle.gates (first_lane items) (map (λ c. c.held) self.new.collections.items)) }
+        ensures rest { OnOk result ((more : _) × (map (λ c. c.held) self.new.collections.items ≡ map (λ c. c.held) self.old.collections.items ++ more)) }
         ensures none { OnErr result (self.new.collections.items ≡ self.old.collections.items) }
     {
         let gates = self.next_gates(lanes)?;
@@ -117,6 +123,7 @@ impl<V: Value> Layout<V> {
     /// Adds collections that hold these.
     fn add_all(&mut self, stripes: u32, all: Vec<Held<V>>) -> Result<(), Memory>
         ensures same { self.new.store ≡ self.old.store }
+        ensures words { self.new.words ≡ self.old.words }
         ensures holds { OnOk result (map (λ c. c.held) self.new.collections.items ≡ map (λ c. c.held) self.old.collections.items ++ all.items) }
         ensures none { OnErr result (self.new.collections.items ≡ self.old.collections.items) }
     {
