@@ -13,7 +13,7 @@ HEAD = """# Calls
 
 For whoever writes a service and wants the exact form of a call. `scripts/list_calls.py` writes this page from the code. docs/using.md says how calls go together and what to do at a refusal, docs/promises.md what is proved of them.
 
-`V` is the type of a store's values, `alloc` the `Global` that `main` gets. A word after a type's name is what it implements: a type without `Copy` is handed over by value once, one with `Error` goes through `?` into whatever has a `From` of it.
+`V` is the type of a store's values, `alloc` the `Global` that `main` gets. After a type's name stands what it implements. A type without `Copy` can be used by value once. `From<X>` says what becomes of an `X` at `?`.
 """
 
 # The sections of the page with their types, and the file of each.
@@ -148,13 +148,13 @@ def section(name, files, everything):
     lines = []
     if name in SHOWS_FIELDS or name in ("Failure", "Refusal", "Op", "Reply"):
         parts = ", ".join(it.rstrip(",") for it in of[0].parts[made])
-        lines += [parts.replace("{, ", "{ ").replace(", }", " }")]
+        lines += [it.rstrip() for it in re.findall(r".{1,110}(?:, |$)", parts.replace("{, ", "{ ").replace(", }", " }"))]
     elif name in ("Body", "Session"):
         lines += of[0].parts[made]
     for file in files:
         for call, form, sentence in file.calls.get(made, []):
             if (name, call) not in LEFT_OUT:
-                lines.append(f"{form}" + (f"  // {sentence[0].lower() + sentence[1:]}" if sentence else ""))
+                lines += [f"// {sentence}", form] if sentence else [form]
     if name == "Value":
         of_values = [re.match(r"impl(?:<.*?>)? Value for (.+) \{", line) for line in of[0].lines]
         lines += ["// for " + ", ".join(it[1] for it in of_values if it)]
