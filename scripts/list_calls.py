@@ -148,7 +148,12 @@ def section(name, files, everything):
     lines = []
     if name in SHOWS_FIELDS or name in ("Failure", "Refusal", "Op", "Reply"):
         parts = ", ".join(it.rstrip(",") for it in of[0].parts[made])
-        lines += [it.rstrip() for it in re.findall(r".{1,110}(?:, |$)", parts.replace("{, ", "{ ").replace(", }", " }"))]
+        lines.append("")
+        for it in re.split(r", (?![^{]*\})", parts.replace("{, ", "{ ").replace(", }", " }")):
+            if lines[-1] and len(lines[-1]) + len(it) > 100:
+                lines[-1] += ","
+                lines.append("")
+            lines[-1] += f", {it}" if lines[-1] else it
     elif name in ("Body", "Session"):
         lines += of[0].parts[made]
     for file in files:
