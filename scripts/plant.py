@@ -18,7 +18,7 @@ import types
 
 def load_plant():
     """The kit's `rt-plant` as a module, which knows the crates by the class `rt.Crate`."""
-    command = shutil.which(os.environ.get("RT", "rt")) or sys.exit("rt is not to be found: see the README")
+    command = shutil.which(os.environ.get("RT", "rt")) or sys.exit("rt is not to be found: see CONTRIBUTING.md, Set up")
     file = f"{os.path.dirname(os.path.realpath(command))}/rt-plant"
     module = types.ModuleType("rt_plant")
     module.__file__ = file

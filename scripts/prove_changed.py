@@ -30,7 +30,7 @@ BYTES_FOR_ONE = 2_000_000_000
 
 def load_rt():
     """The command `rt` as a module: it knows what a crate stands on, and how it is proved."""
-    command = shutil.which(os.environ.get("RT", "rt")) or sys.exit("rt is not to be found: see the README")
+    command = shutil.which(os.environ.get("RT", "rt")) or sys.exit("rt is not to be found: see CONTRIBUTING.md, Set up")
     sys.dont_write_bytecode = True
     sys.path.insert(0, os.path.dirname(os.path.realpath(command)))
     loader = importlib.machinery.SourceFileLoader("rt", os.path.realpath(command))

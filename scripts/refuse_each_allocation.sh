@@ -7,7 +7,7 @@
 # second, and so on. Each run must print the file stdout with status 0, or nothing but the line `Memory`
 # with status 2. With --on it reads INPUT in place of stdin, by `step -`, or by `vacation -` where INPUT
 # ends in .sessions, and must print what stands beside INPUT in the file of its name that ends in .out;
-# one build serves all inputs. With --rows, for a program that goes on after a row that is out of memory, a
+# one build serves all inputs. With --rows, for a program that continues after a row that is out of memory, a
 # run may also end with status 0 and as many lines as are stored, of which the first that differs is a
 # refusal: later rows see that nothing was changed. With --sections it reads each section of stdin by itself,
 # which `----` closes, and must print the section of stdout in its place, which a line `# NAME` opens; with

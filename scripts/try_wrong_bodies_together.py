@@ -45,7 +45,7 @@ SECONDS_BETWEEN_LOOKS = 20
 
 def load_rt():
     """The command `rt` as a module: it knows what a crate stands on, and how a check of it is called."""
-    command = shutil.which(os.environ.get("RT", "rt")) or sys.exit("rt is not to be found: see the README")
+    command = shutil.which(os.environ.get("RT", "rt")) or sys.exit("rt is not to be found: see CONTRIBUTING.md, Set up")
     loader = importlib.machinery.SourceFileLoader("rt", os.path.realpath(command))
     module = importlib.util.module_from_spec(importlib.util.spec_from_loader("rt", loader))
     loader.exec_module(module)

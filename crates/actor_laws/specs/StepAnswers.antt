@@ -9,6 +9,6 @@ use Rattle.tx_machine.specs.Notices.{Notice, notice}
 abbrev pub everywhere : ℕ → World
 everywhere n = record (start n (λ l. n)) { locks = λ l. unbits n }
 
--- a step looks at one word, so it answers what it would where n stands in each
+-- a step touches one word, so it answers what it would where n stands in each
 abbrev pub tells : Actor → Place → ℕ → Notice
 tells x p n = notice (everywhere n) x p

@@ -6,8 +6,8 @@
 //! what an event leaves of its actor's state, and what it answers, depends on that state and on what it found alone; and the states of
 //! the others are unchanged. So what an actor knows is what it would know in a world where it is alone with what it found.
 //!
-//! A *phase* is where a transaction stands, as a client may know it: idle, beginning, open with these calls, with a call under way,
-//! committing, committed, or being aborted (`specs/KnownStages.antt`). [`phase_laws`] says of every step and every request which phase follows.
+//! A *known stage* is where a transaction stands, as a client may know it: idle, beginning, open with these calls, with a call under way,
+//! committing, committed, or being aborted (`specs/KnownStages.antt`). [`phase_laws`] says which one follows every step and every request.
 //! An actor that alone has done anything since its world opened, and that asks as a client does, is refused in three cases only: a
 //! transaction at the limit of the clock, a call of what isn't there, and calls on more locations than a set may have ([`alone_laws`]).
 //! What the bases of a world hold is within the limits of a state, so no state that is shown of it is TooLong ([`limit_laws`]).

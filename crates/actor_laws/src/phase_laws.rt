@@ -1,4 +1,5 @@
-//! The laws of phases. The functions compute nothing: their contracts are the laws.
+//! Where a transaction stands, as a client may know it: its *known stage* (`specs/KnownStages.antt`). The functions compute nothing: their
+//! contracts are the laws.
 ghost use Rattle.actor_laws.specs.Courses.{StepsComeTo};
 ghost use Rattle.actor_laws.specs.KnownStages.{AsksMove, StepsMove};
 

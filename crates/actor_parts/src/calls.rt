@@ -19,7 +19,7 @@ pub fn has_room(words: &Actor, first: u32, reads: &LocSet, writes: &LocSet) -> b
     words.declared || (fits(&words.reads, first, reads) && fits(&words.writes, first, writes))
 }
 
-/// As `has_room`, of a call that reads the first `count` locations of the collection.
+/// Like `has_room`, of a call that reads the first `count` locations of the collection.
 pub fn has_room_below(words: &Actor, first: u32, count: u32, writes: &LocSet) -> bool
     requires reads { first + count ≤ 2 ^ 32 }
     requires writes { All (λ location. first + location < 2 ^ 32) writes.now }

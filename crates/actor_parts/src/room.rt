@@ -24,7 +24,7 @@ fn takes_more<Role>(set: &AccessSet<Role>, more: usize) -> bool
     set.len().saturating_add(more) <= LOCATION_LIMIT
 }
 
-/// As [`has_room`](crate::calls::has_room): few locations are not looked up.
+/// Like [`has_room`](crate::calls::has_room): few locations are not looked up.
 pub(crate) fn has_room(words: &Actor, first: u32, reads: &LocSet, writes: &LocSet) -> bool
     requires reads { All (λ location. first + location < 2 ^ 32) reads.now }
     requires writes { All (λ location. first + location < 2 ^ 32) writes.now }
@@ -37,7 +37,7 @@ pub(crate) fn has_room(words: &Actor, first: u32, reads: &LocSet, writes: &LocSe
     }
 }
 
-/// As `has_room`, of a call that reads the first `count` locations of the collection.
+/// Like `has_room`, of a call that reads the first `count` locations of the collection.
 pub(crate) fn has_room_below(words: &Actor, first: u32, count: u32, writes: &LocSet) -> bool
     requires reads { first + count ≤ 2 ^ 32 }
     requires writes { All (λ location. first + location < 2 ^ 32) writes.now }

@@ -128,7 +128,7 @@ fn serve<R: Threads + Sync>(rt: &R, alloc: Global) -> Result<(Vec<u64>, usize, u
     }
     let mut layout = Layout::new(alloc);
     let bank = Bank {
-        accounts: layout.map_over(4, 4, accounts)?, // over four gates: tellers seldom wait for each other
+        accounts: layout.map_over(4, 4, accounts)?, // over four gates: tellers seldom meet at one
         audit: layout.queue(1, QueueItems::new(alloc))?,
         alerts: layout.priority_queue(1, Counts::new(alloc))?,
     };

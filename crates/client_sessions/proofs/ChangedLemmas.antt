@@ -46,7 +46,7 @@ set_once k id (Some i) (Some j) next reply e =
       | false ↦ λ h. after_none next
     ]) e
 
--- of a change whose first reply tells this of its item
+-- of a change whose first reply has this item, or none
 module _ (change : Change) (reply : Reply Entry) (o : Option Item) (n : ChangeReply × Option Item) (is : n ≡ changed change o)
     (told : (next : Option Item → SessionProgram) (left : List (Reply Entry)) → after (item_in reply next) left ≡ after (next o) left) where
   abbrev sets : (ChangeReply → SessionProgram) → Option Item → SessionProgram

@@ -154,7 +154,7 @@ same_customer : (one two : Customer) (xs ys : List (Reply Entry))
     → ◌≡◌ {A = List (Reply Entry)} (Value (Client one) ∷ xs) (Value (Client two) ∷ ys) → (one ≡ two) × (xs ≡ ys)
 same_customer one two xs ys e = (cc, cc)
 
--- what a deletion that was told its customer has noted
+-- what a deletion that has got its customer has noted
 module _ (who : Customer) (rest : List (Reply Entry)) (place : JobPlace) where
   abbrev told : List (Reply Entry)
   told = Value (Client who) ∷ rest
@@ -190,7 +190,7 @@ module _ (who : Customer) (rest : List (Reply Entry)) (place : JobPlace) where
         },
       )
 
--- a deletion that is told its customer
+-- a deletion that gets its customer
 pub customer_told : (c : ℕ) (who : Customer) (rest : List (Reply Entry)) → is_customer_within who ≡ true
     → after (delete c) (Value (Client who) ∷ rest) ≡ after (delete_found c (Some who)) rest
 customer_told c who rest within = ap (λ (b : Bool). after (cond b (delete_found c (Some who)) GivesUp) rest) within

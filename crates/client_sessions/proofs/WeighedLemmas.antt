@@ -38,7 +38,7 @@ use Rattle.client_sessions.proofs.WalkLemmas.{drop_next}
 abbrev pub named_by : ℕ → Option Item → Option (ℕ × Item)
 named_by id o = option_map (λ item. (id, item)) o
 
--- ---- items that are told are sound
+-- ---- items that are replied are sound
 sound_item : (i : Item) → is_item_sound i ≡ true → IsItemSound i
 sound_item i e =
     let a = and_parts (i.used + i.free == i.total) (nat_le i.total AMOUNT_LIMIT && nat_le i.price AMOUNT_LIMIT) e in

@@ -23,7 +23,7 @@ pub record ArePassed (who : Customer) (replies : List (Reply Entry)) (count : �
   pub leads : (next : SessionProgram) → after (give_all_back who.bookings next) (take (2 * count) replies)
       ≡ give_all_back (drop count who.bookings) next
 
--- a deletion was told its customer, and then the replies of so many bookings
+-- a deletion got its customer as a reply, and then the replies of so many bookings
 pub record HasGivenBack (told : List (Reply Entry)) (heard : ℕ) : Type 0 where
   pub who : Customer
   pub rest : List (Reply Entry)
@@ -55,7 +55,7 @@ pub record AreChanged (changes : List Change) (replies : List (Reply Entry)) (he
 abbrev pub AreNoted : List Change → List (Reply Entry) → JobPlace → Type 0
 AreNoted changes told place = AreChanged changes told place.heard (get_or place.marks 0 0)
 
--- Where a session has noted something, it is this of the replies that it has heard. A question has nothing to note.
+-- Where a session has noted something, it is this of the replies that it has got. A question has nothing to note.
 abbrev pub HasNoted : Action → List (Reply Entry) → JobPlace → Type 0
 HasNoted (Reserve c units asks) told place = AreWeighed asks told (weighed_in place)
 HasNoted (Delete c) told place = HasGivenBack told place.heard

@@ -10,7 +10,7 @@ use Rattle.client_sessions.specs.declared.walk.Stop.{Stop}
 use Rattle.client_sessions.specs.declared.walk.Stop.TheVariants.{Asks, GivesUp, Memory as OutOfMemory}
 use Rattle.client_sessions.specs.Sessions.{SessionProgram, with_booking, with_wait}
 
--- a walk stops at what is left of a program: this call is asked next, the program aborts, or a growth was refused
+-- a walk stops at what is left of a program: this call is asked next, the program aborts, or an allocation failed
 abbrev pub IsStop : Stop → SessionProgram → Type 0
 IsStop (Asks call) p = asked p ≡ ask.Call call
 IsStop GivesUp p = asked p ≡ ask.GiveUp

@@ -336,7 +336,7 @@ fn pass_pairs(who: &SplitCustomer, replies: &[Reply<Entry>], passed: &mut usize)
     true
 }
 
-/// What a deletion asks, once it was told its customer, and what it notes.
+/// What a deletion asks, once it has its customer, and what it notes.
 fn ask_found(
     alloc: Global,
     customer: u64,

@@ -15,7 +15,7 @@ pub fn sessions_are_actions()
 
 /// A run of records from the state of balanced tables, each of a whole session, is the actions of these sessions, one after another:
 /// the replies are theirs, and it leaves the state of the tables that they leave, balanced. What the records up to a number leave, where
-/// they are in commit order, is the state of balanced tables, too; so a session that saw such a state doesn't give up.
+/// they are in commit order, is the state of balanced tables, too; so a session that saw such a state doesn't abort.
 pub fn runs_are_actions()
     ensures runs { RunsAreActions }
     ensures numbers { EachNumberHoldsTables }

@@ -110,7 +110,7 @@ fn ask_reservation(
 impl Session {
     /// The session of this action.
     ///
-    /// `TooLong` where the action isn't allowed, and `Memory` where a growth was refused.
+    /// `TooLong` where the action isn't allowed, and `Memory` where an allocation failed.
     pub fn new(alloc: Global, action: &Action) -> Result<Session, Refusal>
         ensures ok { IfOk result (λ session. session ≡ action.now) }
         ensures refused { IfErr result (λ refusal. IsSessionRefusal refusal (¬ IsAllowed action.now)) }

@@ -288,7 +288,7 @@ fn tables_in(alloc: Global, words: &[u64], held: &[Held<Entry>]) -> Result<Table
 /// The tables that the state holds: those of which it is the [`state_of`]. No two tables have one state.
 ///
 /// `NoSuch` where it is no tables' state: not one word and eight collections, a collection of another kind, or an entry of another
-/// kind in a map. Else `Memory` where a growth was refused.
+/// kind in a map. Else `Memory` where an allocation failed.
 pub fn tables_of(alloc: Global, state: &State<Entry>) -> Result<Tables, Refusal>
     ensures held { IfOk result (λ tables. state.now ≡ holding.state_of tables) }
     ensures indexes { IfOk result (λ tables. HaveIndexes tables) }

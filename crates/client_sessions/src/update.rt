@@ -88,7 +88,7 @@ fn is_set(old: Option<Item>, new: Option<Item>) -> bool
     }
 }
 
-/// How many of the replies are to the calls of the change: none, where one of its calls has no reply yet, or it gives up.
+/// How many of the replies are to the calls of the change: none, where one of its calls has no reply yet, or it aborts.
 fn replies_to(change: Change, replies: &[Reply<Entry>]) -> usize
     requires { actions.IsAmountWithin change }
     ensures few { result ≤ length replies.now }

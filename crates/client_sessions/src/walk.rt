@@ -34,7 +34,7 @@ pub(crate) enum Stop {
     Asks(Call<Entry>),
     /// No balanced tables answer so.
     GivesUp,
-    /// A growth was refused.
+    /// An allocation failed.
     Memory,
 }
 
@@ -79,7 +79,7 @@ impl<'a> Model for Walk<'a> {
     ghost view = { λ a. replies_in a.left };
 }
 
-/// What a session asks where its walk came to this.
+/// What a session asks where this is the result of its walk.
 #[inline(always)]
 pub(crate) fn ask_of(came: Result<ActionReply, Stop>) -> Result<Ask<Entry>, Memory>
     ensures { (p : SessionProgram) → Comes p came (λ reply. Answers reply) → IfOk result (λ ask. ask ≡ asked p) }

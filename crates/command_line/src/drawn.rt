@@ -65,7 +65,7 @@ fn drawn_lists(alloc: Global, drawn: &Drawn) -> Result<Vec<Vec<Action>>, Memory>
 /// Draws tables and the sessions of each worker, much as Vacation of STAMP draws them (IISWC 2008), has the workers run them, and inspects
 /// the result. Meanwhile `progress` is called with how many have receipts.
 ///
-/// `Memory` where a growth was refused; nothing else is found.
+/// `Memory` where an allocation failed; nothing else is found.
 pub(crate) fn run_drawn<R: Threads + Wait + Clock + Sync, P: Progress + Sync>(
     rt: &R,
     alloc: Global,

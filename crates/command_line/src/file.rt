@@ -30,7 +30,7 @@ pub(crate) const TRIES: u64 = 1_000;
 /// the tables hold, and that the receipts were audited and the tables are balanced. The first session is the first worker's, the next one
 /// the next worker's, and so on in turn. Each has at most 1,000 attempts. Meanwhile `progress` is called with how many have receipts.
 ///
-/// `BadText` names the first line outside the grammar, counted from 1; `Memory` where a growth was refused; nothing else is found.
+/// `BadText` names the first line outside the grammar, counted from 1; `Memory` where an allocation failed; nothing else is found.
 pub(crate) fn output_of<R: Threads + Wait + Sync, P: Progress + Sync>(
     rt: &R,
     alloc: Global,

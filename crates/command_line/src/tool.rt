@@ -180,7 +180,7 @@ pub fn run_tool<H: Threads + Wait + Clock + Sync, R: Read, W: Write, E: Write>(
     run_tool_with(rt, alloc, words, reader, out, err, &NoProgress)
 }
 
-/// The same, and meanwhile progress is called with how many sessions have receipts.
+/// The same, and meanwhile progress is called with how many sessions have receipts, or how many runs an exploration has made.
 pub fn run_tool_with<
     H: Threads + Wait + Clock + Sync,
     R: Read,
@@ -244,7 +244,7 @@ fn print<W: Write, E: Write>(out: &mut W, err: &mut E, output: &Output) -> u8
     DONE
 }
 
-/// A wish for help or the version is no fault: its text goes to `out`.
+/// Asking for help or the version is no fault: the text goes to `out`.
 fn refuse_words<W: Write, E: Write>(out: &mut W, err: &mut E, error: Error) -> u8
     ensures status { result ≤ MEMORY }
     ensures done { result ≡ DONE → IsInformation error × (err.new ≡ err.old) }

@@ -27,7 +27,7 @@ pub enum Schedules {
 ///
 /// `BadText` names the first line that is outside the grammar of scripts, or else the first that is not to be explored: it is no request,
 /// one of a ninth actor, or one that has no answer where it stands. `TooLong` where the script's header is beyond a limit, and `Memory`
-/// where a growth was refused.
+/// where an allocation failed.
 pub fn explore<P: ExploreProgress>(
     alloc: Global,
     text: &[u8],

@@ -11,7 +11,7 @@ use text_formats::Script;
 
 /// The parts of the world that the script's header opens.
 ///
-/// `TooLong` where the header is beyond a limit, and `Memory` where a growth was refused.
+/// `TooLong` where the header is beyond a limit, and `Memory` where an allocation failed.
 pub(crate) fn open(alloc: Global, script: &Script) -> Result<Parts<u64>, Refusal>
     ensures world { IfOk result HasWorld }
     ensures refused { IfErr result (IsRefusedScript script.now) }

@@ -1,9 +1,9 @@
-//! How far an exploration has come, and who hears of it.
+//! How far an exploration has come, and who is notified.
 use client_sessions::NoProgress;
 use std::fmt;
 use std::time::Duration;
 
-/// Who hears how far an exploration has come. Nothing that is promised of it depends on it.
+/// Who is notified of how far an exploration has come. Nothing that is promised of it depends on it.
 pub trait ExploreProgress {
     /// So many runs were made, of at most so many: called after each of them.
     fn tried(&self, count: u64, most: u64);

@@ -1,7 +1,8 @@
 //! The program: runs step scripts, session files and drawn sessions.
 //!
 //! The work is done over any reader and writers: `main` hands the opened file to `run_file`, or standard input to `run_tool_with`, with the
-//! standard streams. Where standard error is a terminal it also says how far sessions have come, in one line, which is gone at the end.
+//! standard streams. Where standard error is a terminal it also says how far sessions, or the runs of an exploration, have come, in one
+//! line, which is gone at the end.
 #![tactic(auto)]
 
 use command_line::{

@@ -567,7 +567,7 @@ module _ {V : Type 0} (P : Refusal → Type 0) (a : ℕ) where
       subst (λ (s : Boosted (Shown V) (CallWithOutcome V)). AloneIn s a) (sym r.reached.is)
       (all_alone w.words w.blocks r.reached.actions w.boosted k.base.stripes k.base.inv (subst (λ i. AllOf i r.reached.actions) m r.own) h)
 
-  -- what others ask or want leaves it
+  -- what others ask leaves it, and so does a failed allocation of theirs
   other_alone : (s t : Boosted (Shown V) (CallWithOutcome V)) (b : ℕ) → (a ≡ b → ⊥) → Still b s t → t.words.actors a ≡ s.words.actors a
       → AloneIn s a → AloneIn t a
   other_alone s t b ne g same h = record {

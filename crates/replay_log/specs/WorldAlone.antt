@@ -35,7 +35,7 @@ module _ {V : Type 0} where
   TellsConflict (Refused a cause) = IsConflict cause
   TellsConflict n = ⊥
 
-  -- a wants no memory
+  -- no allocation of a fails
   abbrev pub IsUnstarved : ℕ → List (Event V) → Type 0
   IsUnstarved a [] = Unit {0}
   IsUnstarved a (Starve b ∷ es) = (b ≢ a) × IsUnstarved a es

@@ -1,5 +1,8 @@
 //! What programs of rows have in common: the numbers, calls and refusals that a row spells, its scripts, what a script's header opens,
 //! and how replies and contents are printed.
+//!
+//! Tests are rows of text, each printed with its answer, in three crates: `collection_tests`, `script_tests` and `table_tests`. What they
+//! have in common is read and printed here, so in one way.
 #![tactic(auto)]
 
 mod contents;

@@ -10,7 +10,7 @@ use Rattle.std.proofs.lemmas.Cmp.{then_total, on_total, nat_cmp_total}
 use Rattle.std.proofs.lemmas.List.Sorted.{sorted_far, ranks_by}
 use Rattle.seq_model.specs.Ranks.{Rank, is_before, put_rank, sort_ranks, NoneIsBefore, AreRanked}
 
--- ---- the order of turns
+-- ---- the order of ranks
 ranked : IsStrictWeakOrder is_before
 ranked = ranks_by (then_total (then_total (on_total (λ (t : Rank). t.0) nat_cmp_total) (on_total (λ (t : Rank). t.1) bool_cmp_total))
     (on_total (λ (t : Rank). t.2) nat_cmp_total)) (λ t. t)
@@ -111,7 +111,7 @@ pub in_turn_sorted : (ts : List Rank) → AreRanked (sort_ranks ts)
 in_turn_sorted [] = tt
 in_turn_sorted (t ∷ ts) = in_turn_put t (sort_ranks ts) (in_turn_sorted ts)
 
--- ---- a list in turn is the only one with its turns
+-- ---- a ranked list is the only one with its ranks
 found : (x w : Rank) (ts : List Rank) (v : Rank) (vs : List Rank) → NoneIsBefore w ts → filter (same x) ts ≡ v ∷ vs → is_before x w ≡ false
 found x w [] v vs h e = cc
 found x w (t ∷ ts) v vs h e =

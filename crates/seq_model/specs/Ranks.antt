@@ -1,4 +1,4 @@
--- The turns of records in a run: what an audit sorts by.
+-- The ranks of records in a run: what an audit sorts by.
 use Rattle.std.specs.Prelude.{◌≡◌, ℕ, ◌+◌, ◌==◌, Bool, false, not, ◌&&◌, List, [], ◌∷◌, ⊤, if◌then◌else◌}
 use Rattle.std.specs.Ordering.{nat_cmp, bool_cmp, ordering_then, is_lt}
 use Rattle.seq_model.specs.declared.record.Record.{Record}
@@ -10,7 +10,7 @@ Rank = ℕ × Bool × ℕ
 abbrev pub rank_of : {V : Type 0} → ℕ × Record V → Rank
 rank_of e = (e.1.number, not e.1.writes, e.0)
 
--- the turns of records whose places begin with this one
+-- the ranks of records whose places begin with this one
 abbrev pub ranks_from : {V : Type 0} → ℕ → List (Record V) → List Rank
 ranks_from place [] = []
 ranks_from {V} place (r ∷ rs) = rank_of {V = V} (place, r) ∷ ranks_from (place + 1) rs
@@ -27,7 +27,7 @@ abbrev pub sort_ranks : List Rank → List Rank
 sort_ranks [] = []
 sort_ranks (t ∷ ts) = put_rank t (sort_ranks ts)
 
--- none of these turns is before t
+-- none of these ranks is before t
 abbrev pub NoneIsBefore : Rank → List Rank → Type 0
 NoneIsBefore t [] = ⊤
 NoneIsBefore t (u ∷ us) = (is_before u t ≡ false) × NoneIsBefore t us

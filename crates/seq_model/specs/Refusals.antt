@@ -2,14 +2,14 @@
 use Rattle.seq_model.specs.declared.refusal.Refusal.{Refusal}
 use Rattle.seq_model.specs.declared.refusal.Refusal.TheVariants.{Moved, Busy, Stale, GateBusy, Invalid, NoSuch, TooLong, Memory as OutOfMemory}
 
--- it is TooLong exactly where what was asked does not fit, and else a growth was refused
+-- it is TooLong exactly where what was asked does not fit, and else an allocation failed
 abbrev pub IsTooLong : Refusal → Type 0 → Type 0
 IsTooLong TooLong fits = ¬ fits
 IsTooLong OutOfMemory fits = fits
 IsTooLong _ fits = ⊥
 
--- it is NoSuch exactly where what was asked is of another kind, else TooLong exactly where it does not fit, and else a growth was
--- refused
+-- it is NoSuch exactly where what was asked is of another kind, else TooLong exactly where it does not fit, and else an
+-- allocation failed
 abbrev pub IsNoSuchOrTooLong : Refusal → Type 0 → Type 0 → Type 0
 IsNoSuchOrTooLong NoSuch other fits = other
 IsNoSuchOrTooLong TooLong other fits = (¬ other) × (¬ fits)

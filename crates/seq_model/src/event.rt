@@ -55,7 +55,7 @@ pub enum Notice<V> {
 }
 
 impl<V: Value> Request<V> {
-    /// An equal event. `Memory` where an allocation for its value fails.
+    /// An equal request. `Memory` where an allocation for its value fails.
     pub fn try_copy(&self) -> Result<Request<V>, Memory>
         ensures { IfOk result (λ copy. copy ≡ self.now) }
     {
@@ -70,7 +70,7 @@ impl<V: Value> Request<V> {
 }
 
 impl<V: Value> Event<V> {
-    /// An equal request. `Memory` where an allocation for its value fails.
+    /// An equal event. `Memory` where an allocation for its value fails.
     pub fn try_copy(&self) -> Result<Event<V>, Memory>
         ensures { IfOk result (λ copy. copy ≡ self.now) }
     {

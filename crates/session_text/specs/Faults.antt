@@ -12,7 +12,7 @@ abbrev pub audit_fault : AuditFault → RunFault
 audit_fault audit.Memory = Refused OutOfMemory
 audit_fault fault = Audit
 
--- A line is outside the grammar, or a growth was refused; nothing else.
+-- A line is outside the grammar, or an allocation failed; nothing else.
 abbrev pub IsFault : List ℕ → RunFault → Type 0
 IsFault text (Refused refusal) = IsUnreadable text refusal
 IsFault text fault = ⊥

@@ -1,4 +1,4 @@
--- What the lines of a script make happen in its world, and what is heard of it.
+-- What the lines of a script make happen in its world, and what is answered.
 use Rattle.std.specs.Prelude.{◌≡◌, ◌⊎◌, ℕ, zero, suc, Bool, true, false, List, [], ◌∷◌, ◌++◌, length, get_or, set, replicate, flat_map, ⊤}
 use Rattle.seq_model.specs.declared.event.Event.{Event}
 use Rattle.seq_model.specs.declared.event.Event.TheVariants as event
@@ -17,7 +17,7 @@ use Rattle.step_world.specs.Traces.{IsTraceOf}
 use Rattle.session_text.specs.Scripts.{world_in}
 use Rattle.session_text.specs.Worlds.{Leads, told_by}
 
--- ---- what is heard
+-- ---- what is answered
 abbrev pub tells_nothing : Notice ℕ → Bool
 tells_nothing Quiet = true
 tells_nothing notice = false
@@ -126,8 +126,8 @@ ArePlays waiting (line ∷ lines) es told =
 
 -- ---- in a world
 
--- events of a kind have led from parts of a world to others, what was heard of them was added to what was heard before, and so were they,
--- where they are kept
+-- events of a kind have led from parts of a world to others, what they answered was added to the answers before, and they to the events
+-- before, where these are kept
 pub record HasPlayed (IsKind : List (Event ℕ) → List (Notice ℕ) → Type 0) (c : Parts ℕ) (before : Transcript) (d : Parts ℕ)
     (after : Transcript) : Type 0 where
   pub events : List (Event ℕ)
@@ -146,7 +146,7 @@ Keeps IsKind before after es told = IsKind es told × (after ≡ waiting_after b
 abbrev pub IsOne : Event ℕ → Bool → List (Event ℕ) → List (Notice ℕ) → Type 0
 IsOne e quiet es told = (notice : Notice ℕ) × ((es ≡ e ∷ []) × ((told ≡ notice ∷ []) × (quiet ≡ tells_nothing notice)))
 
--- a run is the result of these events in the world that the script opens, and they are those of its lines: all that was heard, and the trace
+-- a run is the result of these events in the world that the script opens, and they are those of its lines: all answers, and the trace
 pub record IsRunBy (script : Script) (es : List (Event ℕ)) (made : ScriptRun) : Type 0 where
   pub plays : ArePlays nobody script.lines es (told_by (world_in script made.opening) es)
   pub notices : made.notices ≡ heard (told_by (world_in script made.opening) es)

@@ -24,7 +24,7 @@ pub record IsOpeningOf (script : Script) (opening : Contents ℕ) : Type 0 where
 abbrev pub world_in : Script → Contents ℕ → World ℕ
 world_in script opening = world_of (stripes_of script) script.clock opening
 
--- its collections are refused: one is beyond its limits, or a growth was refused
+-- its collections are refused: one is beyond its limits, or an allocation failed
 abbrev pub HasRefusedCollections : Script → Refusal → Type 0
 HasRefusedCollections script TooLong = ¬ All IsWithinLimits (opening_of script).held
 HasRefusedCollections script OutOfMemory = ⊤

@@ -12,7 +12,7 @@ use std::fmt;
 /// Why a text has no output: it is refused, or the audit of its run or of its tables finds a fault. A step script ends by the same causes.
 #[derive(Drop, Debug)]
 pub enum RunFault {
-    /// The text is outside the grammar, or a growth was refused. A step script may also be beyond a limit.
+    /// The text is outside the grammar, or an allocation failed. A step script may also be beyond a limit.
     Refused(Refusal),
     /// What was committed is no run from the opening to what is left.
     Audit,

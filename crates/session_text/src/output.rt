@@ -13,7 +13,7 @@ use text_formats::parse_sessions;
 /// What the sessions of a file print: a line for each session, then what the tables hold, and that the receipts were audited and the
 /// tables are balanced. Meanwhile `progress` is called with how many have receipts.
 ///
-/// `BadText` names the first line outside the grammar, counted from 1; `Memory` where a growth was refused.
+/// `BadText` names the first line outside the grammar, counted from 1; `Memory` where an allocation failed.
 pub fn output_of<P: Progress>(alloc: Global, text: &[u8], progress: &P) -> Result<Vec<u8>, RunFault>
     ensures output { IfOk result (λ bytes. IsOutput text.now bytes.items) }
     ensures refused { IfErr result (IsFault text.now) }

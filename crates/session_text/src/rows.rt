@@ -23,7 +23,7 @@ pub(crate) struct Row {
 
 /// The rows of the first 1,000 of these events, in a world of this shape that opens on this state, as it has opened before.
 ///
-/// `Memory` where a growth was refused.
+/// `Memory` where an allocation failed.
 pub(crate) fn rows_of(
     alloc: Global,
     shape: &Shape,

@@ -38,8 +38,8 @@ impl Drop for ScriptRun {
 
 /// Opens the script's world, and feeds it the script's events.
 ///
-/// `TooLong` where a collection of the header is beyond a limit, else as `World::open`, and `Memory` where a growth was
-/// refused.
+/// `TooLong` where a collection of the header is beyond a limit, else as `World::open`, and `Memory` where an allocation
+/// failed.
 pub fn run_script(alloc: Global, script: &Script) -> Result<ScriptRun, Refusal>
     ensures opening { IfOk result (λ run. IsOpeningOf script.now run.opening) }
     ensures serial { IfOk result (λ run. IsSerialTrace run.opening run.trace) }
@@ -110,7 +110,7 @@ fn run_from(
 
 /// The state that the script's header lays out.
 ///
-/// `TooLong` where a collection is beyond a limit, and `Memory` where a growth was refused.
+/// `TooLong` where a collection is beyond a limit, and `Memory` where an allocation failed.
 pub fn opening_of(alloc: Global, script: &Script) -> Result<State<u64>, Refusal>
     ensures opening { IfOk result (IsOpeningOf script.now) }
     ensures within { IsOk result → All IsWithinLimits (opens.opening_of script.now).held }
@@ -152,7 +152,7 @@ fn open(alloc: Global, script: &Script, opening: &State<u64>) -> Result<World<u6
     World::open(alloc, &shape, state)
 }
 
-/// What was heard of a world.
+/// What a world answered, and what it was fed.
 #[derive(Drop)]
 struct Transcript {
     /// The notices other than `Quiet`.

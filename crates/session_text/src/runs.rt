@@ -19,7 +19,7 @@ use vacation_core::run_in_order_with;
 /// Runs the sessions of these actions, one after another, on a world that opens on these tables, and inspects their result.
 /// After each of them `progress` is called with how many there were.
 ///
-/// Refused as `Memory` where a growth was refused, and for nothing else: the inspection finds nothing.
+/// Refused as `Memory` where an allocation failed, and for nothing else: the inspection finds nothing.
 pub fn run_sessions<P: Progress>(
     alloc: Global,
     tables: Tables,

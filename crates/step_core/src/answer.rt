@@ -76,7 +76,7 @@ pub enum WordRefusal {
     /// There is no request to take a step of, or the phase lacks what was asked.
     #[error("NoTransaction")]
     NoTransaction,
-    /// A growth was refused.
+    /// An allocation failed.
     #[error("Memory")]
     Memory,
 }

@@ -23,7 +23,7 @@ use std::marker::Model;
 
 /// A world of transactions over words and collections.
 ///
-/// Contracts see its parts, and whether a growth was refused to an event (`failed`): then every later call answers `Memory`.
+/// Contracts see its parts, and whether an allocation failed in an event (`failed`): then every later call answers `Memory`.
 pub struct World<V> {
     parts: Parts<V>,
     failed: bool,
@@ -92,7 +92,7 @@ impl<V: Value> World<V> {
 
     /// One event, and its notice.
     ///
-    /// `Memory` where a growth was refused, and to each later event. A step of a half-done commit takes no memory, nor does an event by
+    /// `Memory` where an allocation failed, and for each later event. A step of a half-done commit takes no memory, nor does an event by
     /// which an allocation fails in a request.
     pub fn feed(&mut self, event: Event<V>) -> Result<Notice<V>, Memory>
         ensures ok { IfOk result (Feeds self.old.parts event self.new.parts) }
@@ -150,7 +150,7 @@ impl<V: Value> World<V> {
 
 /// Opens a world, feeds it the events in their order, and answers their result.
 ///
-/// Refused as `World::open`, and `Memory` where a growth was refused.
+/// Refused as `World::open`, and `Memory` where an allocation failed.
 pub fn run_world<V: Value>(
     alloc: Global,
     shape: &Shape,

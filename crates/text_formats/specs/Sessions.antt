@@ -60,7 +60,7 @@ IsSessionText text tables actions =
 abbrev pub IsBadLine : List ℕ → ℕ → Type 0
 IsBadLine text n = IsBad IsNext nothing (pieces text) n
 
--- why a text is not read: a line is outside the grammar, or a growth was refused
+-- why a text is not read: a line is outside the grammar, or an allocation failed
 abbrev pub IsUnreadable : List ℕ → Refusal → Type 0
 IsUnreadable text (BadText line) = IsBadLine text line
 IsUnreadable text OutOfMemory = ⊤

@@ -108,7 +108,7 @@ module _ {V : Type 0} where
   waiting_at None u = u
   waiting_at (Some w) u = waiting u w.call w.left w.location
 
-  -- and then nothing is told
+  -- and then nothing is answered
   abbrev pub told_at : Option (WaitingCall V) → ActorNotice V → ActorNotice V
   told_at None t = t
   told_at (Some w) t = told.Quiet

@@ -1,8 +1,9 @@
-//! One running actor of a world of words and collections.
+//! One running actor of a world of words and collections, apart from the table that it runs on.
 //!
-//! What an actor keeps stands here, and what each of its steps makes of it, given what the step found: no word, gate or base is inside it.
-//! The laws of [`turn_laws`] say that what its methods make of it is what the definitions' event makes of a world that events have reached,
-//! and that it has of collections what its next stage asks. The tables on which actors run, of one thread and shared, both stand on them.
+//! Actors run on the table of a world on one thread (`step_world`), and on one that threads share (`tx_turns`). What an actor does is
+//! written and proved here, once for both: what it keeps, and what a request or a step makes of it, given what the step found. No word,
+//! gate or base is inside it. The contracts say that what a method makes of an actor is what the definitions make of it in every world that
+//! shows it (`Runs` of `specs/Running.antt`); [`laws`] and [`turn_laws`], that it then has of collections what its next stage asks.
 #![tactic(auto)]
 
 mod actor;

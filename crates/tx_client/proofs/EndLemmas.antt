@@ -116,7 +116,7 @@ module _ {V : Type 0} where
       ends.1,
     )
 
-    -- what an attempt came to, by its cases
+    -- the result of an attempt, by its cases
     pub gained : (s u : Seat V) (r : Result (A × Record V) (Failure E)) → EndsAs makes aborts s u r
         → IfOk r (λ done. HasGained s u done.1 × makes done.0 done.1.calls)
     unfolding EndsAs

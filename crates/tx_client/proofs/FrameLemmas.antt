@@ -42,7 +42,7 @@ module _ {V : Type 0} where
   call_asks d t s u call r (inl rests) has = asks_none d _ _ (ap (λ (v : TxSeat V). requests_of v.seat) (has.none rests).1)
   call_asks d t s u call r (inr at) has = asks_for d s.seat u.seat (request.Call call) r tt (has.asks at)
 
-  -- and a declared reader stays one
+  -- and a declared reader remains one
   call_reader : (t : TxTable V) (s u : TxSeat V) (call : Call V) (r : Result (Reply V) Refusal)
       → (standing (opening_of t) s.seat ≡ Rests) ⊎ IsOpen (opening_of t) s.seat → HasCalled t s u call r
       → is_declared (opening_of t) s.seat ≡ true → is_declared (opening_of t) u.seat ≡ true

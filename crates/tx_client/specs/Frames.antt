@@ -41,7 +41,7 @@ module _ {V : Type 0} where
   abbrev pub transaction_at : ℕ → World V → Seat V → TransactionShown V
   transaction_at store o s = record { store = store; calls = calls_made o s }
 
-  -- by calls alone, none of which has gained a receipt; a declared reader stays one
+  -- by calls alone, none of which has gained a receipt; a declared reader remains one
   pub record HasMadeCalls (o : World V) (m s : Seat V) : Type 0 where
     pub keeps : KeepsReceipts m s
     pub asks : (declared : Bool) → HasAsked declared (requests_of m) (requests_of s)

@@ -18,7 +18,8 @@ use tx_table::TxTable;
 /// - `NoSuch`, by a handle of a store with another number, of another kind, or beyond the layout, and for a change in a `look`; `TooLong`,
 ///   beyond 4,096 calls, or more locations than a transaction may read or write. The transaction is unchanged, and may continue.
 /// - `Moved`, `Stale` or `GateBusy`: another transaction stood in the way. `Memory`: an allocation failed. The transaction has ended and
-///   has changed nothing; each later call is refused, and the body's caller gets this refusal.
+///   has changed nothing. Each later call is refused as `NoTransaction`, or by a handle of a store with another number as `NoSuch`. The
+///   body's caller gets the refusal that ended the transaction.
 ///
 /// Contracts see the number of its store, and the calls that it has made, each with its reply; once a call has ended the transaction, there
 /// are none.

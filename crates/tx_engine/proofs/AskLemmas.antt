@@ -1,4 +1,4 @@
--- What the actor of a seat was asked, by a begin, and where memory may have been wanting.
+-- What the actor of a seat was asked, by a begin, and where an allocation may have failed.
 --
 -- These do not unfold by themselves: a search that meets them would go through both cases.
 use Rattle.std.proofs.Common.{◌≡◌, Bool, List, [], ◌∷◌, ◌++◌, Result, Err, inl, inr, ap, ◌∙◌}

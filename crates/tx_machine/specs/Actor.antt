@@ -9,7 +9,7 @@ pub data Call : Type 0 where
   Read : (location reply : ℕ) → Call
   Write : (location value : ℕ) → Call
 
--- Where an actor stands. Each place but the resting ones is the next atomic step.
+-- Where an actor stands. Each place but the idle ones is the next atomic step.
 pub data Place : Type 0 where
   Idle : Place  -- idle
   Begin : Place  -- load the clock

@@ -174,7 +174,7 @@ moved_ended :
 unfolding lookup put with_entry locations comes_before insert
 moved_ended = refl
 
--- One that changes between the two looks: it is locked at the second, or has another version.
+-- One that changes between the two loads of its lock word: it is locked at the second, or has another version.
 between_locked : told (run (begins 1 ++ asks 1 (AskRead 0) 1 ++ held_by_two) opened) (steps 1 3) ≡ Quiet ∷ Moved 0 1 ∷ NoTransaction ∷ []
 unfolding lookup put with_entry locations comes_before insert
 between_locked = refl
@@ -193,7 +193,7 @@ unfolding lookup put with_entry locations comes_before insert
 between_changed_left = refl
 
 -- ---- locks
--- A lock is busy where it is taken at its load; the others that were taken go back with their old versions, rising.
+-- A lock is busy where it is taken at its load; the others that were taken are released with their old versions, rising.
 abbrev old_versions : List Event
 old_versions = puts 3 0 4 ++ puts 3 1 5
 
@@ -349,7 +349,7 @@ declared_actor :
 unfolding lookup put with_entry locations comes_before insert
 declared_actor = refl
 
--- Once another commit has written it, the read is moved: at the first look,
+-- Once another commit has written it, the read is moved: at the first load,
 declared_moved : told (run (declared ++ puts 2 0 9) opened) (asks 1 (AskRead 0) 2 ++ asks 1 AskAbort 1) ≡ Quiet ∷ Moved 0 2
     ∷ NoTransaction ∷ Quiet ∷ Closed ∷ []
 unfolding lookup put with_entry locations comes_before insert

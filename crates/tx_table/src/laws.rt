@@ -108,8 +108,8 @@ pub fn gate_steps<V>()
         (λ _ t. Told o id asks m.0.clock m 1 None t.0 × (t.1 ≡ others)) }
 {}
 
-/// A table that shows the opening meets the rule. A seat that is cut in two, two that become one, and one that looks at the clock leave
-/// the world that the table shows.
+/// A table that shows the opening meets the rule. A seat that is cut in two, two that become one, and one that loads the clock for no
+/// transaction leave the world that the table shows.
 pub fn shares<V>()
     ensures opened { (o : World V) (words : List ℕ) (homes : List (Home (Slot V))) → IsOpening o → o.boosted.words.clock ≤ clock_limit →
         o.records ≡ [] → Table o.words o.blocks o words homes → Rule o (record { words = words; homes = homes; views = first_view ∷ [] }) }

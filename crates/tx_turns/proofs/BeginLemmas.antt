@@ -1,7 +1,7 @@
 -- The load of the clock by which a transaction begins, in straight code.
 --
--- A begin is this one step. It is next where the word actor stands at its begin (`begin_due`), and the actor hears of it whatever it
--- found: so what the actor makes of the clock is the turn, and its answer is the request's (`begin_heard`).
+-- A begin is this one step. It is next where the word actor stands at its begin (`begin_due`), and whatever it found is handed to the
+-- actor: so what the actor makes of the clock is the turn, and its answer is the request's (`begin_heard`).
 use Rattle.std.proofs.Common.{◌≡◌, ℕ, ◌≤◌, List, Option, None, Result, refl, sym, ap, ◌∙◌, subst}
 use Rattle.tx_machine.specs.Actor as machine
 use Rattle.tx_machine.specs.Actor.{begun}

@@ -1,8 +1,8 @@
 -- The checks of what a commit has read, in straight code.
 --
 -- A check is one load, which changes of the actor nothing but the index at which it stands. So a check that passes leads from `Check i` to
--- `Check (i + 1)` (`check_led`), and that the actor stands there is all of the loop's invariant. Of the last check, and of one that fails,
--- the actor hears: such a step is as any other of a commit that is locking (`locking_heard` of `LockLemmas`).
+-- `Check (i + 1)` (`check_led`), and that the actor stands there is all of the loop's invariant. What the last check found, or
+-- one that fails, is handed to the actor: such a step is like any other of a commit that is locking (`locking_heard` of `LockLemmas`).
 use Rattle.std.proofs.Common.{◌≡◌, ℕ, ◌+◌, ◌<◌, true, List, Option, Some, None, Result, Ok, length, drop, get_or, refl, sym, ap, ◌∙◌, le-leb, arith}
 use Rattle.std.proofs.lemmas.Bool.{cond-true}
 use Rattle.std.specs.Prelude.{nat_le}

@@ -2,8 +2,8 @@
 --
 -- A lock takes two steps: the load of its word, which changes of the actor nothing but its place (`seek_led`), and the exchange, after
 -- which it holds one lock more (`take_led`). So from one lock to the next all of the actor is as it was but for the locks that it holds.
--- It hears of a word that is locked, of one that has changed since its load (`take_lost`), and, after the last lock, of the number
--- (`stamp_heard`).
+-- Handed to the actor are a word that is locked (`locking_heard`), one that has changed since its load (`take_lost`), and, after the last
+-- lock, the number (`stamp_heard`).
 use Rattle.std.proofs.Common.{◌≡◌, ℕ, ◌+◌, ◌*◌, ◌<◌, ◌≤◌, ◌^◌, ◌++◌, true, false, true≢false, List, [], ◌∷◌, Option, None, Result, Ok, Err, length, drop, get_or, refl, sym, ap, ◌∙◌, subst, arith}
 use Rattle.std.specs.VecDeque.{deque_capacity, deque_len}
 use Rattle.std.specs.declared.alloc.Global.{Global}
@@ -74,7 +74,7 @@ module _ {V : Type 0} where
   room_locking p (stage.Locking homes) e = tt
   room_locking p s e = absurd (true≢false (sym e))
 
-  -- any step of it of which the actor hears
+  -- any step of it that is handed to the actor
   pub locking_heard : AreSteps V → WordsKeep V → (t : TxTable V) (s u : Seat V) (r q : TxActor V) (y : Actor)
       (m : Result (Option WordAnswer) WordRefusal) (n : ActorNotice V) (bs : List (Base V)) → is_locking r.stage ≡ true → AreSmall (blocks_in t)
       → Ties t s r → HasOwn t s r bs → StepsWords (opening_of t) s r.words u y m → ((j : ℕ) → Fits j r.words → Fits j y)

@@ -1,8 +1,8 @@
 -- The value stores of a commit after its first, in straight code.
 --
 -- A store changes of the actor nothing but the index at which it stands, whatever it found. So a store after which others are left leads
--- from `Store i` to `Store (i + 1)` (`store_led`), and that the actor stands there is all of the loop's invariant. It hears of the last
--- one (`store_heard`).
+-- from `Store i` to `Store (i + 1)` (`store_led`), and that the actor stands there is all of the loop's invariant. The last one is
+-- handed to the actor (`store_heard`).
 use Rattle.std.proofs.Common.{◌≡◌, ℕ, ◌+◌, ◌<◌, true, false, true≢false, List, Option, None, Result, Ok, length, drop, get_or, refl, sym, ap, ◌∙◌, subst, arith}
 use Rattle.std.specs.List.{All}
 use Rattle.tx_sets.specs.Entries.{IsRising, locations}
@@ -134,7 +134,7 @@ module _ {V : Type 0} where
       (running_moved (laid_in t) (at_place r (Store i)) y (store_fits r.words i (i + 1)) quiet ties.running)
       (copies_same (at_place r (Store i)) (at_place r (Store i)) quiet refl)
 
-  -- and the last, of which the actor hears
+  -- and the last, which is handed to the actor
   pub store_heard : AreSteps V → WordsKeep V → (t : TxTable V) (s u : Seat V) (r q : TxActor V) (y : Actor) (a : Option WordAnswer)
       (n : ActorNotice V) (i : ℕ) (e : ℕ × ℕ) (bs : List (Base V)) → is_storing r.stage ≡ true → i < length r.words.writes.entries
       → e ≡ get_or r.words.writes.entries i e → AreSmall (blocks_in t) → Ties t s (at_place r (Store i))

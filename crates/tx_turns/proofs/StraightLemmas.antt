@@ -2,7 +2,7 @@
 --
 -- What a step on the words makes of an actor is a term, of which the next step asks only that it is next in the world with the seat alone:
 -- so no value has to hold it. Each step is one lemma here, by what it found; it leads on from those before it (`led_on`), and the last one,
--- of which the actor hears, is as any turn on the words (`led_last`).
+-- which is handed to the actor, is like any turn on the words (`led_last`).
 use Rattle.std.proofs.Common.{◌≡◌, ℕ, ◌<◌, ◌≤◌, true, false, true≢false, Bool, cond, eqb, List, Option, Some, None, Result, Ok, Err, OnOk, IfErr, inl, inr, refl, sym, ap, ◌∙◌, subst, arith}
 use Rattle.std.specs.Prelude.{nat_le, if◌then◌else◌}
 use Rattle.std.proofs.lemmas.Bool.{cond-true}
@@ -150,7 +150,7 @@ module _ {V : Type 0} where
     nearer = λ e. (let p = h.nearer refl in let q = k.nearer e in omega (arith, p, q));
   }
 
-  -- or from where they have come to
+  -- or from where they have led
   pub leads_from : (o : World V) (s u z : Seat V) (n : ActorNotice V) → HasCome o s u → LeadsOn o u z n → LeadsOn o s z n
   leads_from o s u z n h k = record {
     driven = λ f d was. k.driven f d (h.driven f d was);
@@ -181,7 +181,7 @@ module _ {V : Type 0} where
         leads = leads_on t s s u r told.Quiet (starts (opening_of t) s) ties g.1 on going small;
       }
 
-  -- the step of which the actor hears
+  -- the step that is handed to the actor
   pub led_last : AreSteps V → WordsKeep V → (t : TxTable V) (s u : Seat V) (r q : TxActor V) (y : Actor)
       (m : Result (Option WordAnswer) WordRefusal) (n : ActorNotice V) (bs : List (Base V)) → is_loading (stage_of r.stage) ≡ false
       → next_of (stage_of r.stage) ≡ next.Word → (r.stage ≡ stage.Closing → ⊥) → AreSmall (blocks_in t) → Ties t s r → HasOwn t s r bs
@@ -312,7 +312,7 @@ module _ {V : Type 0} where
       (waits_reading r.stage l e) (next_reading r.stage l e) (open_reading r.stage l e) small ties has
       (fetch_steps (opening_of t) s u r.words l k found step) (fetch_fits r.words l k found)
 
-  -- and what the actor hears of the first load, or of the last
+  -- and the first load, or the last, as it is handed to the actor
   pub look_last : AreSteps V → WordsKeep V → (t : TxTable V) (s u : Seat V) (r q : TxActor V) (y : Actor)
       (m : Result (Option WordAnswer) WordRefusal) (n : ActorNotice V) (l found : ℕ) (bs : List (Base V)) → r.stage ≡ stage.Reading l
       → AreSmall (blocks_in t) → Ties t s (at_place r (Look l)) → HasOwn t s (at_place r (Look l)) bs → Stepped (opening_of t) s found u

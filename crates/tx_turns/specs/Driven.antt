@@ -72,7 +72,7 @@ abbrev pub told_in : {V : Type 0} → Bool → ActorNotice V → ActorNotice V
 told_in true n = told.Quiet
 told_in false n = n
 
--- Memory may be wanting at this stage: its turn takes some, or it reads for a call, which takes some once its gate is put back.
+-- An allocation may fail at this stage: its turn takes memory, or it reads for a call, which takes some once its gate is put back.
 abbrev pub MayWant : {V : Type 0} → Stage V → Type 0
 MayWant (Loading o left) = Unit {0}
 MayWant st = WantsMemory (next_of st)
@@ -146,7 +146,7 @@ module _ {V : Type 0} where
   HasFound o s u cause =
       (v : World V) × IsTurnFrom o s u v × IsCause v (actor s) (v.seats (actor s)).stage (happens v (Step (actor s))).0 cause
 
-  -- or memory was wanting
+  -- or an allocation failed
   abbrev pub IsReason : World V → Seat V → Seat V → Refusal → Type 0
   IsReason o s u cause = HasFound o s u cause ⊎ (cause ≡ OutOfMemory)
 

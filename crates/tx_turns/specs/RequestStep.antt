@@ -11,7 +11,7 @@ use Rattle.tx_table.specs.declared.seat.Seat.{Seat}
 use Rattle.tx_table.specs.Seated.{IsSameSeat, actor, acts, list_of}
 
 module _ {V : Type 0} where
-  -- the seat's actor has asked this too since its last step, or wanted memory; the number of the event is no matter
+  -- the seat's actor has asked this too since its last step, or an allocation of it failed; the number of the event is no matter
   abbrev pub HasTaken : Seat V → Event V → Seat V → Type 0
   HasTaken s e u = IsSameSeat s u × (u.place.me ≡ s.place.me) × (list_of u.asked ≡ list_of s.asked ++ e ∷ [])
 

@@ -13,9 +13,9 @@
 //!   a call on a key that is to read a location then, all but that copy is made after the store.
 //! - **Requests.** A read of a word, a call whose gate is free, the loads of a call, a begin and a commit are straight code, one atomic
 //!   step on the table a function; the order of a commit's steps stands in `commits.rt`. All else, and what such code finds in its way, is
-//!   done by a loop over turns. A function `.._on` takes some turns and returns whether none of them answered; else the answer is in
-//!   `said`. The result is what the definitions say of it in the world with this seat alone (`specs/Driven.antt`). Where an allocation
-//!   fails, the request is aborted.
+//!   done by a loop over turns. Of the functions `.._on` most that take several turns return whether none of them answered, and else the
+//!   answer is in `said`; most that take a single step return what the next one needs, or the answer. The result is what the definitions
+//!   say of it in the world with this seat alone (`specs/Driven.antt`). Where an allocation fails, the request is aborted.
 #![tactic(auto)]
 
 mod asks;

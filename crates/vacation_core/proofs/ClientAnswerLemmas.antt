@@ -1,6 +1,6 @@
 -- What a client keeps of its session, by what it is answered.
 -- What a step answers says where its transaction continues, and so does a failed allocation; so what the client kept before is what it is
--- to keep, or what it is to have as it hears of an answer.
+-- to keep, or what it is to have as it gets an answer.
 use Rattle.std.proofs.Common.{◌≡◌, ℕ, Bool, true, false, true≢false, cond, List, [], ◌∷◌, ◌++◌, inl, inr, refl, sym, ◌∙◌, ap, subst}
 use Rattle.std.specs.Prelude.{Option, Some, None}
 use Rattle.seq_model.specs.declared.call.Call.{Call}

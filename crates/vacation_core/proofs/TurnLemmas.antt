@@ -196,7 +196,7 @@ all_of i v p others own j c got =
       | inr isnt ↦ others j c isnt got
     ]
 
--- ---- what its own client hears
+-- ---- what its own client is answered
 
 step_hearing : (p : Play) (a : ℕ) (c : Client) (n : Notice Entry) → n ≡ told (event.Step a) p → has_open c ≡ true → IsClient c a p
     → IsHearing n c a (moved a (event.Step a) p)

@@ -82,7 +82,7 @@ fn finish(alloc: Global, world: World<Entry>) -> Result<Ordered, Memory>
 /// Runs the sessions of these actions, one after another, on a world that opens on these tables, each collection in so many stripes.
 ///
 /// `TooLong` where a collection can't have so many stripes, or an action isn't allowed, which is found before anything runs; and
-/// `Memory` where a growth was refused.
+/// `Memory` where an allocation failed.
 pub fn run_in_order(
     alloc: Global,
     tables: Tables,

@@ -82,7 +82,7 @@ impl VacWorld {
     ///
     /// The tables are what words and collections hold in the end: where no commit is half done, what the sessions that committed leave,
     /// balanced. `TooLong` where a collection can't have so many stripes, or an action is beyond its limits: nothing has run then; and
-    /// `Memory` where a growth was refused.
+    /// `Memory` where an allocation failed.
     pub fn run(
         alloc: Global,
         tables: Tables,

@@ -1,7 +1,7 @@
 -- What a lender lends and takes back.
 --
 -- A lent client leaves a seat that fits its home, and its home has the lender's table; so the lender may join it. Joining adds the seat's
--- receipts, those of one actor, behind the lender's, and its share, and changes nothing else that contracts see.
+-- receipts, those of one actor, after the lender's, and its share, and changes nothing else that contracts see.
 use Rattle.std.proofs.Common.{◌≡◌, ℕ, ◌+◌, ◌≤◌, List, [], ◌∷◌, ◌++◌, Option, Some, None, refl, sym, ap, ◌∙◌, subst, arith}
 use Rattle.std.proofs.lemmas.List.{append-nil, append_assoc, length-append}
 use Rattle.std.proofs.lemmas.List.Elements.{All-append, All-cons, All-nil}

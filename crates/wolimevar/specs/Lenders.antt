@@ -38,8 +38,8 @@ module _ {V : Type 0} where
     pub last : s.last ≤ u.last
     pub asked : requests_of u ≡ requests_of s
 
-  -- Some clients were taken back. The receipts are those that the lender had and, after them, those of these clients: of each client those
-  -- that it had in the end, which are of one actor. Nothing else has changed.
+  -- Some clients were taken back. The receipts are those that the lender had and, after them, a list for each share that came back, of one
+  -- actor each. Nothing else has changed, but perhaps the last number, which is no lower.
   pub record HasTakenBack (before after : LenderShown V) : Type 0 where
     pub lists : List (List (ℕ × Record V))
     pub own : All IsOfOne lists

@@ -156,8 +156,8 @@ impl<V: Value> Lender<V> {
         SHARES.saturating_sub(self.seat.get().shares())
     }
 
-    /// Takes back the clients that were dropped, and gives the store back, which has the receipts of all. While a client is out it gives
-    /// back the lender, with what was taken back.
+    /// Takes back the clients that were dropped, and gives the store back, which has the receipts of all. While a client is out, or is just
+    /// being dropped, it gives back the lender, with what was taken back. No clause says that `clients` is above 0 then.
     ///
     /// ```
     /// let Ok(store) = lender.end() else {

@@ -1,5 +1,8 @@
 //! Reservations that are served by workers, each list of actions by one of its own.
 //!
+//! Many sessions are to run at once, and still to leave what they leave one after another. So they are dealt out to workers, which run them
+//! on one shared table.
+//!
 //! [`deal`] deals items out in turn, as cards are: the first to the first list, the second to the second, and so on, and again from the
 //! first list. [`gather`] takes what came of them from the lists in that order.
 //!

@@ -128,7 +128,7 @@ pub fn serve_allowed<R: Threads + Wait + Sync, P: Pause + Sync>(
 /// tables and the state are what they leave, balanced. No audit of the receipts finds a fault.
 ///
 /// `TooLong` where a collection can't have so many stripes, or an action of some list isn't allowed, which is found before anything is
-/// opened; and `Memory` where a growth was refused. A session that is out of memory is reported as missed.
+/// opened; and `Memory` where an allocation failed. A session that is out of memory is reported as missed.
 pub fn serve<R: Threads + Wait + Sync, P: Pause + Sync>(
     rt: &R,
     alloc: Global,

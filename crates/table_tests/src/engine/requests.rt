@@ -85,8 +85,8 @@ pub fn learn_number<V: Told>(
     Ok(Answer::Said("learnt"))
 }
 
-/// An attempt of the job that these words spell, by a worker that is held before its commit if they say so. The meeting hears of its
-/// receipt.
+/// An attempt of the job that these words spell, by a worker that is held before its commit if they say so. The meeting is notified of
+/// its receipt.
 pub fn attempt_words<V: Told>(
     alloc: Global,
     table: &TxTable<V>,

@@ -57,7 +57,7 @@ impl<V: Told> Page<V> {
         self.note(is_printed);
     }
 
-    /// What is heard from now on answers this row.
+    /// What is answered from now on is the answer of this row.
     pub fn begin_row(&mut self, row: &str) {
         self.print(row);
         self.print(" = ");

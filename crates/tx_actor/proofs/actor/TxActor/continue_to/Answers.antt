@@ -42,7 +42,7 @@ returns-in-Some-clause-keeps g c v can =
     goes_on_next v c.args.self.now c.args.call c.args.left.items c.in-Some.location c.args.left c.in-Some.ensures.next
     (sym c.in-Some.ensures.all) c.requires.prepared can
 
--- or it goes on
+-- or it continues
 pub returns-in-None-clause-does : goal.returns-in-None-clause-does
 returns-in-None-clause-does g c = c.continue_call.ensures.does
 
