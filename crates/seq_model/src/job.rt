@@ -17,8 +17,8 @@ pub enum Ask<V> {
     GiveUp,
 }
 
-/// What runs as one transaction. Each job states what it asks (`asks`): contracts of its receipts speak of that relation, and say as much
-/// as it does.
+/// What runs as one transaction. For a proof of its receipts a job states what it asks (`asks`): their contracts say as much as that
+/// relation does. Left out, it says nothing.
 ///
 /// `ask` is all that a job has to have. A job of many calls, whose `ask` looks at each reply so far, may have `ask_on` besides: it notes in
 /// its place how many replies it has looked at, and what of them it needs again, and so is asked in the same time at each call. For its
@@ -29,7 +29,7 @@ pub trait Job<V> {
     ghost use Rattle.seq_model.specs.declared.job.Ask.{Ask as AnAsk};
     ghost use Rattle.seq_model.specs.declared.place.JobPlace.{JobPlace as AJobPlace};
 
-    ghost asks: { Self → List (AReply V) → AnAsk V → Type 0 };
+    ghost asks: { Self → List (AReply V) → AnAsk V → Type 0 } = { λ _ _ _. ⊤ };
 
     ghost stands: { Self → List (AReply V) → AJobPlace → Type 0 } = { λ _ _ _. ⊤ };
 

@@ -23,10 +23,6 @@ struct Write0 {
 }
 
 impl<V: Value> Job<V> for Write0 {
-    ghost use Rattle.std.specs.Prelude.{⊤};
-
-    ghost asks = { λ _ _ _. ⊤ };
-
     fn ask(&self, replies: &[Reply<V>]) -> Result<Ask<V>, Memory> {
         match self.number {
             None => Ok(Ask::GiveUp),

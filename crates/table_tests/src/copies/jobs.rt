@@ -37,10 +37,6 @@ struct Step {
 }
 
 impl Job<Rationed> for Step {
-    ghost use Rattle.std.specs.Prelude.{⊤};
-
-    ghost asks = { λ _ _ _. ⊤ };
-
     fn ask(&self, replies: &[Reply<Rationed>]) -> Result<Ask<Rationed>, Memory> {
         self.ration.steps().wait_for_row(self.plan.after);
         match (replies.len(), self.plan.asks) {

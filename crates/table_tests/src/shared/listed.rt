@@ -17,10 +17,6 @@ pub enum Listed {
 }
 
 impl<V: Told> Job<V> for Listed {
-    ghost use Rattle.std.specs.Prelude.{⊤};
-
-    ghost asks = { λ _ _ _. ⊤ };
-
     fn ask(&self, replies: &[Reply<V>]) -> Result<Ask<V>, Memory> {
         let script = match self {
             Listed::Asks(script) => script,
