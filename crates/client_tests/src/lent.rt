@@ -7,9 +7,7 @@ use crate::steps::{Ended, first_word, number_of};
 use std::alloc::Global;
 use std::fmt::Write;
 use std::thread::Threads;
-use wolimevar::{
-    Client, Failure, Lender, LentClient, Refusal, Scope, Serving, Session, StillLent, Store,
-};
+use wolimevar::{Client, Failure, Lender, LentClient, Refusal, Scope, Session, StillLent, Store};
 
 /// One more than the clients that may be lent at once.
 const ONE_TOO_MANY: u64 = 64;
