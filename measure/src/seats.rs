@@ -1,7 +1,7 @@
 //! Transactions at seats of a table, each seat in a thread of its own.
 ghost use Rattle.std.specs.Prelude.{◌<◌, ◌≡◌, IfOk};
 ghost use Rattle.std.specs.Thread.{IsSync};
-ghost use Rattle.tx_table.specs.Seated.{view};
+ghost use Rattle.shared_table.specs.Seated.{view};
 ghost use Rattle.tx_engine.specs.Ready.{HasBegunSince, IsReady};
 
 use crate::clock::seconds_since;
@@ -16,7 +16,7 @@ use std::rt::Runtime;
 use std::thread::{Threads, join};
 use std::time::Instant;
 use tx_engine::{Tx, TxSeat, begin};
-use tx_table::TxTable;
+use shared_table::TxTable;
 
 /// What comes of so many transactions of each thread, and the seconds that they take. There are one, two or four threads.
 pub fn time<R: Runtime + AllocGlobal + Threads + Sync>(

@@ -2,7 +2,7 @@
 ghost use Rattle.std.specs.Prelude.{◌≡◌, ◌≤◌, IfOk, length};
 ghost use Rattle.text_formats.specs.Options.{AreWithin};
 ghost use Rattle.vac_model.specs.Balanced.{IsBalanced};
-ghost use Rattle.tx_table.specs.Seated.{view};
+ghost use Rattle.shared_table.specs.Seated.{view};
 ghost use Rattle.tx_engine.specs.Ready.{IsReady};
 
 use crate::clock::seconds_since;
@@ -18,7 +18,7 @@ use std::thread::Threads;
 use std::time::Instant;
 use text_formats::{Options, opening};
 use tx_engine::TxSeat;
-use tx_table::TxTable;
+use shared_table::TxTable;
 use vac_model::{Action, Tables};
 use workers::{Report, run_workers_owned};
 

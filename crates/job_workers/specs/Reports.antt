@@ -7,9 +7,9 @@ use Rattle.seq_model.specs.declared.call.Reply.{Reply}
 use Rattle.seq_model.specs.declared.record.Record.{Record}
 use Rattle.seq_model.specs.declared.job.Ask.{Ask}
 use Rattle.actor_laws.specs.KnownStages.{Rests}
-use Rattle.tx_table.specs.Seated.{actor, opening_of, view}
-use Rattle.tx_table.specs.declared.table.TxTable.{TxTable}
-use Rattle.tx_table.specs.declared.view.Turn.{Turn}
+use Rattle.shared_table.specs.Seated.{actor, opening_of, view}
+use Rattle.shared_table.specs.declared.table.TxTable.{TxTable}
+use Rattle.shared_table.specs.declared.view.Turn.{Turn}
 use Rattle.tx_turns.specs.Begins.{begins_of}
 use Rattle.tx_engine.specs.Ready.{standing}
 use Rattle.tx_engine.specs.Requests.{HasAborted, IsOpen, KeepsReceipts}

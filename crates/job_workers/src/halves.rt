@@ -1,20 +1,20 @@
 //! The halves of the lists, each by a seat of its own, and the second by a thread.
 ghost use Rattle.std.specs.Prelude.{◌≡◌, ◌<◌, ◌≤◌, max};
 ghost use Rattle.std.specs.Thread.{IsSend, IsSync};
-ghost use Rattle.tx_table.specs.Seated.{actor, view};
-ghost use Rattle.tx_table.specs.Shown.{both_of, left_of, right_of};
+ghost use Rattle.shared_table.specs.Seated.{actor, view};
+ghost use Rattle.shared_table.specs.Shown.{both_of, left_of, right_of};
 ghost use Rattle.tx_engine.specs.Ready.{IsReady};
 ghost use Rattle.job_workers.specs.Trees.{AreOthers, CanRun, ComesBack, IsFresh, Ran, WasLeft, leaves};
 
 use crate::tree::Tree;
 use seq_model::{ACTOR_LIMIT, Job, Value};
+use shared_table::TxTable;
 use std::snapshot::Snapshot;
 use std::sync::Wait;
 use std::sync::atomic::{AtomicBool, Ordering};
 use std::thread::{Promise, Threads};
 use std::{mem, thread};
 use tx_engine::{Pause, Priority, TxSeat};
-use tx_table::TxTable;
 
 /// A seat, and the lists that were run with it.
 type Done<V, J> = (TxSeat<V>, Box<Tree<V, J>>);

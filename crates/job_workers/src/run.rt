@@ -1,7 +1,7 @@
 //! A worker for each list of jobs.
 ghost use Rattle.std.specs.Prelude.{◌≡◌, ◌≤◌, IfOk, OnErr, length};
 ghost use Rattle.std.specs.Thread.{IsSend, IsSync};
-ghost use Rattle.tx_table.specs.Seated.{opening_of, view};
+ghost use Rattle.shared_table.specs.Seated.{opening_of, view};
 ghost use Rattle.actor_laws.specs.KnownStages.{Rests};
 ghost use Rattle.tx_engine.specs.Borrowed.{IsAborted};
 ghost use Rattle.tx_engine.specs.Ready.{IsReady, standing};
@@ -13,11 +13,11 @@ use crate::report::{Draft, Report};
 use crate::tree::Tree;
 use core::mem::replace_with;
 use seq_model::{ACTOR_LIMIT, Job, Memory, Value};
+use shared_table::TxTable;
 use std::alloc::Global;
 use std::sync::Wait;
 use std::thread::Threads;
 use tx_engine::{Pause, Priority, TxSeat, resume};
-use tx_table::TxTable;
 
 /// All that is to be filled: a report with room for what may come of these lists, and the lists as a tree.
 fn prepare<V: Value, J: Job<V> + Drop>(

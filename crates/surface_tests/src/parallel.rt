@@ -1,6 +1,6 @@
 //! Jobs at one seat, and workers that run lists of jobs.
 ghost use Rattle.std.specs.Prelude.{◌≡◌, IfOk, length};
-ghost use Rattle.tx_table.specs.Seated.{view};
+ghost use Rattle.shared_table.specs.Seated.{view};
 ghost use Rattle.tx_engine.specs.Ready.{IsReady};
 
 use crate::rows::ensure;
@@ -9,8 +9,8 @@ use seq_model::{Call, Memory, Op, Refusal, Reply, Value};
 use std::alloc::Global;
 use std::sync::Wait;
 use std::thread::Threads;
-use tx_engine::{Ask, Job, TxSeat, attempt};
-use tx_table::TxTable;
+use tx_engine::{Ask, Job, attempt};
+use tx_table::{Seat, TxTable};
 use workers::{Pause, Report, retry, run_workers};
 
 /// How often a job is attempted at most.
@@ -49,7 +49,7 @@ pub fn call_jobs<R: Threads + Wait + Sync, V: Value + Send + Sync>(
     rt: &R,
     alloc: Global,
     table: &TxTable<V>,
-    seat: &mut TxSeat<V>,
+    seat: &mut Seat<V>,
 ) -> Result<(), Refusal>
     requires ready { IsReady table.now seat.old }
     ensures ready { IsReady table.now seat.new }
@@ -77,7 +77,7 @@ fn lists(alloc: Global) -> Result<Vec<Vec<Write0>>, Memory>
 fn run<R: Threads + Wait + Sync, V: Value + Send + Sync, J: Job<V> + Drop + Send + Sync>(
     rt: &R,
     table: &TxTable<V>,
-    seat: &mut TxSeat<V>,
+    seat: &mut Seat<V>,
     lists: Vec<Vec<J>>,
 ) -> Result<Report<V>, Memory>
     requires ready { IsReady table.now seat.old }

@@ -9,8 +9,8 @@ use seq_model::{Kind, Refusal, Value};
 use std::alloc::Global;
 use std::sync::Wait;
 use std::thread::Threads;
-use tx_engine::{Receipt, TxSeat, begin, begin_read, learn};
-use tx_table::{Block, Closed, TxTable};
+use tx_engine::{Receipt, begin, begin_read, learn};
+use tx_table::{Block, Closed, Seat, TxTable};
 
 /// A half of the shares of a table.
 const HALF: u64 = 32;
@@ -19,7 +19,7 @@ const HALF: u64 = 32;
 pub const ALL: u64 = 64;
 
 /// The table with the word 7 and a collection of each kind, and its first seat.
-fn open(alloc: Global) -> Result<(TxTable<u64>, TxSeat<u64>), Refusal>
+fn open(alloc: Global) -> Result<(TxTable<u64>, Seat<u64>), Refusal>
     ensures { IfOk result (λ opened. IsReady opened.0 opened.1) }
 {
     let shape = shape(alloc)?;
@@ -34,7 +34,7 @@ pub fn call<R: Threads + Wait + Sync>(rt: &R, alloc: Global) -> Result<(), Refus
     called.and(run).and(ended)
 }
 
-fn call_table<V: Value>(table: &TxTable<V>, seat: &mut TxSeat<V>, value: V) -> Result<(), Refusal>
+fn call_table<V: Value>(table: &TxTable<V>, seat: &mut Seat<V>, value: V) -> Result<(), Refusal>
     requires ready { IsReady table.now seat.old }
     ensures ready { IsReady table.now seat.new }
 {
@@ -61,7 +61,7 @@ fn call_table<V: Value>(table: &TxTable<V>, seat: &mut TxSeat<V>, value: V) -> R
 
 fn write_at<V: Value>(
     table: &TxTable<V>,
-    seat: &mut TxSeat<V>,
+    seat: &mut Seat<V>,
     value: V,
 ) -> Result<Receipt<V>, Refusal>
     requires ready { IsReady table.now seat.old }
@@ -80,7 +80,7 @@ fn write_at<V: Value>(
     }
 }
 
-fn read_at<V: Value>(table: &TxTable<V>, seat: &mut TxSeat<V>) -> Result<(), Refusal>
+fn read_at<V: Value>(table: &TxTable<V>, seat: &mut Seat<V>) -> Result<(), Refusal>
     requires ready { IsReady table.now seat.old }
     ensures ready { IsReady table.now seat.new }
 {
@@ -93,7 +93,7 @@ fn read_at<V: Value>(table: &TxTable<V>, seat: &mut TxSeat<V>) -> Result<(), Ref
     }
 }
 
-fn call_end<V: Value>(table: TxTable<V>, seat: TxSeat<V>) -> Result<(), Refusal>
+fn call_end<V: Value>(table: TxTable<V>, seat: Seat<V>) -> Result<(), Refusal>
     requires ready { IsReady table seat }
 {
     if seat.shares() != ALL || table.words() == 0 {

@@ -3,7 +3,7 @@ ghost use Rattle.std.specs.Prelude.{◌≡◌, ◌+◌, ◌^◌, ◌<◌, ◌∷
 ghost use Rattle.atomic_table.specs.Table.{rest};
 ghost use Rattle.actor_laws.specs.Gates.{Tries};
 ghost use Rattle.tx_machine.specs.Cells.{ClockCell, LockCell, ValueCell};
-ghost use Rattle.tx_table.specs.Seated.{
+ghost use Rattle.shared_table.specs.Seated.{
   Adds,
   Exchanges,
   IsHome,
@@ -22,7 +22,7 @@ ghost use Rattle.tx_table.specs.Seated.{
 use actor_parts::Boxed;
 use replay_log::Base;
 use seq_model::Value;
-use tx_table::{Seat, TxTable};
+use shared_table::{Seat, TxTable};
 
 pub fn load_clock<V: Value>(table: &TxTable<V>, seat: &mut Seat<V>) -> u64
     requires own { Owns table.now seat.old }

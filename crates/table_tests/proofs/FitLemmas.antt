@@ -1,7 +1,7 @@
 -- A seat without a transaction is fit for its next request.
 use Rattle.std.proofs.Common.{◌≡◌}
-use Rattle.tx_table.specs.declared.table.TxTable.{TxTable}
-use Rattle.tx_table.specs.Seated.{opening_of}
+use Rattle.shared_table.specs.declared.table.TxTable.{TxTable}
+use Rattle.shared_table.specs.Seated.{opening_of}
 use Rattle.actor_laws.specs.KnownStages.{Rests}
 use Rattle.tx_engine.proofs.ReadyLemmas.{rests_since}
 use Rattle.tx_turns.specs.Driven.{standing}

@@ -6,7 +6,7 @@ use Rattle.seq_model.specs.declared.record.Record.{Record}
 use Rattle.seq_model.specs.declared.refusal.Refusal.{Refusal}
 use Rattle.tx_engine.specs.Ready.{HasCalled, HasFinished}
 use Rattle.tx_engine.specs.declared.seats.TxSeat.{TxSeat}
-use Rattle.tx_table.specs.declared.table.TxTable.{TxTable}
+use Rattle.shared_table.specs.declared.table.TxTable.{TxTable}
 
 module _ {V : Type 0} (t : TxTable V) (s u : TxSeat V) (P : Refusal → Type 0) where
   pub if_called : (call : Call V) → ((cause : Refusal) → HasCalled t s u call (Err cause) → P cause)

@@ -1,5 +1,5 @@
 -- A seat between its requests.
-use Rattle.tx_table.specs.declared.table.TxTable.{TxTable}
+use Rattle.shared_table.specs.declared.table.TxTable.{TxTable}
 use Rattle.tx_engine.specs.declared.seats.TxSeat.{TxSeat}
 use Rattle.tx_engine.specs.Ready.{HasBegunSince, IsReady}
 

@@ -1,14 +1,14 @@
 //! Seats of a table, whose rows are answered in turn or in threads.
 ghost use Rattle.std.specs.Prelude.{◌≡◌};
-ghost use Rattle.tx_table.specs.Seated.{view};
+ghost use Rattle.shared_table.specs.Seated.{view};
 ghost use Rattle.tx_engine.specs.Ready.{IsReady};
 
 use crate::engine::turns::{at_once, in_turn};
 use crate::shared::{Order, Page, Told};
 use crate::worker::retries::{ALONE, commit_after};
+use shared_table::TxTable;
 use std::thread::Threads;
 use tx_engine::TxSeat;
-use tx_table::TxTable;
 
 /// How many of the table's shares the second seat has.
 const SECOND_SHARES: u64 = 32;

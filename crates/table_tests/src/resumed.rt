@@ -1,13 +1,13 @@
 //! Requests of a transaction that is left open at its seat from one to the next.
 ghost use Rattle.std.specs.Prelude.{◌≡◌, IfErr, IfOk};
-ghost use Rattle.tx_table.specs.Seated.{opening_of};
+ghost use Rattle.shared_table.specs.Seated.{opening_of};
 ghost use Rattle.actor_laws.specs.KnownStages.{Rests};
 ghost use Rattle.tx_engine.specs.Borrowed.{IsAborted};
 ghost use Rattle.tx_engine.specs.Ready.{HasBegunSince, HasCalled, HasFinished, IsReady, standing};
 
 use seq_model::{Op, Record, Refusal, Reply, Value};
+use shared_table::TxTable;
 use tx_engine::{TxSeat, begin_read, resume};
-use tx_table::TxTable;
 
 /// A begin, of a declared reader or not. It gives the number at which the transaction has begun.
 pub fn begin<V: Value>(

@@ -5,16 +5,16 @@ ghost use Rattle.std.specs.Prelude.{◌≡◌, IfErr, List, None};
 ghost use Rattle.seq_model.specs.declared.call.Call.{Call as Asked};
 ghost use Rattle.seq_model.specs.declared.call.Reply.{Reply as Replied};
 ghost use Rattle.actor_laws.specs.KnownStages.{Rests, Stands};
-ghost use Rattle.tx_table.specs.Seated.{contents_in, opening_of};
+ghost use Rattle.shared_table.specs.Seated.{contents_in, opening_of};
 ghost use Rattle.tx_engine.specs.Ready.{standing};
 ghost use Rattle.table_tests.specs.Fit.{IsFit};
 ghost use Rattle.tx_engine.specs.Aborted.{SeesOneState, ShownBy, WasAborted, WasAbortedFor};
 
 use crate::resumed;
 use seq_model::{Call, Record, Refusal, Reply, Value};
+use shared_table::TxTable;
 use tx_engine::TxSeat;
 use tx_engine::laws::{aborted_transactions_saw_one_state, open_transactions_see_one_state};
-use tx_table::TxTable;
 
 /// A call. Where it is refused and has ended its transaction, the table shows it as an aborted one that saw one state; where the
 /// transaction is still open, all its answers so far are those of one state.

@@ -1,6 +1,6 @@
 //! A table, from its opening to its end.
 ghost use Rattle.std.specs.Prelude.{◌≡◌};
-ghost use Rattle.tx_table.specs.Seated.{view};
+ghost use Rattle.shared_table.specs.Seated.{view};
 ghost use Rattle.tx_engine.specs.Ready.{IsReady};
 
 use crate::pairs::run_seats;
@@ -10,11 +10,11 @@ use crate::worker::retries::{ALONE, commit_after, retry_rows};
 use crate::worker::runs::run_lists;
 use row_parts::{script_of, shape_of, state_of};
 use seq_model::{Refusal, Shape, State};
+use shared_table::TxTable;
 use std::sync::Wait;
 use std::thread::Threads;
 use text_formats::number;
 use tx_engine::TxSeat;
-use tx_table::TxTable;
 
 /// What the rows on a table are.
 #[derive(Clone, Copy)]

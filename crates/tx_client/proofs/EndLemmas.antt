@@ -6,9 +6,9 @@ use Rattle.seq_model.specs.declared.call.Reply.{Reply}
 use Rattle.seq_model.specs.declared.record.Record.{Record}
 use Rattle.seq_model.specs.declared.refusal.Refusal.{Refusal}
 use Rattle.replay_log.specs.Seats.{World}
-use Rattle.tx_table.specs.declared.seat.Seat.{Seat}
-use Rattle.tx_table.specs.declared.table.TxTable.{TxTable}
-use Rattle.tx_table.specs.Seated.{opening_of}
+use Rattle.shared_table.specs.declared.seat.Seat.{Seat}
+use Rattle.shared_table.specs.declared.table.TxTable.{TxTable}
+use Rattle.shared_table.specs.Seated.{opening_of}
 use Rattle.tx_engine.specs.declared.seats.TxSeat.{TxSeat}
 use Rattle.tx_engine.specs.Ready.{HasFinished}
 use Rattle.tx_engine.specs.Requests.{KeepsReceipts}

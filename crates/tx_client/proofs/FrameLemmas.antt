@@ -12,9 +12,9 @@ use Rattle.tx_turns.specs.RequestHistory.{requests_of}
 use Rattle.seq_model.specs.declared.refusal.Refusal.{Refusal}
 use Rattle.replay_log.specs.Seats.{World}
 use Rattle.actor_laws.specs.KnownStages.{Rests}
-use Rattle.tx_table.specs.declared.seat.Seat.{Seat}
-use Rattle.tx_table.specs.declared.table.TxTable.{TxTable}
-use Rattle.tx_table.specs.Seated.{actor, opening_of, view}
+use Rattle.shared_table.specs.declared.seat.Seat.{Seat}
+use Rattle.shared_table.specs.declared.table.TxTable.{TxTable}
+use Rattle.shared_table.specs.Seated.{actor, opening_of, view}
 use Rattle.tx_engine.specs.declared.seats.TxSeat.{TxSeat}
 use Rattle.tx_engine.specs.Ready.{HasBegunSince, HasCalled, IsReady, standing}
 use Rattle.tx_engine.specs.Requests.{IsOpen, KeepsReceipts}

@@ -7,11 +7,11 @@ use Rattle.seq_model.specs.declared.event.Request.TheVariants as request
 use Rattle.seq_model.specs.declared.refusal.Refusal.{Refusal}
 use Rattle.replay_log.specs.Seats.{World}
 use Rattle.actor_laws.specs.KnownStages.{Rests}
-use Rattle.tx_table.specs.declared.seat.Seat.{Seat}
+use Rattle.shared_table.specs.declared.seat.Seat.{Seat}
 use Rattle.tx_turns.specs.RequestHistory.{requests_of}
 use Rattle.seq_model.specs.declared.record.Record.{Record}
-use Rattle.tx_table.specs.declared.table.TxTable.{TxTable}
-use Rattle.tx_table.specs.Seated.{opening_of}
+use Rattle.shared_table.specs.declared.table.TxTable.{TxTable}
+use Rattle.shared_table.specs.Seated.{opening_of}
 use Rattle.tx_engine.specs.declared.seats.TxSeat.{TxSeat}
 use Rattle.tx_engine.specs.Ready.{HasFinished, standing}
 use Rattle.tx_engine.specs.Requests.{HasAskedFor, HasAskedToBegin, IsOpen, begin_request}

@@ -1,8 +1,8 @@
 -- A client, and what contracts see of it.
 use Rattle.std.specs.Prelude.{◌≡◌, [], Option, Some, None}
-use Rattle.tx_table.specs.declared.seat.Seat.{Seat}
-use Rattle.tx_table.specs.declared.table.TxTable.{TxTable}
-use Rattle.tx_table.specs.Seated.{actor, view}
+use Rattle.shared_table.specs.declared.seat.Seat.{Seat}
+use Rattle.shared_table.specs.declared.table.TxTable.{TxTable}
+use Rattle.shared_table.specs.Seated.{actor, view}
 use Rattle.tx_turns.specs.RequestHistory.{requests_of}
 use Rattle.tx_client.specs.declared.tally.Tally.{Tally}
 use Rattle.tx_engine.specs.declared.seats.TxSeat.{TxSeat}

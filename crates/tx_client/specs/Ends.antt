@@ -7,8 +7,8 @@ use Rattle.seq_model.specs.declared.event.Request.{Request}
 use Rattle.seq_model.specs.declared.failure.Failure.{Failure}
 use Rattle.seq_model.specs.declared.failure.Failure.TheVariants.{Refused, Aborted}
 use Rattle.tx_client.specs.declared.tally.Tally.{Tally}
-use Rattle.tx_table.specs.declared.seat.Seat.{Seat}
-use Rattle.tx_table.specs.Seated.{actor, view}
+use Rattle.shared_table.specs.declared.seat.Seat.{Seat}
+use Rattle.shared_table.specs.Seated.{actor, view}
 
 module _ (V : Type 0) where
   -- what a client shows: its number among the actors, the last number that it committed or learnt, its receipts, what its actor was asked,

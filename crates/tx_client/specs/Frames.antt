@@ -5,9 +5,9 @@ use Rattle.seq_model.specs.declared.call.Reply.{Reply}
 use Rattle.seq_model.specs.declared.record.Record.{Record}
 use Rattle.replay_log.specs.Seats.{World}
 use Rattle.actor_laws.specs.KnownStages.{KnownStage, Rests, Begins, Stands, Calls, Commits, Committed, Ends}
-use Rattle.tx_table.specs.declared.seat.Seat.{Seat}
-use Rattle.tx_table.specs.declared.table.TxTable.{TxTable}
-use Rattle.tx_table.specs.Seated.{actor, opening_of, view}
+use Rattle.shared_table.specs.declared.seat.Seat.{Seat}
+use Rattle.shared_table.specs.declared.table.TxTable.{TxTable}
+use Rattle.shared_table.specs.Seated.{actor, opening_of, view}
 use Rattle.tx_engine.specs.declared.seats.TxSeat.{TxSeat}
 use Rattle.tx_engine.specs.Ready.{HasBegunSince, IsReady, standing}
 use Rattle.tx_turns.specs.Driven.{is_declared}

@@ -4,7 +4,7 @@
 //! waits, and attempts the body again. The transaction owns the client's seat while it runs: so its type alone says to which transaction it
 //! belongs ([`crate::Scope`]).
 ghost use Rattle.std.specs.Prelude.{◌≡◌, IfErr, IfOk, Err, Ok, Some, false, true};
-ghost use Rattle.tx_table.specs.Seated.{opening_of};
+ghost use Rattle.shared_table.specs.Seated.{opening_of};
 ghost use Rattle.tx_turns.specs.Driven.{is_declared};
 ghost use Rattle.tx_turns.specs.RequestHistory.{requests_of};
 ghost use Rattle.tx_engine.specs.Borrowed.{IsAborted};
@@ -22,11 +22,11 @@ use crate::tally::Tally;
 use crate::transaction::Transaction;
 use actor_parts::Boxed;
 use seq_model::{Failure, Refusal, Value};
+use shared_table::TxTable;
 use std::hint::spin_loop;
 use std::marker::{Brand, PhantomData};
 use std::thread::yield_now;
 use tx_engine::{Receipt, TxSeat, begin_read, resume};
-use tx_table::TxTable;
 
 /// From so many attempts on a client yields its thread between two of them; before, it spins.
 const SPINS: u64 = 10;

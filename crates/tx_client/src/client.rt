@@ -1,7 +1,7 @@
 //! A client of a store.
 ghost use Rattle.std.specs.Prelude.{◌≡◌, ◌<◌, ◌≤◌, ◌∷◌, ◌++◌, [], IfErr, IfOk, IfSome, OnErr, OnOk, Some, false, max, true};
 ghost use Rattle.seq_model.specs.declared.refusal.Refusal.TheVariants.{Ahead};
-ghost use Rattle.tx_table.specs.Seated.{actor, view};
+ghost use Rattle.shared_table.specs.Seated.{actor, view};
 ghost use Rattle.tx_engine.specs.Ready.{IsReady};
 ghost use Rattle.tx_client.specs.RequestKinds.{HasAsked};
 ghost use Rattle.tx_client.specs.Ends.{IsAbortBy};
@@ -16,9 +16,9 @@ use crate::scope::Scope;
 use crate::tally::Tally;
 use actor_parts::Boxed;
 use seq_model::{Failure, Refusal, Value};
+use shared_table::TxTable;
 use std::marker::{Model, PhantomData};
 use tx_engine::{Receipt, TxSeat};
-use tx_table::TxTable;
 
 /// A client of a store, which runs one transaction after another. Each session of a store has one.
 ///

@@ -11,8 +11,8 @@ use crate::scope::Scope;
 use crate::tally::Tally;
 use actor_parts::Boxed;
 use seq_model::{Failure, Refusal, Value};
+use shared_table::TxTable;
 use tx_engine::{Receipt, TxSeat};
-use tx_table::TxTable;
 
 /// A seat that runs bodies, and the counts of its attempts.
 #[derive(Drop)]

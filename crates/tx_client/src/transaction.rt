@@ -6,10 +6,10 @@ ghost use Rattle.tx_handles.specs.MadeCall.{HasMade, RefusesForeign, with_call};
 use crate::scope::Scope;
 use actor_parts::Boxed;
 use seq_model::{Op, Refusal, Reply, Value};
+use shared_table::TxTable;
 use std::marker::{Model, PhantomData};
 use tx_engine::{TxSeat, resume};
 use tx_handles::MakesCalls;
-use tx_table::TxTable;
 
 /// The transaction in which a body runs. Its calls are made by the handles of the store's layout.
 ///
@@ -41,7 +41,7 @@ impl<'t, V, S: Scope<V>> Model for Transaction<'t, V, S> {
 
     ghost Value = { TransactionShown V };
 
-    ghost use Rattle.tx_table.specs.Seated.{opening_of};
+    ghost use Rattle.shared_table.specs.Seated.{opening_of};
     ghost use Rattle.tx_client.specs.Frames.{IsUnderWay, transaction_at};
 
     ghost view = { λ a. transaction_at a.store (opening_of a.table.now) a.seat.seat };

@@ -17,14 +17,14 @@ use Rattle.replay_log.specs.Seats.{Ended, Seat, World}
 use Rattle.replay_log.specs.WorldSerial.{AllSaw, SawAt}
 use Rattle.replay_log.specs.Worlds.{run}
 use Rattle.actor_laws.specs.KnownStages.{Stands, known_stage_at}
-use Rattle.tx_table.specs.Opening.{Holds}
-use Rattle.tx_table.specs.Seated.{acts, contents_in, kept, list_of, opening_of, view}
-use Rattle.tx_table.specs.Seated as seated
-use Rattle.tx_table.specs.Shown.{Slot, aborted_by}
-use Rattle.tx_table.specs.declared.seat.Seat as table
-use Rattle.tx_table.specs.declared.table.TxTable.{TxTable}
-use Rattle.tx_table.specs.declared.view.SeatKnowledge.{SeatKnowledge}
-use Rattle.tx_table.proofs.Turned.{asked_calm}
+use Rattle.shared_table.specs.Opening.{Holds}
+use Rattle.shared_table.specs.Seated.{acts, contents_in, kept, list_of, opening_of, view}
+use Rattle.shared_table.specs.Seated as seated
+use Rattle.shared_table.specs.Shown.{Slot, aborted_by}
+use Rattle.shared_table.specs.declared.seat.Seat as table
+use Rattle.shared_table.specs.declared.table.TxTable.{TxTable}
+use Rattle.shared_table.specs.declared.view.SeatKnowledge.{SeatKnowledge}
+use Rattle.shared_table.proofs.Turned.{asked_calm}
 use Rattle.tx_turns.specs.Driven.{aborted_for, seat_in, standing}
 use Rattle.tx_engine.specs.Requests.{IsAbortedFor, IsLastAborted}
 use Rattle.tx_engine.specs.Aborted.{SeesOneState, ShownBy, WasAborted, WasAbortedFor}

@@ -8,7 +8,7 @@ use Rattle.seq_model.specs.declared.event.Request.TheVariants.{Abort}
 use Rattle.seq_model.specs.declared.refusal.Refusal.{Refusal}
 use Rattle.seq_model.specs.declared.refusal.Refusal.TheVariants.{Memory as OutOfMemory}
 use Rattle.replay_log.specs.Seats.{World}
-use Rattle.tx_table.specs.declared.seat.Seat.{Seat}
+use Rattle.shared_table.specs.declared.seat.Seat.{Seat}
 use Rattle.actor_laws.specs.KnownStages.{Rests}
 use Rattle.tx_turns.specs.Driven.{standing}
 use Rattle.tx_turns.specs.RequestHistory.{requests_of}

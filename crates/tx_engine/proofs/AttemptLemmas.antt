@@ -28,8 +28,8 @@ use Rattle.seq_model.specs.declared.job.Ask.{Ask}
 use Rattle.seq_model.specs.declared.job.Ask.TheVariants as ask
 use Rattle.seq_model.specs.Programs.{replies_of}
 use Rattle.tx_actor.specs.declared.actor.ActorNotice.TheVariants as told
-use Rattle.tx_table.specs.declared.seat.Seat.{Seat}
-use Rattle.tx_table.specs.Seated.{actor, acts, view}
+use Rattle.shared_table.specs.declared.seat.Seat.{Seat}
+use Rattle.shared_table.specs.Seated.{actor, acts, view}
 use Rattle.actor_laws.specs.KnownStages.{Rests, Stands, known_stage_at}
 use Rattle.tx_engine.proofs.CallLemmas.{stands_at}
 pub use Rattle.tx_engine.proofs.RequestLemmas.{keeps_self}

@@ -22,11 +22,11 @@ use Rattle.replay_log.specs.Worlds.{World, Seat, Stage, Trying, Gating, Returnin
 use Rattle.replay_log.specs.Worlds.{actor_of, because, gate_tries, gives_up, happens, is_leaving, run, seated, starve_at}
 use Rattle.replay_log.proofs.EventLemmas.{run-append}
 use Rattle.actor_laws.specs.KnownStages.{known_stage_at}
-use Rattle.tx_table.specs.Seated as table_seat
-use Rattle.tx_table.specs.Seated.{acts, list_of, view}
-use Rattle.tx_table.specs.Shown.{IsReached, Opens}
-use Rattle.tx_table.specs.Turns.{asked_all, lone, own, stage_of}
-use Rattle.tx_table.specs.declared.seat.Seat as table
+use Rattle.shared_table.specs.Seated as table_seat
+use Rattle.shared_table.specs.Seated.{acts, list_of, view}
+use Rattle.shared_table.specs.Shown.{IsReached, Opens}
+use Rattle.shared_table.specs.Turns.{asked_all, lone, own, stage_of}
+use Rattle.shared_table.specs.declared.seat.Seat as table
 use Rattle.tx_turns.proofs.RestLemmas.{IsCalm}
 use Rattle.tx_turns.specs.Driven.{HasFound, standing}
 use Rattle.tx_engine.specs.Tries.{AreVain, WasTriedInVain}

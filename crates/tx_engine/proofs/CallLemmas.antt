@@ -28,11 +28,11 @@ use Rattle.tx_actor.specs.Running.{notice_of}
 use Rattle.tx_actor.specs.declared.actor.ActorNotice.{ActorNotice}
 use Rattle.tx_actor.specs.declared.actor.ActorNotice.TheVariants as told
 use Rattle.tx_actor.specs.declared.actor.TxActor.{TxActor}
-use Rattle.tx_table.specs.Opening.{blocks_at}
-use Rattle.tx_table.specs.declared.seat.Seat as table
-use Rattle.tx_table.specs.declared.table.TxTable.{TxTable}
-use Rattle.tx_table.specs.Seated.{acts, opening_of, out}
-use Rattle.tx_table.specs.Seated as seated
+use Rattle.shared_table.specs.Opening.{blocks_at}
+use Rattle.shared_table.specs.declared.seat.Seat as table
+use Rattle.shared_table.specs.declared.table.TxTable.{TxTable}
+use Rattle.shared_table.specs.Seated.{acts, opening_of, out}
+use Rattle.shared_table.specs.Seated as seated
 use Rattle.actor_laws.proofs.CourseLemmas.{ends_at}
 use Rattle.actor_laws.proofs.KnownStageLemmas.{asks_move}
 use Rattle.actor_laws.specs.Courses.{ComesTo, EndsFrom, IsUnderWay, IsUnderWayFrom}

@@ -13,12 +13,12 @@ use Rattle.replay_log.specs.declared.base.Base.{Base}
 use Rattle.replay_log.specs.Base.{held_of, shown_of}
 use Rattle.replay_log.specs.Contents.{Block, end_of}
 use Rattle.tx_machine.specs.Cells.{ValueCell}
-use Rattle.tx_table.specs.declared.closed.Closed.{Closed}
-use Rattle.tx_table.specs.Ends.{bases_in, held_in, homes_of, row_of}
-use Rattle.tx_table.specs.declared.view.SeatKnowledge.{SeatKnowledge}
-use Rattle.tx_table.specs.Layout.{address, values_in}
-use Rattle.tx_table.specs.Shown.{Closes, Slot}
-use Rattle.tx_table.proofs.Numbers.{map_at}
+use Rattle.shared_table.specs.declared.closed.Closed.{Closed}
+use Rattle.shared_table.specs.Ends.{bases_in, held_in, homes_of, row_of}
+use Rattle.shared_table.specs.declared.view.SeatKnowledge.{SeatKnowledge}
+use Rattle.shared_table.specs.Layout.{address, values_in}
+use Rattle.shared_table.specs.Shown.{Closes, Slot}
+use Rattle.shared_table.proofs.Numbers.{map_at}
 use Rattle.tx_engine.specs.Closing.{IsLeftBy, state_of}
 
 module _ {V : Type 0} where

@@ -30,11 +30,11 @@ use Rattle.tx_actor.specs.Running.{notice_of}
 use Rattle.tx_actor.specs.declared.actor.ActorNotice.{ActorNotice}
 use Rattle.tx_actor.specs.declared.actor.ActorNotice.TheVariants as told
 use Rattle.tx_actor.specs.declared.actor.TxActor.{TxActor}
-use Rattle.tx_table.specs.Opening.{blocks_at}
-use Rattle.tx_table.specs.declared.seat.Seat as table
-use Rattle.tx_table.specs.declared.table.TxTable.{TxTable}
-use Rattle.tx_table.specs.Seated.{acts, opening_of, out, view}
-use Rattle.tx_table.specs.Seated as seated
+use Rattle.shared_table.specs.Opening.{blocks_at}
+use Rattle.shared_table.specs.declared.seat.Seat as table
+use Rattle.shared_table.specs.declared.table.TxTable.{TxTable}
+use Rattle.shared_table.specs.Seated.{acts, opening_of, out, view}
+use Rattle.shared_table.specs.Seated as seated
 use Rattle.actor_laws.specs.Courses.{ComesTo, EndsFrom, IsUnderWay, IsUnderWayFrom}
 use Rattle.actor_laws.specs.KnownStages.{KnownStage, Rests, Stands, Commits, known_stage, known_stage_at}
 use Rattle.tx_engine.proofs.CallLemmas.{stands_at}

@@ -11,8 +11,8 @@ use Rattle.replay_log.specs.Seats as worlds
 use Rattle.replay_log.specs.Seats.{Ended, World}
 use Rattle.seq_model.specs.declared.job.Ask.{Ask}
 use Rattle.actor_laws.specs.KnownStages.{IsMistaken, Rests, Stands, known_stage_at}
-use Rattle.tx_table.specs.Seated.{actor, acts}
-use Rattle.tx_table.specs.declared.seat.Seat.{Seat}
+use Rattle.shared_table.specs.Seated.{actor, acts}
+use Rattle.shared_table.specs.declared.seat.Seat.{Seat}
 use Rattle.tx_turns.specs.Driven.{IsExhausted, aborted_for, seat_in}
 use Rattle.tx_engine.proofs.RequestLemmas.{then_keeps}
 use Rattle.tx_engine.specs.Ready.{standing}

@@ -13,9 +13,9 @@ use Rattle.replay_log.specs.WorldProgress.{AreSmall, most_by}
 use Rattle.actor_laws.proofs.Alike.{alike_same}
 use Rattle.actor_parts.specs.Openings.{AreStripeCounts, IsWithin, blocks_of, world_of}
 use Rattle.actor_parts.proofs.OpeningLemmas.{suits}
-use Rattle.tx_table.specs.declared.table.TxTable.{TxTable}
-use Rattle.tx_table.specs.Seated.{opening_of}
-use Rattle.tx_table.specs.Shown.{IsReached}
+use Rattle.shared_table.specs.declared.table.TxTable.{TxTable}
+use Rattle.shared_table.specs.Seated.{opening_of}
+use Rattle.shared_table.specs.Shown.{IsReached}
 
 module _ {V : Type 0} where
   pub opening_reached : (ns : List ℕ) (clock : ℕ) (s : Contents V) → length ns ≡ length s.held → IsWithin ns clock s

@@ -45,9 +45,9 @@ use Rattle.replay_log.proofs.EventLemmas.{opened_linked, run_linked}
 use Rattle.replay_log.proofs.MixedLemmas.{Told, is_on_word, on_held, pair_of, word_calls}
 use Rattle.replay_log.proofs.SeatLemmas.{Linked, StageOk}
 use Rattle.actor_laws.specs.KnownStages.{Stands, known_stage_at}
-use Rattle.tx_table.specs.declared.seat.Seat.{Seat}
-use Rattle.tx_table.specs.Seated.{actor, acts}
-use Rattle.tx_table.specs.Shown.{IsReached}
+use Rattle.shared_table.specs.declared.seat.Seat.{Seat}
+use Rattle.shared_table.specs.Seated.{actor, acts}
+use Rattle.shared_table.specs.Shown.{IsReached}
 use Rattle.tx_engine.proofs.CallLemmas.{stands_at}
 use Rattle.tx_engine.specs.Ready.{standing}
 use Rattle.tx_engine.specs.Requests.{has_written}

@@ -20,12 +20,12 @@ use Rattle.tx_actor.specs.declared.actor.Stage.TheVariants as stage
 use Rattle.tx_actor.specs.declared.actor.ActorNotice.{ActorNotice}
 use Rattle.tx_actor.specs.declared.actor.ActorNotice.TheVariants as told
 use Rattle.tx_actor.specs.declared.actor.TxActor.{TxActor}
-use Rattle.tx_table.specs.declared.seat.Seat as table
-use Rattle.tx_table.specs.declared.table.TxTable.{TxTable}
-use Rattle.tx_table.specs.Seated.{IsSameSeat, Owns, acts, list_of, opening_of, out, view}
-use Rattle.tx_table.specs.Seated as seated
-use Rattle.tx_table.specs.Shown.{IsReached, looking}
-use Rattle.tx_table.specs.Turns.{asked_all, lone}
+use Rattle.shared_table.specs.declared.seat.Seat as table
+use Rattle.shared_table.specs.declared.table.TxTable.{TxTable}
+use Rattle.shared_table.specs.Seated.{IsSameSeat, Owns, acts, list_of, opening_of, out, view}
+use Rattle.shared_table.specs.Seated as seated
+use Rattle.shared_table.specs.Shown.{IsReached, looking}
+use Rattle.shared_table.specs.Turns.{asked_all, lone}
 use Rattle.actor_laws.specs.KnownStages.{Rests, known_stage}
 use Rattle.tx_engine.proofs.AskLemmas.{asked_still}
 use Rattle.tx_engine.proofs.KindLemmas.{call_without_transaction, commit_without_transaction}

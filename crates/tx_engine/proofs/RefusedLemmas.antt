@@ -40,12 +40,12 @@ use Rattle.tx_actor.specs.declared.actor.ActorNotice.TheVariants as said
 use Rattle.actor_laws.proofs.CourseLemmas.{ends_at}
 use Rattle.actor_laws.proofs.KnownStageLemmas.{steps_move}
 use Rattle.actor_laws.specs.KnownStages.{Ends, KnownStage, StepMoves, known_stage}
-use Rattle.tx_table.specs.Seated as seats
-use Rattle.tx_table.specs.Seated.{view}
-use Rattle.tx_table.specs.Turns.{asked_all, found_at, lone, own, spot, stage_of, took}
-use Rattle.tx_table.specs.declared.view.Turn.{Turn}
-use Rattle.tx_table.specs.declared.seat.Seat as table
-use Rattle.tx_table.proofs.Turned.{found_alike, lone_snoc}
+use Rattle.shared_table.specs.Seated as seats
+use Rattle.shared_table.specs.Seated.{view}
+use Rattle.shared_table.specs.Turns.{asked_all, found_at, lone, own, spot, stage_of, took}
+use Rattle.shared_table.specs.declared.view.Turn.{Turn}
+use Rattle.shared_table.specs.declared.seat.Seat as table
+use Rattle.shared_table.proofs.Turned.{found_alike, lone_snoc}
 use Rattle.tx_turns.proofs.RequestHistoryLemmas.{first_begins}
 use Rattle.tx_turns.specs.Begins.{begins_asked, begins_taken}
 use Rattle.tx_turns.specs.Driven.{HasTold}

@@ -33,11 +33,11 @@ use Rattle.tx_actor.specs.declared.actor.Stage.TheVariants as stage
 use Rattle.tx_actor.specs.declared.actor.ActorNotice.{ActorNotice}
 use Rattle.tx_actor.specs.declared.actor.ActorNotice.TheVariants as told
 use Rattle.tx_actor.specs.declared.actor.TxActor.{TxActor}
-use Rattle.tx_table.specs.declared.seat.Seat as table
-use Rattle.tx_table.specs.declared.table.TxTable.{TxTable}
-use Rattle.tx_table.specs.Seated.{acts, opening_of, out, view}
-use Rattle.tx_table.specs.Seated as seated
-use Rattle.tx_table.specs.declared.view.Turn.{Turn}
+use Rattle.shared_table.specs.declared.seat.Seat as table
+use Rattle.shared_table.specs.declared.table.TxTable.{TxTable}
+use Rattle.shared_table.specs.Seated.{acts, opening_of, out, view}
+use Rattle.shared_table.specs.Seated as seated
+use Rattle.shared_table.specs.declared.view.Turn.{Turn}
 use Rattle.actor_laws.proofs.KnownStageLemmas.{asks_move}
 use Rattle.actor_laws.specs.Courses.{EndsFrom, IsUnderWay, IsUnderWayFrom}
 use Rattle.actor_laws.specs.KnownStages.{AskMoves, KnownStage, Rests, Begins, Stands, Calls, Ends, known_stage, known_stage_at}

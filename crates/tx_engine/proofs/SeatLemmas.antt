@@ -27,11 +27,11 @@ use Rattle.replay_log.specs.Worlds.{gives_up, happens, is_leaving, run, starve_a
 use Rattle.replay_log.proofs.EventLemmas.{opened_linked, run_linked}
 use Rattle.replay_log.proofs.SeatLemmas.{Copy, Linked, StageOk, gates_of}
 use Rattle.actor_laws.specs.KnownStages.{Rests, known_stage_at}
-use Rattle.tx_table.specs.Seated as seated
-use Rattle.tx_table.specs.Seated.{acts, kept, list_of}
-use Rattle.tx_table.specs.Shown.{IsReached, Opens}
-use Rattle.tx_table.specs.Turns.{asked_all, own, stage_of}
-use Rattle.tx_table.specs.declared.seat.Seat as table
+use Rattle.shared_table.specs.Seated as seated
+use Rattle.shared_table.specs.Seated.{acts, kept, list_of}
+use Rattle.shared_table.specs.Shown.{IsReached, Opens}
+use Rattle.shared_table.specs.Turns.{asked_all, own, stage_of}
+use Rattle.shared_table.specs.declared.seat.Seat as table
 use Rattle.tx_turns.proofs.RestLemmas.{IsCalm}
 use Rattle.tx_turns.specs.Driven.{standing}
 use Rattle.tx_engine.specs.Requests.{IsOpen}

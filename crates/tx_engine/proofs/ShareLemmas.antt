@@ -16,11 +16,11 @@ use Rattle.replay_log.specs.Seats.{World, Seat, Stage, Storing, Homing, Releasin
 use Rattle.replay_log.specs.Worlds.{ask_at, happens, starve_at}
 use Rattle.replay_log.specs.WorldTraces.{is_half_done}
 use Rattle.actor_laws.proofs.OneStep.{one_step}
-use Rattle.tx_table.specs.declared.seat.Seat as table
-use Rattle.tx_table.specs.declared.table.TxTable.{TxTable}
-use Rattle.tx_table.specs.Seated.{Owns, acts, kept, list_of, opening_of, out, view}
-use Rattle.tx_table.specs.Seated as seated
-use Rattle.tx_table.specs.Turns.{asked_all}
+use Rattle.shared_table.specs.declared.seat.Seat as table
+use Rattle.shared_table.specs.declared.table.TxTable.{TxTable}
+use Rattle.shared_table.specs.Seated.{Owns, acts, kept, list_of, opening_of, out, view}
+use Rattle.shared_table.specs.Seated as seated
+use Rattle.shared_table.specs.Turns.{asked_all}
 use Rattle.actor_laws.specs.KnownStages.{Rests, known_stage_at}
 use Rattle.tx_turns.proofs.OwnLemmas.{own_gates}
 use Rattle.tx_turns.specs.Ties.{Ties}

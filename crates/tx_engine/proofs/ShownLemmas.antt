@@ -18,15 +18,15 @@ use Rattle.replay_log.specs.Contents.{HaveStripes}
 use Rattle.replay_log.specs.Seats.{Ended, Seat, World}
 use Rattle.replay_log.specs.WorldSerial.{AllSaw, IsSerial, SawAt}
 use Rattle.replay_log.specs.Worlds.{run}
-use Rattle.tx_table.specs.Opening.{Holds, world_at}
-use Rattle.tx_table.specs.Shown.{IsJoined, IsOwn, Opens, Shows, Slot, aborted_by, only_by, total}
-use Rattle.tx_table.specs.Turns.{asked_all, lone, stage_of}
-use Rattle.tx_table.specs.declared.view.Opening.{Opening}
-use Rattle.tx_table.specs.declared.view.Turn.{Turn}
-use Rattle.tx_table.specs.declared.view.SeatKnowledge.{SeatKnowledge}
-use Rattle.tx_table.proofs.Keeps.{asked_events, run_append, run_asked}
-use Rattle.tx_table.proofs.Numbers.{inside, total_part}
-use Rattle.tx_table.proofs.Turned.{asked_alike, asked_calm}
+use Rattle.shared_table.specs.Opening.{Holds, world_at}
+use Rattle.shared_table.specs.Shown.{IsJoined, IsOwn, Opens, Shows, Slot, aborted_by, only_by, total}
+use Rattle.shared_table.specs.Turns.{asked_all, lone, stage_of}
+use Rattle.shared_table.specs.declared.view.Opening.{Opening}
+use Rattle.shared_table.specs.declared.view.Turn.{Turn}
+use Rattle.shared_table.specs.declared.view.SeatKnowledge.{SeatKnowledge}
+use Rattle.shared_table.proofs.Keeps.{asked_events, run_append, run_asked}
+use Rattle.shared_table.proofs.Numbers.{inside, total_part}
+use Rattle.shared_table.proofs.Turned.{asked_alike, asked_calm}
 use Rattle.tx_engine.specs.Records.{AreReceipts, HasAborted, SeesAtOnce, ShowsSeats, only_of, stands_for}
 use Rattle.tx_engine.proofs.SeatLemmas.{SerialLaw}
 use Rattle.tx_engine.proofs.WeightLemmas.{at_most_once, once, total_same, total_swap, weighed, where_same}

@@ -21,13 +21,13 @@ use Rattle.replay_log.specs.WorldTraces.{is_half_done}
 use Rattle.replay_log.specs.Worlds.{run}
 use Rattle.replay_log.proofs.ContentLemmas.{end_above}
 use Rattle.actor_laws.specs.Bases.{ShowsBase}
-use Rattle.tx_table.specs.Opening.{Holds, world_at}
-use Rattle.tx_table.specs.Shown.{HomeOk, IsBaseAt, Opens, Shows, Slot}
-use Rattle.tx_table.specs.Turns.{stage_of}
-use Rattle.tx_table.specs.declared.view.Opening.{Opening}
-use Rattle.tx_table.specs.declared.view.SeatKnowledge.{SeatKnowledge}
-use Rattle.tx_table.proofs.Left.{same_home}
-use Rattle.tx_table.proofs.Numbers.{there}
+use Rattle.shared_table.specs.Opening.{Holds, world_at}
+use Rattle.shared_table.specs.Shown.{HomeOk, IsBaseAt, Opens, Shows, Slot}
+use Rattle.shared_table.specs.Turns.{stage_of}
+use Rattle.shared_table.specs.declared.view.Opening.{Opening}
+use Rattle.shared_table.specs.declared.view.SeatKnowledge.{SeatKnowledge}
+use Rattle.shared_table.proofs.Left.{same_home}
+use Rattle.shared_table.proofs.Numbers.{there}
 use Rattle.tx_engine.specs.Steps.{HasContents, IsSerialBetweenSteps, NoneIsHalfDone}
 use Rattle.tx_engine.proofs.SeatLemmas.{SerialLaw}
 

@@ -12,9 +12,9 @@ use Rattle.seq_model.specs.declared.record.Record.{Record}
 use Rattle.seq_model.specs.declared.job.Ask.{Ask}
 use Rattle.seq_model.specs.declared.causes.LastAbort.{LastAbort}
 use Rattle.seq_model.specs.declared.causes.LastAbort.TheVariants.{NotStarted}
-use Rattle.tx_table.specs.declared.table.TxTable.{TxTable}
-use Rattle.tx_table.specs.Seated.{actor, view}
-use Rattle.tx_table.specs.declared.view.Turn.{Turn}
+use Rattle.shared_table.specs.declared.table.TxTable.{TxTable}
+use Rattle.shared_table.specs.Seated.{actor, view}
+use Rattle.shared_table.specs.declared.view.Turn.{Turn}
 use Rattle.tx_engine.specs.declared.seats.TxSeat.{TxSeat}
 use Rattle.tx_engine.specs.Ready.{IsReady}
 use Rattle.tx_engine.specs.Requests.{KeepsReceipts}

@@ -8,9 +8,9 @@ use Rattle.seq_model.specs.declared.record.Record.{Record}
 use Rattle.seq_model.specs.declared.refusal.Refusal.{Refusal}
 use Rattle.replay_log.specs.Seats.{Ended}
 use Rattle.seq_model.specs.declared.job.Ask.{Ask}
-use Rattle.tx_table.specs.declared.seat.Seat.{Seat}
-use Rattle.tx_table.specs.declared.table.TxTable.{TxTable}
-use Rattle.tx_table.specs.Seated.{actor, opening_of, view}
+use Rattle.shared_table.specs.declared.seat.Seat.{Seat}
+use Rattle.shared_table.specs.declared.table.TxTable.{TxTable}
+use Rattle.shared_table.specs.Seated.{actor, opening_of, view}
 use Rattle.actor_laws.specs.KnownStages.{Rests}
 use Rattle.tx_engine.specs.Ready.{standing}
 use Rattle.tx_engine.specs.Requests.{KeepsReceipts}

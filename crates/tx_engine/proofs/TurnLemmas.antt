@@ -24,10 +24,10 @@ use Rattle.actor_laws.specs.Own.{Alike}
 use Rattle.actor_laws.specs.StepTargets.{Gate, found_gate}
 use Rattle.actor_laws.specs.Steps.{atomic_action}
 use Rattle.actor_laws.proofs.Alike.{alike_same}
-use Rattle.tx_table.specs.Turns.{asked_all, found_at, lone, own, spot, stage_of, took}
-use Rattle.tx_table.specs.declared.view.Turn.{Turn}
-use Rattle.tx_table.proofs.Gates.{tries_spot}
-use Rattle.tx_table.proofs.Turned.{found_alike, lone_snoc}
+use Rattle.shared_table.specs.Turns.{asked_all, found_at, lone, own, spot, stage_of, took}
+use Rattle.shared_table.specs.declared.view.Turn.{Turn}
+use Rattle.shared_table.proofs.Gates.{tries_spot}
+use Rattle.shared_table.proofs.Turned.{found_alike, lone_snoc}
 use Rattle.tx_engine.specs.Tries.{AreVain}
 
 some_pair : (i j k n : ℕ) → ◌≡◌ {A = Option (ℕ × ℕ)} (Some (i, j)) (Some (k, n)) → (i ≡ k) × (j ≡ n)

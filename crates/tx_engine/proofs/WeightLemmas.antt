@@ -9,8 +9,8 @@ use Rattle.std.proofs.lemmas.Bool.{cases_Bool, cond-false, cond-true, cond_both}
 use mathlib.Core.Option.{some}
 use lib.ListN.{get_elem?}
 use Rattle.tx_machine.specs.Content.{has}
-use Rattle.tx_table.specs.Shown.{total}
-use Rattle.tx_table.proofs.Numbers.{total_part}
+use Rattle.shared_table.specs.Shown.{total}
+use Rattle.shared_table.proofs.Numbers.{total_part}
 
 module _ {A : Type 0} where
   pub total_same : (f g : A → ℕ) (l : List A) → ((i : ℕ) (x : A) → get_elem? l i ≡ some x → f x ≡ g x) → total f l ≡ total g l

@@ -13,13 +13,13 @@ use Rattle.replay_log.specs.Seats.{Ended, World}
 use Rattle.replay_log.specs.Worlds.{run}
 use Rattle.actor_laws.specs.Own.{Alike}
 use Rattle.actor_laws.specs.KnownStages.{Stands}
-use Rattle.tx_table.specs.Opening.{Holds}
-use Rattle.tx_table.specs.Seated.{actor, acts, list_of, opening_of, view}
-use Rattle.tx_table.specs.Shown.{Slot}
-use Rattle.tx_table.specs.Turns.{asked_all}
-use Rattle.tx_table.specs.declared.seat.Seat.{Seat}
-use Rattle.tx_table.specs.declared.table.TxTable.{TxTable}
-use Rattle.tx_table.specs.declared.view.SeatKnowledge.{SeatKnowledge}
+use Rattle.shared_table.specs.Opening.{Holds}
+use Rattle.shared_table.specs.Seated.{actor, acts, list_of, opening_of, view}
+use Rattle.shared_table.specs.Shown.{Slot}
+use Rattle.shared_table.specs.Turns.{asked_all}
+use Rattle.shared_table.specs.declared.seat.Seat.{Seat}
+use Rattle.shared_table.specs.declared.table.TxTable.{TxTable}
+use Rattle.shared_table.specs.declared.view.SeatKnowledge.{SeatKnowledge}
 use Rattle.tx_engine.specs.Ready.{standing}
 use Rattle.tx_turns.specs.Driven.{seat_in}
 

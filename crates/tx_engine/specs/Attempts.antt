@@ -11,8 +11,8 @@ use Rattle.replay_log.specs.Seats.{Ended, World}
 use Rattle.seq_model.specs.declared.job.Ask.{Ask}
 use Rattle.seq_model.specs.declared.job.Ask.TheVariants as ask
 use Rattle.seq_model.specs.Programs.{replies_of}
-use Rattle.tx_table.specs.declared.seat.Seat.{Seat}
-use Rattle.tx_table.specs.Seated.{actor, acts, view}
+use Rattle.shared_table.specs.declared.seat.Seat.{Seat}
+use Rattle.shared_table.specs.Seated.{actor, acts, view}
 use Rattle.actor_laws.specs.KnownStages.{IsMistaken, Rests, Stands}
 use Rattle.tx_turns.specs.Begins.{begins_of}
 use Rattle.tx_turns.specs.Driven.{aborted_for}

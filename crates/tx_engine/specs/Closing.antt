@@ -10,10 +10,10 @@ use Rattle.replay_log.specs.declared.base.Base.{Base}
 use Rattle.replay_log.specs.Base.{held_of, shown_of}
 use Rattle.replay_log.specs.WorldSerial.{AreUpTo}
 use Rattle.tx_machine.specs.Cells.{ValueCell}
-use Rattle.tx_table.specs.declared.closed.Closed.{Closed}
-use Rattle.tx_table.specs.Ends.{held_in, homes_of, row_of}
-use Rattle.tx_table.specs.Layout.{address, values_in}
-use Rattle.tx_table.specs.Shown.{total}
+use Rattle.shared_table.specs.declared.closed.Closed.{Closed}
+use Rattle.shared_table.specs.Ends.{held_in, homes_of, row_of}
+use Rattle.shared_table.specs.Layout.{address, values_in}
+use Rattle.shared_table.specs.Shown.{total}
 
 module _ {V : Type 0} where
   abbrev pub clock_of : Closed V → ℕ

@@ -4,11 +4,11 @@ use mathlib.Core.Option.{some}
 use Rattle.seq_model.specs.Contents.{Contents}
 use Rattle.seq_model.specs.declared.event.Shape.{Shape}
 use Rattle.actor_parts.specs.Openings.{blocks_of, world_of}
-use Rattle.tx_table.specs.declared.closed.Closed.{Closed}
-use Rattle.tx_table.specs.declared.table.TxTable.{TxTable}
-use Rattle.tx_table.specs.Ends.{homes_of, row_of}
-use Rattle.tx_table.specs.Seated.{actor, acts, blocks_in, contents_in, locations_in, opening_of, view, words_in}
-use Rattle.tx_table.specs.Shown.{ShowsWorld, both_of, first, left_of, right_of}
+use Rattle.shared_table.specs.declared.closed.Closed.{Closed}
+use Rattle.shared_table.specs.declared.table.TxTable.{TxTable}
+use Rattle.shared_table.specs.Ends.{homes_of, row_of}
+use Rattle.shared_table.specs.Seated.{actor, acts, blocks_in, contents_in, locations_in, opening_of, view, words_in}
+use Rattle.shared_table.specs.Shown.{ShowsWorld, both_of, first, left_of, right_of}
 use Rattle.tx_turns.specs.RequestHistory.{requests_of}
 use Rattle.tx_engine.specs.declared.seats.TxSeat.{TxSeat}
 use Rattle.tx_engine.specs.Closing.{IsLeftBy}

@@ -8,10 +8,10 @@ use Rattle.seq_model.specs.declared.refusal.Refusal.{Refusal}
 use Rattle.seq_model.specs.declared.refusal.Refusal.TheVariants.{NoTransaction}
 use Rattle.replay_log.specs.WorldProgress.{AreSmall}
 use Rattle.tx_actor.specs.declared.actor.TxActor.{TxActor}
-use Rattle.tx_table.specs.declared.seat.Seat.{Seat}
-use Rattle.tx_table.specs.declared.table.TxTable.{TxTable}
-use Rattle.tx_table.specs.Seated.{Owns, blocks_in, list_of, opening_of, out, view}
-use Rattle.tx_table.specs.Shown.{IsReached}
+use Rattle.shared_table.specs.declared.seat.Seat.{Seat}
+use Rattle.shared_table.specs.declared.table.TxTable.{TxTable}
+use Rattle.shared_table.specs.Seated.{Owns, blocks_in, list_of, opening_of, out, view}
+use Rattle.shared_table.specs.Shown.{IsReached}
 use Rattle.tx_turns.specs.Ties.{Ties}
 use Rattle.tx_turns.specs.Own.{HasOwn}
 use Rattle.actor_laws.specs.KnownStages.{Rests}

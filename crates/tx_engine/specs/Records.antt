@@ -11,12 +11,12 @@ use Rattle.replay_log.specs.Seats.{World}
 use Rattle.replay_log.specs.WorldSerial.{AllSaw, IsSerial, SawAt}
 use Rattle.replay_log.specs.Worlds.{run}
 use Rattle.actor_laws.specs.Own.{Alike}
-use Rattle.tx_table.specs.Opening.{world_at}
-use Rattle.tx_table.specs.Shown.{Slot, aborted_by, total}
-use Rattle.tx_table.specs.Turns.{asked_all, lone, stage_of}
-use Rattle.tx_table.specs.declared.view.Opening.{Opening}
-use Rattle.tx_table.specs.declared.view.Turn.{Turn}
-use Rattle.tx_table.specs.declared.view.SeatKnowledge.{SeatKnowledge}
+use Rattle.shared_table.specs.Opening.{world_at}
+use Rattle.shared_table.specs.Shown.{Slot, aborted_by, total}
+use Rattle.shared_table.specs.Turns.{asked_all, lone, stage_of}
+use Rattle.shared_table.specs.declared.view.Opening.{Opening}
+use Rattle.shared_table.specs.declared.view.Turn.{Turn}
+use Rattle.shared_table.specs.declared.view.SeatKnowledge.{SeatKnowledge}
 
 module _ {V : Type 0} where
   -- the actors for which the seat of actor j stands, each with the turns that it has taken: its own, and those whose seats were joined into

@@ -15,10 +15,10 @@ use Rattle.actor_laws.specs.Own.{Alike}
 use Rattle.tx_actor.specs.Running.{notice_of}
 use Rattle.tx_actor.specs.declared.actor.ActorNotice.{ActorNotice}
 use Rattle.tx_actor.specs.declared.actor.ActorNotice.TheVariants.{Answered, Refused}
-use Rattle.tx_table.specs.declared.seat.Seat.{Seat}
-use Rattle.tx_table.specs.Seated.{actor, view}
-use Rattle.tx_table.specs.Turns.{asked_all, lone, stage_of, took}
-use Rattle.tx_table.specs.declared.view.Turn.{Turn}
+use Rattle.shared_table.specs.declared.seat.Seat.{Seat}
+use Rattle.shared_table.specs.Seated.{actor, view}
+use Rattle.shared_table.specs.Turns.{asked_all, lone, stage_of, took}
+use Rattle.shared_table.specs.declared.view.Turn.{Turn}
 use Rattle.tx_turns.specs.Begins.{begins_taken}
 use Rattle.tx_turns.specs.Driven.{IsTurnFrom}
 

@@ -4,8 +4,8 @@ use Rattle.seq_model.specs.declared.event.Event.{Event}
 use Rattle.actor_laws.specs.Own.{Alike}
 use Rattle.replay_log.specs.Seats.{World, actor_of}
 use Rattle.replay_log.specs.Worlds.{run}
-use Rattle.tx_table.specs.Seated.{actor, acts, kept}
-use Rattle.tx_table.specs.declared.seat.Seat.{Seat}
+use Rattle.shared_table.specs.Seated.{actor, acts, kept}
+use Rattle.shared_table.specs.declared.seat.Seat.{Seat}
 
 -- the actor holds no lock and no gate in this world
 pub record HasNothing {V : Type 0} (a : ℕ) (w : World V) : Type 0 where

@@ -16,12 +16,12 @@ use Rattle.replay_log.specs.Seats.{World}
 use Rattle.replay_log.specs.WorldSerial.{IsSerial}
 use Rattle.replay_log.specs.WorldTraces.{is_half_done}
 use Rattle.replay_log.specs.Worlds.{run}
-use Rattle.tx_table.specs.Layout.{address}
-use Rattle.tx_table.specs.Opening.{blocks_at, words_at, world_at}
-use Rattle.tx_table.specs.Shown.{IsBaseAt, Shows, Slot}
-use Rattle.tx_table.specs.Turns.{lone, stage_of}
-use Rattle.tx_table.specs.declared.view.Opening.{Opening}
-use Rattle.tx_table.specs.declared.view.SeatKnowledge.{SeatKnowledge}
+use Rattle.shared_table.specs.Layout.{address}
+use Rattle.shared_table.specs.Opening.{blocks_at, words_at, world_at}
+use Rattle.shared_table.specs.Shown.{IsBaseAt, Shows, Slot}
+use Rattle.shared_table.specs.Turns.{lone, stage_of}
+use Rattle.shared_table.specs.declared.view.Opening.{Opening}
+use Rattle.shared_table.specs.declared.view.SeatKnowledge.{SeatKnowledge}
 
 module _ {V : Type 0} where
   -- no commit of a seat is half done, in the world with its actor alone

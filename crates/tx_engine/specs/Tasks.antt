@@ -4,9 +4,9 @@ use Rattle.std.specs.Vec.{vec_capacity}
 use Rattle.seq_model.specs.declared.call.Reply.{Reply}
 use Rattle.seq_model.specs.declared.record.Record.{Record}
 use Rattle.seq_model.specs.declared.job.Ask.{Ask}
-use Rattle.tx_table.specs.declared.table.TxTable.{TxTable}
-use Rattle.tx_table.specs.Seated.{actor, opening_of, view}
-use Rattle.tx_table.specs.declared.view.Turn.{Turn}
+use Rattle.shared_table.specs.declared.table.TxTable.{TxTable}
+use Rattle.shared_table.specs.Seated.{actor, opening_of, view}
+use Rattle.shared_table.specs.declared.view.Turn.{Turn}
 use Rattle.tx_engine.specs.declared.seats.TxSeat.{TxSeat}
 use Rattle.actor_laws.specs.KnownStages.{Rests}
 use Rattle.tx_engine.specs.Ready.{IsReady, standing}

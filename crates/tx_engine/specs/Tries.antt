@@ -5,10 +5,10 @@ use Rattle.actor_laws.specs.Gates.{Tries}
 use Rattle.replay_log.specs.Seats.{World}
 use Rattle.replay_log.specs.WorldCalls.{gate_tries}
 use Rattle.replay_log.specs.WorldTries.{InVain}
-use Rattle.tx_table.specs.declared.seat.Seat.{Seat}
-use Rattle.tx_table.specs.Seated.{actor, view}
-use Rattle.tx_table.specs.Turns.{asked_all, lone, took}
-use Rattle.tx_table.specs.declared.view.Turn.{Turn}
+use Rattle.shared_table.specs.declared.seat.Seat.{Seat}
+use Rattle.shared_table.specs.Seated.{actor, view}
+use Rattle.shared_table.specs.Turns.{asked_all, lone, took}
+use Rattle.shared_table.specs.declared.view.Turn.{Turn}
 use Rattle.tx_turns.specs.Driven.{IsTurnFrom}
 
 module _ {V : Type 0} where

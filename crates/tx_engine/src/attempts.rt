@@ -2,7 +2,7 @@
 ghost use Rattle.std.specs.Prelude.{◌≡◌, ◌+◌, ◌<◌, IfErr, IfNone, IfOk, IfSome, [], false, length};
 ghost use Rattle.seq_model.specs.declared.limits.TheConstants.{CALL_LIMIT as AsCallLimit};
 ghost use Rattle.seq_model.specs.Places.{IsPlaceIn};
-ghost use Rattle.tx_table.specs.Seated.{acts, opening_of};
+ghost use Rattle.shared_table.specs.Seated.{acts, opening_of};
 ghost use Rattle.actor_laws.specs.KnownStages.{Rests, Stands};
 ghost use Rattle.tx_turns.specs.Begins.{begins_of};
 ghost use Rattle.tx_engine.specs.Ready.{HasBegunSince, IsReady, standing};
@@ -12,7 +12,7 @@ ghost use Rattle.tx_engine.specs.Attempts.{Aborts, AttemptsTo, IsSoFar, IsUnmade
 use crate::pause::Pause;
 use crate::seats::TxSeat;
 use seq_model::{Ask, Job, JobPlace, Record, Refusal, Reply, Value};
-use tx_table::TxTable;
+use shared_table::TxTable;
 
 /// What became of an attempt.
 #[derive(Debug, Drop)]

@@ -1,7 +1,7 @@
 //! The calls of a transaction, on words and on collections.
 ghost use Rattle.std.specs.Prelude.{◌≡◌, [], ◌∷◌, ◌++◌, IfErr, IfOk, None, OnErr, OnOk, true};
 ghost use Rattle.replay_log.specs.WorldAnswers.{IsAdmitted};
-ghost use Rattle.tx_table.specs.Seated.{actor as actor_of, acts, opening_of};
+ghost use Rattle.shared_table.specs.Seated.{actor as actor_of, acts, opening_of};
 ghost use Rattle.actor_laws.specs.KnownStages.{Rests};
 ghost use Rattle.tx_turns.specs.RequestStep.{Answers, HasAsked};
 ghost use Rattle.tx_turns.specs.Begins.{begins_of};
@@ -16,9 +16,9 @@ use crate::seats::TxSeat;
 use actor_parts::Boxed;
 use replay_log::Base;
 use seq_model::{Answer, Call, Refusal, Reply, Request, Value};
+use shared_table::{Seat, TxTable};
 use std::alloc::Global;
 use tx_actor::{ActorNotice, TxActor};
-use tx_table::{Seat, TxTable};
 use tx_turns::{ask, drive_call};
 
 /// The result of a call that is answered so.

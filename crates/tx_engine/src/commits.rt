@@ -1,6 +1,6 @@
 //! The commit of a transaction.
 ghost use Rattle.std.specs.Prelude.{◌≡◌, MatchResult, None, Some};
-ghost use Rattle.tx_table.specs.Seated.{opening_of};
+ghost use Rattle.shared_table.specs.Seated.{opening_of};
 ghost use Rattle.tx_turns.specs.Begins.{begins_of};
 ghost use Rattle.tx_engine.specs.Ready.{CanDrive};
 ghost use Rattle.tx_engine.specs.Requests.{CommitsTo, HasAskedFor, IsCommitTold, IsOpen};
@@ -9,9 +9,9 @@ use crate::calls::ask_open;
 use actor_parts::Boxed;
 use replay_log::Base;
 use seq_model::{Record, Refusal, Request, Value};
+use shared_table::{Seat, TxTable};
 use std::alloc::Global;
 use tx_actor::{ActorNotice, TxActor};
-use tx_table::{Seat, TxTable};
 use tx_turns::drive_commit;
 
 /// The result of a commit that is answered so, with this receipt.

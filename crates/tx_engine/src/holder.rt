@@ -2,14 +2,14 @@
 ghost use Rattle.std.specs.Prelude.{◌≡◌, ◌≢◌, ◌<◌, ◌≤◌, IfErr, IfOk, IsOk, length};
 ghost use Rattle.seq_model.specs.Refusals.{IsNoSuchOrTooLong};
 ghost use Rattle.actor_parts.specs.Openings.{IsWithin};
-ghost use Rattle.tx_table.specs.Seated.{view};
+ghost use Rattle.shared_table.specs.Seated.{view};
 ghost use Rattle.tx_engine.specs.Holder.{Closes, Joins, Opens, Splits};
 ghost use Rattle.tx_engine.specs.Ready.{IsReady};
 
 use crate::seats::TxSeat;
 use seq_model::{Memory, Refusal, Shape, State, Value};
+use shared_table::{Closed, HoldsSeat, SHARES, TxTable};
 use std::alloc::Global;
-use tx_table::{Closed, HoldsSeat, SHARES, TxTable};
 
 impl<V: Value> HoldsSeat<V> for TxSeat<V> {
     ghost ready = { λ t s. IsReady t s };

@@ -1,6 +1,6 @@
 //! Requests of a transaction: one that begins, and one that ends without a commit.
 ghost use Rattle.std.specs.Prelude.{◌≡◌, ◌+◌, [], ◌∷◌, ◌++◌, IfErr, IfOk, None, false, true};
-ghost use Rattle.tx_table.specs.Seated.{opening_of};
+ghost use Rattle.shared_table.specs.Seated.{opening_of};
 ghost use Rattle.actor_laws.specs.KnownStages.{Rests};
 ghost use Rattle.tx_turns.specs.Begins.{begins_of};
 ghost use Rattle.tx_turns.specs.Driven.{is_declared, standing};
@@ -12,9 +12,9 @@ ghost use Rattle.tx_engine.specs.Requests.{HasSameAborted, begin_of};
 use actor_parts::Boxed;
 use replay_log::Base;
 use seq_model::{Answer, Refusal, Request, Value};
+use shared_table::{Seat, TxTable};
 use std::alloc::Global;
 use tx_actor::{ActorNotice, Stage, TxActor};
-use tx_table::{Seat, TxTable};
 use tx_turns::{ask_abort, ask_begin, ask_begin_read, drive, drive_begin};
 
 /// The result of a begin that is answered so.

@@ -2,7 +2,7 @@
 ghost use Rattle.std.specs.Prelude.{◌≡◌, ◌≢◌, ◌+◌, ◌<◌, ◌≤◌, [], ◌∷◌, ◌++◌, IfErr, IfOk, MatchBool, None, OnErr, OnOk, false, max, true};
 ghost use Rattle.seq_model.specs.declared.call.Op.TheVariants as op;
 ghost use Rattle.seq_model.specs.declared.refusal.Refusal.TheVariants.{Ahead};
-ghost use Rattle.tx_table.specs.Seated.{opening_of, view};
+ghost use Rattle.shared_table.specs.Seated.{opening_of, view};
 ghost use Rattle.actor_laws.specs.KnownStages.{Rests};
 ghost use Rattle.tx_turns.specs.Begins.{begins_of};
 ghost use Rattle.tx_turns.specs.Driven.{is_declared, standing};
@@ -15,9 +15,9 @@ use crate::reply_room::ReplyRoom;
 use actor_parts::Boxed;
 use replay_log::Base;
 use seq_model::{Call, Op, Record, Refusal, Reply, Request, Value};
+use shared_table::{Seat, TxTable};
 use std::alloc::Global;
 use tx_actor::{Stage, TxActor};
-use tx_table::{Seat, TxTable};
 
 /// A seat of a table, with the actor that runs its transactions there, one at a time. Their requests are made by a [`crate::Tx`].
 pub struct TxSeat<V> {

@@ -3,17 +3,17 @@ ghost use Rattle.std.specs.Prelude.{◌≡◌, ◌≢◌, ◌<◌, ◌≤◌, []
 ghost use mathlib.Core.Option.{some};
 ghost use Rattle.seq_model.specs.Refusals.{IsNoSuchOrTooLong};
 ghost use Rattle.actor_parts.specs.Openings.{IsWithin, blocks_of, world_of};
-ghost use Rattle.tx_table.specs.Ends.{homes_of, row_of};
-ghost use Rattle.tx_table.specs.Seated.{actor, acts, blocks_in, contents_in, locations_in, opening_of, view, words_in};
-ghost use Rattle.tx_table.specs.Shown.{ShowsWorld, both_of, first as first_view, left_of, right_of};
+ghost use Rattle.shared_table.specs.Ends.{homes_of, row_of};
+ghost use Rattle.shared_table.specs.Seated.{actor, acts, blocks_in, contents_in, locations_in, opening_of, view, words_in};
+ghost use Rattle.shared_table.specs.Shown.{ShowsWorld, both_of, first as first_view, left_of, right_of};
 ghost use Rattle.tx_turns.specs.RequestHistory.{requests_of};
 ghost use Rattle.tx_engine.specs.Closing.{IsLeftBy};
 ghost use Rattle.tx_engine.specs.Ready.{IsReady};
 
 use crate::seats::TxSeat;
 use seq_model::{Memory, Refusal, Shape, State, Value};
+use shared_table::{Closed, SHARES, Seat, TxTable};
 use std::alloc::Global;
-use tx_table::{Closed, SHARES, Seat, TxTable};
 
 impl<V: Value> TxSeat<V> {
     /// A table that opens with these words and collections, and with this clock, and its first seat, which has all 64 shares. It is refused

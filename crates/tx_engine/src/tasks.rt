@@ -1,6 +1,6 @@
 //! A worker's list of jobs.
 ghost use Rattle.std.specs.Prelude.{◌≡◌, ◌<◌, ◌≤◌, ◌+◌, ◌++◌, ◌∷◌, [], IfOk, length};
-ghost use Rattle.tx_table.specs.Seated.{actor, view};
+ghost use Rattle.shared_table.specs.Seated.{actor, view};
 ghost use Rattle.tx_engine.specs.Ready.{IsReady};
 ghost use Rattle.tx_engine.specs.Tasks.{Gains, GetsJoined, HasRoom, IsDone, IsFreshTask, IsLeft, IsSameTask, missed_in, receipts_in};
 
@@ -9,8 +9,8 @@ use crate::priority::{Priority, Waiting};
 use crate::seats::TxSeat;
 use crate::tries::retry_in;
 use seq_model::{Job, LastAbort, Memory, Record, Value};
+use shared_table::TxTable;
 use std::alloc::Global;
-use tx_table::TxTable;
 
 /// A worker's number and its jobs, with room for what comes of them.
 #[derive(Drop)]

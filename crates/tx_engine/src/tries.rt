@@ -1,6 +1,6 @@
 //! Attempts of a job, up to a receipt.
 ghost use Rattle.std.specs.Prelude.{◌≡◌, ◌≤◌, ◌↔◌, IfErr, IfOk, IsTrue};
-ghost use Rattle.tx_table.specs.Seated.{opening_of};
+ghost use Rattle.shared_table.specs.Seated.{opening_of};
 ghost use Rattle.actor_laws.specs.KnownStages.{Rests};
 ghost use Rattle.tx_engine.specs.Ready.{IsReady, standing};
 ghost use Rattle.tx_engine.specs.Retries.{HasReceipt, HasNoReceipt, IsTransient};
@@ -10,9 +10,9 @@ use crate::pause::Pause;
 use crate::priority::{Priority, Waiting};
 use crate::seats::TxSeat;
 use seq_model::{Job, LastAbort, Record, Refusal, Value};
+use shared_table::TxTable;
 use std::hint::spin_loop;
 use std::thread::yield_now;
-use tx_table::TxTable;
 
 /// After so many attempts a worker yields where it spun before.
 const SPINS: u64 = 10;

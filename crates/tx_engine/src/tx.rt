@@ -3,7 +3,7 @@ ghost use Rattle.std.specs.Prelude.{◌≡◌, ◌<◌, IfErr, IfOk, OnErr, OnOk
 ghost use Rattle.std.specs.Borrow.{RestsIfErr, sem};
 ghost use Rattle.seq_model.specs.declared.call.Op.TheVariants as op;
 ghost use Rattle.seq_model.specs.declared.refusal.Refusal.TheVariants.{Ahead};
-ghost use Rattle.tx_table.specs.Seated.{opening_of, view};
+ghost use Rattle.shared_table.specs.Seated.{opening_of, view};
 ghost use Rattle.tx_engine.specs.contracts.seats.TxSeat.{the_row};
 ghost use Rattle.tx_engine.specs.Borrowed.{IsAborted, IsBegunSince, IsRefusedBegin};
 ghost use Rattle.tx_turns.specs.Driven.{standing};
@@ -12,7 +12,7 @@ ghost use Rattle.tx_engine.specs.Requests.{KeepsReceipts, OnlyKnows};
 
 use crate::seats::TxSeat;
 use seq_model::{Call, Op, Record, Refusal, Reply, Request, Value};
-use tx_table::TxTable;
+use shared_table::TxTable;
 
 /// What a commit gives: the record of its transaction, which is called so where it stands among others.
 pub type Receipt<V> = Record<V>;

@@ -1,6 +1,6 @@
 //! Attempts without a pause.
 ghost use Rattle.std.specs.Prelude.{◌≡◌};
-ghost use Rattle.tx_table.specs.Seated.{opening_of};
+ghost use Rattle.shared_table.specs.Seated.{opening_of};
 ghost use Rattle.actor_laws.specs.KnownStages.{Rests};
 ghost use Rattle.tx_engine.specs.Ready.{IsReady, standing};
 ghost use Rattle.tx_engine.specs.Attempts.{AttemptsTo};
@@ -9,7 +9,7 @@ use crate::attempts::{Attempt, attempt_with};
 use crate::pause::NoPause;
 use crate::seats::TxSeat;
 use seq_model::{Job, Refusal, Value};
-use tx_table::TxTable;
+use shared_table::TxTable;
 
 /// One attempt of a job, by a transaction that may write, as `attempt_with` makes it, and by a worker that is held nowhere.
 pub fn attempt<V: Value, J: Job<V>>(

@@ -36,10 +36,10 @@ use Rattle.tx_actor.proofs.GatesLemmas.{gates_as, none_has}
 use Rattle.tx_actor.proofs.OwnLemmas.{AllLaw, Apart, BlocksLaw, CallsReached, OthersLaw, ask_runs, can_call, may_call, open_or}
 use Rattle.tx_actor.proofs.OwnLemmas.{refused_ask}
 use Rattle.tx_actor.proofs.SeatLemmas.{runs_stand}
-use Rattle.tx_table.specs.declared.seat.Seat as table
-use Rattle.tx_table.specs.declared.table.TxTable.{TxTable}
-use Rattle.tx_table.specs.Seated as seated
-use Rattle.tx_table.specs.Seated.{acts, opening_of}
+use Rattle.shared_table.specs.declared.seat.Seat as table
+use Rattle.shared_table.specs.declared.table.TxTable.{TxTable}
+use Rattle.shared_table.specs.Seated as seated
+use Rattle.shared_table.specs.Seated.{acts, opening_of}
 use Rattle.tx_turns.proofs.OwnLemmas.{own_gates}
 use Rattle.tx_turns.specs.RequestStep.{Answers, HasAsked}
 use Rattle.tx_turns.specs.Ties.{Ties, laid_in}

@@ -32,11 +32,11 @@ use Rattle.actor_parts.specs.declared.next.Next.TheVariants as next
 use Rattle.tx_actor.proofs.GatesLemmas.{has_first}
 use Rattle.tx_actor.specs.declared.actor.Stage as own
 use Rattle.tx_actor.specs.declared.actor.Stage.TheVariants as stage
-use Rattle.tx_table.specs.Turns.{editions_found, found_at, moved, parts_found, spot}
-use Rattle.tx_table.specs.Shown.{OneBase, Slot}
-use Rattle.tx_table.proofs.Gates.{found_base, none_base}
-use Rattle.tx_table.proofs.Keeps.{base_trans, keeps_base}
-use Rattle.tx_table.proofs.Turned.{found_alike}
+use Rattle.shared_table.specs.Turns.{editions_found, found_at, moved, parts_found, spot}
+use Rattle.shared_table.specs.Shown.{OneBase, Slot}
+use Rattle.shared_table.proofs.Gates.{found_base, none_base}
+use Rattle.shared_table.proofs.Keeps.{base_trans, keeps_base}
+use Rattle.shared_table.proofs.Turned.{found_alike}
 use Rattle.tx_turns.specs.Bases.{AreBases, ArePrepared, ArePreparedAt, IsBaseIn, gates_at, slots_of}
 
 -- ---- lists

@@ -26,9 +26,9 @@ use Rattle.tx_actor.specs.declared.actor.Stage.TheVariants as stage
 use Rattle.tx_actor.specs.declared.actor.ActorNotice.{ActorNotice}
 use Rattle.tx_actor.specs.declared.actor.TxActor.{TxActor}
 use Rattle.tx_actor.proofs.StepLemmas.{running_moved}
-use Rattle.tx_table.specs.declared.seat.Seat.{Seat}
-use Rattle.tx_table.specs.declared.table.TxTable.{TxTable}
-use Rattle.tx_table.specs.Seated.{Loads, Takes, acts, actor, blocks_in, opening_of, out, view}
+use Rattle.shared_table.specs.declared.seat.Seat.{Seat}
+use Rattle.shared_table.specs.declared.table.TxTable.{TxTable}
+use Rattle.shared_table.specs.Seated.{Loads, Takes, acts, actor, blocks_in, opening_of, out, view}
 use Rattle.tx_turns.proofs.NextStepLemmas.{at_place, learns_at}
 use Rattle.tx_turns.specs.declared.due.NextStep.TheVariants as due
 use Rattle.tx_turns.proofs.TurnLemmas.{word_is_next}

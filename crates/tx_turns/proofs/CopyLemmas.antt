@@ -43,14 +43,14 @@ use Rattle.tx_actor.proofs.CopyLemmas.{rests_to_copy}
 use Rattle.tx_actor.proofs.GatesLemmas.{gates_as, has_first, starved_gates, step_copy_gates}
 use Rattle.tx_actor.proofs.OwnLemmas.{BlocksLaw, OthersLaw}
 use Rattle.tx_actor.proofs.SeatLemmas.{runs_stand}
-use Rattle.tx_table.specs.declared.seat.Seat as table
-use Rattle.tx_table.specs.declared.table.TxTable.{TxTable}
-use Rattle.tx_table.specs.declared.view.SeatKnowledge.{SeatKnowledge}
-use Rattle.tx_table.specs.Shown.{SameBases, Slot}
-use Rattle.tx_table.specs.Seated as seated
-use Rattle.tx_table.specs.Seated.{Takes, acts, opening_of, out, view}
-use Rattle.tx_table.specs.Turns.{moved}
-use Rattle.tx_table.proofs.Gates.{puts_spot}
+use Rattle.shared_table.specs.declared.seat.Seat as table
+use Rattle.shared_table.specs.declared.table.TxTable.{TxTable}
+use Rattle.shared_table.specs.declared.view.SeatKnowledge.{SeatKnowledge}
+use Rattle.shared_table.specs.Shown.{SameBases, Slot}
+use Rattle.shared_table.specs.Seated as seated
+use Rattle.shared_table.specs.Seated.{Takes, acts, opening_of, out, view}
+use Rattle.shared_table.specs.Turns.{moved}
+use Rattle.shared_table.proofs.Gates.{puts_spot}
 use Rattle.tx_turns.specs.RequestStep.{HasTaken as HasHeard}
 use Rattle.tx_turns.specs.Ties.{IsOnWord, Ties, Turned, commits_at, laid_in}
 use Rattle.tx_turns.proofs.LoneRequestLemmas.{acts_taken, seat_tied}

@@ -28,14 +28,14 @@ use Rattle.tx_actor.specs.Running.{notice_of}
 use Rattle.tx_actor.specs.declared.actor.ActorNotice.{ActorNotice}
 use Rattle.tx_actor.specs.declared.actor.ActorNotice.TheVariants as told
 use Rattle.tx_actor.specs.declared.actor.TxActor.{TxActor}
-use Rattle.tx_table.specs.declared.seat.Seat as table
-use Rattle.tx_table.specs.declared.table.TxTable.{TxTable}
-use Rattle.tx_table.specs.declared.view.SeatKnowledge.{SeatKnowledge}
-use Rattle.tx_table.specs.Opening.{blocks_at}
-use Rattle.tx_table.specs.Seated.{acts, list_of, opening_of, view}
-use Rattle.tx_table.specs.Seated as seated
-use Rattle.tx_table.specs.Turns.{asked_all, ends_of, lone, moved}
-use Rattle.tx_table.specs.declared.view.Turn.{Turn}
+use Rattle.shared_table.specs.declared.seat.Seat as table
+use Rattle.shared_table.specs.declared.table.TxTable.{TxTable}
+use Rattle.shared_table.specs.declared.view.SeatKnowledge.{SeatKnowledge}
+use Rattle.shared_table.specs.Opening.{blocks_at}
+use Rattle.shared_table.specs.Seated.{acts, list_of, opening_of, view}
+use Rattle.shared_table.specs.Seated as seated
+use Rattle.shared_table.specs.Turns.{asked_all, ends_of, lone, moved}
+use Rattle.shared_table.specs.declared.view.Turn.{Turn}
 use Rattle.actor_laws.proofs.CourseLemmas.{on_call, on_commit, on_done, steps_come, ends_at}
 use Rattle.actor_laws.proofs.KnownStageLemmas.{steps_move}
 use Rattle.actor_laws.specs.Courses.{ComesTo, IsUnderWay, IsUnderWayFrom, latest}

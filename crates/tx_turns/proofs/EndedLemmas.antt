@@ -18,8 +18,8 @@ use Rattle.replay_log.specs.Worlds.{word_notice}
 use Rattle.replay_log.specs.declared.base.Base.{Base}
 use Rattle.actor_laws.proofs.Alike.{alike_same}
 use Rattle.actor_laws.specs.KnownStages.{Begins, Calls, Commits, Committed, Ends, KnownStage, Rests, Stands, StepMoves, known_stage}
-use Rattle.tx_table.specs.Turns.{found_at, moved, spot, stage_of}
-use Rattle.tx_table.proofs.Turned.{aborted_grow, found_alike, planted_notes}
+use Rattle.shared_table.specs.Turns.{found_at, moved, spot, stage_of}
+use Rattle.shared_table.proofs.Turned.{aborted_grow, found_alike, planted_notes}
 
 module _ {V : Type 0} where
   -- ---- what is answered as a transaction ends

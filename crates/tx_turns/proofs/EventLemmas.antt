@@ -28,13 +28,13 @@ use Rattle.tx_actor.specs.CopiesAfterEvent.{StarvesKeep}
 use Rattle.tx_actor.proofs.GatesLemmas.{gates_as, starved_gates}
 use Rattle.tx_actor.proofs.OwnLemmas.{OthersLaw, copies_stand}
 use Rattle.tx_actor.proofs.SeatLemmas.{runs_stand, seat_by, stage_by}
-use Rattle.tx_table.specs.declared.seat.Seat as table
-use Rattle.tx_table.specs.declared.table.TxTable.{TxTable}
-use Rattle.tx_table.specs.declared.view.SeatKnowledge.{SeatKnowledge}
-use Rattle.tx_table.specs.Shown.{Slot}
-use Rattle.tx_table.specs.Seated as seated
-use Rattle.tx_table.specs.Seated.{acts, opening_of, out}
-use Rattle.tx_table.proofs.Keeps.{calm_base}
+use Rattle.shared_table.specs.declared.seat.Seat as table
+use Rattle.shared_table.specs.declared.table.TxTable.{TxTable}
+use Rattle.shared_table.specs.declared.view.SeatKnowledge.{SeatKnowledge}
+use Rattle.shared_table.specs.Shown.{Slot}
+use Rattle.shared_table.specs.Seated as seated
+use Rattle.shared_table.specs.Seated.{acts, opening_of, out}
+use Rattle.shared_table.proofs.Keeps.{calm_base}
 use Rattle.tx_turns.specs.RequestStep.{HasTaken, Starved}
 use Rattle.tx_turns.specs.Ties.{Ties}
 use Rattle.tx_turns.specs.Bases.{AreBases, ArePrepared, ArePreparedAt, gates_at, slots_of}

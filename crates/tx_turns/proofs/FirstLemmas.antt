@@ -42,14 +42,14 @@ use Rattle.tx_actor.specs.declared.actor.Stage.TheVariants as stage
 use Rattle.tx_actor.specs.declared.actor.ActorNotice.{ActorNotice}
 use Rattle.tx_actor.specs.declared.actor.TxActor.{TxActor}
 use Rattle.tx_actor.specs.ActorBounds.{IsRunning, KeepsIn}
-use Rattle.tx_table.specs.declared.seat.Seat as table
-use Rattle.tx_table.specs.declared.table.TxTable.{TxTable}
-use Rattle.tx_table.specs.declared.view.Opening.{Opening}
-use Rattle.tx_table.specs.Opening.{blocks_at, world_at}
-use Rattle.tx_table.specs.Seated.{acts, opening_of}
-use Rattle.tx_table.specs.Seated as seated
-use Rattle.tx_table.specs.Shown.{IsReached}
-use Rattle.tx_table.specs.Turns.{found_at, spot}
+use Rattle.shared_table.specs.declared.seat.Seat as table
+use Rattle.shared_table.specs.declared.table.TxTable.{TxTable}
+use Rattle.shared_table.specs.declared.view.Opening.{Opening}
+use Rattle.shared_table.specs.Opening.{blocks_at, world_at}
+use Rattle.shared_table.specs.Seated.{acts, opening_of}
+use Rattle.shared_table.specs.Seated as seated
+use Rattle.shared_table.specs.Shown.{IsReached}
+use Rattle.shared_table.specs.Turns.{found_at, spot}
 use Rattle.tx_turns.proofs.OwnLemmas.{own_writes}
 use Rattle.tx_turns.specs.NextStep.{IsDeed}
 use Rattle.tx_turns.specs.Touches.{Finds, IsNext, StepsWords}

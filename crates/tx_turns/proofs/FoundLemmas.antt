@@ -32,7 +32,7 @@ use Rattle.tx_actor.specs.Running.{KnowsHomes, Runs}
 use Rattle.tx_actor.specs.declared.actor.Stage as own
 use Rattle.tx_actor.specs.declared.actor.Stage.TheVariants as stage
 use Rattle.tx_actor.specs.declared.actor.TxActor.{TxActor}
-use Rattle.tx_table.specs.Turns.{found_at}
+use Rattle.shared_table.specs.Turns.{found_at}
 use Rattle.tx_turns.specs.NextStep.{IsDeed}
 use Rattle.tx_turns.specs.Touches.{Finds}
 use Rattle.tx_turns.specs.declared.due.NextStep.{NextStep}

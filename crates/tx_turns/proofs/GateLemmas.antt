@@ -40,15 +40,15 @@ use Rattle.tx_actor.proofs.GatesLemmas.{gates_in, put_gates, step_put_gates, ste
 use Rattle.tx_actor.proofs.OwnLemmas.{OthersLaw}
 use Rattle.tx_actor.proofs.SeatLemmas.{next_as}
 use Rattle.tx_actor.proofs.StepLemmas.{due_as, due_put, due_try, put_runs, quiet_put, quiet_try, same_action, try_runs}
-use Rattle.tx_table.specs.declared.seat.Seat as table
-use Rattle.tx_table.specs.declared.table.TxTable.{TxTable}
-use Rattle.tx_table.specs.Shown.{IsBaseAt, OneBase, Slot}
-use Rattle.tx_table.specs.Seated as seated
-use Rattle.tx_table.specs.Seated.{IsHome, Takes, acts, blocks_in, opening_of, out, view}
-use Rattle.tx_table.specs.Turns.{found_at, moved, spot}
-use Rattle.tx_table.proofs.Gates.{none_base, puts_spot, tries_spot}
-use Rattle.tx_table.proofs.Keeps.{base_trans}
-use Rattle.tx_table.proofs.Turned.{found_alike}
+use Rattle.shared_table.specs.declared.seat.Seat as table
+use Rattle.shared_table.specs.declared.table.TxTable.{TxTable}
+use Rattle.shared_table.specs.Shown.{IsBaseAt, OneBase, Slot}
+use Rattle.shared_table.specs.Seated as seated
+use Rattle.shared_table.specs.Seated.{IsHome, Takes, acts, blocks_in, opening_of, out, view}
+use Rattle.shared_table.specs.Turns.{found_at, moved, spot}
+use Rattle.shared_table.proofs.Gates.{none_base, puts_spot, tries_spot}
+use Rattle.shared_table.proofs.Keeps.{base_trans}
+use Rattle.shared_table.proofs.Turned.{found_alike}
 use Rattle.tx_turns.specs.Ties.{IsOnWord, Ties, Turned, laid_in}
 use Rattle.tx_turns.proofs.TurnLemmas.{tied, turned_by}
 use Rattle.tx_turns.specs.Bases.{AreBases, IsBaseIn, gates_at, slots_of}

@@ -25,12 +25,12 @@ use Rattle.tx_actor.specs.Running.{notice_of, stage_of}
 use Rattle.tx_actor.specs.declared.actor.ActorNotice.{ActorNotice}
 use Rattle.tx_actor.specs.declared.actor.ActorNotice.TheVariants as told
 use Rattle.actor_laws.proofs.OneStep.{one_step}
-use Rattle.tx_table.specs.declared.seat.Seat as table
+use Rattle.shared_table.specs.declared.seat.Seat as table
 use Rattle.tx_actor.specs.declared.actor.TxActor.{TxActor}
-use Rattle.tx_table.specs.declared.table.TxTable.{TxTable}
-use Rattle.tx_table.specs.declared.view.Turn.{Turn}
-use Rattle.tx_table.specs.Seated.{acts, opening_of, view}
-use Rattle.tx_table.specs.Seated as seated
+use Rattle.shared_table.specs.declared.table.TxTable.{TxTable}
+use Rattle.shared_table.specs.declared.view.Turn.{Turn}
+use Rattle.shared_table.specs.Seated.{acts, opening_of, view}
+use Rattle.shared_table.specs.Seated as seated
 use Rattle.actor_laws.specs.Courses.{ComesTo, EndsFrom, IsUnderWay, IsUnderWayFrom}
 use Rattle.actor_laws.specs.KnownStages.{KnownStage, Rests, Begins, Stands, Calls, Commits, Committed, Ends, known_stage, known_stage_at}
 use Rattle.tx_turns.specs.RequestStep.{Starved}

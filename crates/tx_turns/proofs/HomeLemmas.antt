@@ -48,11 +48,11 @@ use Rattle.tx_actor.proofs.NameLemmas.{named_home}
 use Rattle.tx_actor.proofs.OwnLemmas.{OthersLaw, StaysLaw, StepsLaw, reached_stays, refused_store}
 use Rattle.tx_actor.proofs.SeatLemmas.{stage_by}
 use Rattle.tx_actor.proofs.StepLemmas.{GoesOn}
-use Rattle.tx_table.specs.declared.seat.Seat as table
-use Rattle.tx_table.specs.declared.table.TxTable.{TxTable}
-use Rattle.tx_table.specs.Seated as seated
-use Rattle.tx_table.specs.Seated.{IsHome, Takes, acts, blocks_in, opening_of, out, view}
-use Rattle.tx_table.proofs.Gates.{home_spot}
+use Rattle.shared_table.specs.declared.seat.Seat as table
+use Rattle.shared_table.specs.declared.table.TxTable.{TxTable}
+use Rattle.shared_table.specs.Seated as seated
+use Rattle.shared_table.specs.Seated.{IsHome, Takes, acts, blocks_in, opening_of, out, view}
+use Rattle.shared_table.proofs.Gates.{home_spot}
 use Rattle.tx_turns.specs.Ties.{IsOnWord, Ties, Turned, laid_in}
 use Rattle.tx_turns.specs.Bases.{AreAlike, AreBases, ArePrepared, ArePreparedAt, IsAlike, IsBaseIn, IsPrepared, OneIsPrepared, gates_at}
 use Rattle.tx_turns.specs.Bases.{slots_of}

@@ -47,10 +47,10 @@ use Rattle.tx_actor.specs.declared.taking.KeyedCall.{KeyedCall}
 use Rattle.tx_actor.specs.declared.taking.WaitingCall.{WaitingCall}
 use Rattle.tx_actor.proofs.OwnLemmas.{OthersLaw}
 use Rattle.tx_actor.proofs.OwnCopyLemmas.{can_at}
-use Rattle.tx_table.specs.declared.seat.Seat.{Seat}
-use Rattle.tx_table.specs.declared.table.TxTable.{TxTable}
-use Rattle.tx_table.specs.Shown.{IsBaseAt}
-use Rattle.tx_table.specs.Seated.{Stepped, Takes, actor, blocks_in, opening_of, out, view}
+use Rattle.shared_table.specs.declared.seat.Seat.{Seat}
+use Rattle.shared_table.specs.declared.table.TxTable.{TxTable}
+use Rattle.shared_table.specs.Shown.{IsBaseAt}
+use Rattle.shared_table.specs.Seated.{Stepped, Takes, actor, blocks_in, opening_of, out, view}
 use Rattle.tx_turns.specs.RequestStep.{HasTaken as HasHeardOf, Starved}
 use Rattle.tx_turns.specs.Own.{HasOwn}
 use Rattle.tx_turns.specs.Straight.{HasDriven, HasLed, HasPut, HasStopped, LeadsAll, at_place}

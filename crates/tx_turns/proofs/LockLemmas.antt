@@ -40,10 +40,10 @@ use Rattle.tx_actor.specs.declared.actor.ActorNotice.{ActorNotice}
 use Rattle.tx_actor.specs.declared.actor.ActorNotice.TheVariants as told
 use Rattle.tx_actor.specs.declared.actor.TxActor.{TxActor}
 use Rattle.tx_actor.proofs.StepLemmas.{running_moved}
-use Rattle.tx_table.specs.declared.seat.Seat.{Seat}
-use Rattle.tx_table.specs.declared.table.TxTable.{TxTable}
-use Rattle.tx_table.specs.Seated.{Adds, Exchanges, Loads, Stepped, Takes, acts, actor, blocks_in, opening_of, out, view}
-use Rattle.tx_table.specs.Shown.{highest_clock}
+use Rattle.shared_table.specs.declared.seat.Seat.{Seat}
+use Rattle.shared_table.specs.declared.table.TxTable.{TxTable}
+use Rattle.shared_table.specs.Seated.{Adds, Exchanges, Loads, Stepped, Takes, acts, actor, blocks_in, opening_of, out, view}
+use Rattle.shared_table.specs.Shown.{highest_clock}
 use Rattle.tx_turns.proofs.NextStepLemmas.{learns_lock, learns_lost, learns_stamp, learns_taken, lock_is, stamp_is}
 use Rattle.tx_turns.specs.Touches.{StepsWords}
 use Rattle.tx_turns.specs.declared.due.NextStep.TheVariants as due

@@ -27,16 +27,16 @@ use Rattle.tx_actor.specs.declared.actor.Stage as own
 use Rattle.tx_actor.specs.declared.actor.Stage.TheVariants as stage
 use Rattle.tx_actor.specs.declared.actor.ActorNotice.{ActorNotice}
 use Rattle.tx_actor.specs.declared.actor.TxActor.{TxActor}
-use Rattle.tx_table.specs.declared.seat.Seat as table
-use Rattle.tx_table.specs.declared.table.TxTable.{TxTable}
-use Rattle.tx_table.specs.Opening.{blocks_at, world_at}
-use Rattle.tx_table.specs.Seated.{Owns, acts, opening_of, view}
-use Rattle.tx_table.specs.Seated as seated
-use Rattle.tx_table.specs.Shown.{IsReached, SameBases, highest_clock}
-use Rattle.tx_table.proofs.Keeps.{asked_bases}
-use Rattle.tx_table.specs.declared.view.SeatKnowledge.{SeatKnowledge}
-use Rattle.tx_table.specs.Turns.{asked_all, lone}
-use Rattle.tx_table.specs.Turns as turns
+use Rattle.shared_table.specs.declared.seat.Seat as table
+use Rattle.shared_table.specs.declared.table.TxTable.{TxTable}
+use Rattle.shared_table.specs.Opening.{blocks_at, world_at}
+use Rattle.shared_table.specs.Seated.{Owns, acts, opening_of, view}
+use Rattle.shared_table.specs.Seated as seated
+use Rattle.shared_table.specs.Shown.{IsReached, SameBases, highest_clock}
+use Rattle.shared_table.proofs.Keeps.{asked_bases}
+use Rattle.shared_table.specs.declared.view.SeatKnowledge.{SeatKnowledge}
+use Rattle.shared_table.specs.Turns.{asked_all, lone}
+use Rattle.shared_table.specs.Turns as turns
 use Rattle.tx_turns.specs.RequestStep.{Answers, HasAsked, HasTaken, Starved}
 use Rattle.tx_turns.specs.Ties.{Ties, laid_in}
 use Rattle.tx_actor.proofs.SeatLemmas.{asked_as, starved_as}

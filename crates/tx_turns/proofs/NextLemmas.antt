@@ -21,10 +21,10 @@ use Rattle.tx_actor.proofs.StepLemmas.{first_is}
 use Rattle.tx_actor.specs.declared.actor.Stage as own
 use Rattle.tx_actor.specs.declared.actor.Stage.TheVariants as stage
 use Rattle.tx_actor.specs.declared.actor.TxActor.{TxActor}
-use Rattle.tx_table.specs.declared.seat.Seat as table
-use Rattle.tx_table.specs.declared.table.TxTable.{TxTable}
-use Rattle.tx_table.specs.Seated.{acts, opening_of}
-use Rattle.tx_table.specs.Seated as seated
+use Rattle.shared_table.specs.declared.seat.Seat as table
+use Rattle.shared_table.specs.declared.table.TxTable.{TxTable}
+use Rattle.shared_table.specs.Seated.{acts, opening_of}
+use Rattle.shared_table.specs.Seated as seated
 use Rattle.actor_laws.specs.Courses.{IsUnderWay, IsUnderWayFrom}
 use Rattle.actor_laws.specs.KnownStages.{KnownStage, Rests, Begins, Stands, Calls, Commits, Committed, Ends, known_stage, known_stage_at}
 use Rattle.tx_turns.proofs.OwnLemmas.{own_ok}

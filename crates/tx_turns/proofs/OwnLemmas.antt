@@ -22,9 +22,9 @@ use Rattle.replay_log.proofs.GuardLemmas.{world_allows}
 use Rattle.replay_log.proofs.SeatLemmas.{Copy, Linked, StageOk, gates_of}
 use Rattle.actor_parts.specs.Dispatch.{next_of}
 use Rattle.actor_parts.specs.declared.next.Next.TheVariants as next
-use Rattle.tx_table.specs.declared.view.Opening.{Opening}
-use Rattle.tx_table.specs.Opening.{blocks_at, world_at}
-use Rattle.tx_table.specs.Shown.{IsReached}
+use Rattle.shared_table.specs.declared.view.Opening.{Opening}
+use Rattle.shared_table.specs.Opening.{blocks_at, world_at}
+use Rattle.shared_table.specs.Shown.{IsReached}
 
 -- ---- a deed of an idle actor
 first_rests : (x : Actor) (es : Entries) → first_store x es ≡ Rests → last_notice es Stored ≡ NoTransaction

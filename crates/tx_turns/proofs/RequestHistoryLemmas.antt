@@ -7,9 +7,9 @@ use Rattle.seq_model.specs.declared.event.Event.{Event}
 use Rattle.seq_model.specs.declared.event.Event.TheVariants.{Ask}
 use Rattle.seq_model.specs.declared.event.Request.{Request}
 use Rattle.seq_model.specs.declared.event.Request.TheVariants.{Begin, BeginRead}
-use Rattle.tx_table.specs.declared.seat.Seat.{Seat}
-use Rattle.tx_table.specs.Seated.{list_of, view}
-use Rattle.tx_table.specs.declared.view.Turn.{Turn}
+use Rattle.shared_table.specs.declared.seat.Seat.{Seat}
+use Rattle.shared_table.specs.Seated.{list_of, view}
+use Rattle.shared_table.specs.declared.view.Turn.{Turn}
 use Rattle.tx_turns.specs.RequestStep.{HasTaken}
 use Rattle.tx_turns.specs.Begins.{begins_asked, begins_in, begins_of, begins_taken}
 use Rattle.tx_turns.specs.RequestHistory.{requests_asked, requests_of, requests_taken}

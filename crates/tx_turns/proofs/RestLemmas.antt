@@ -27,11 +27,11 @@ use Rattle.tx_actor.specs.declared.actor.Stage.TheVariants as stage
 use Rattle.tx_actor.specs.declared.actor.ActorNotice.{ActorNotice}
 use Rattle.tx_actor.specs.declared.actor.ActorNotice.TheVariants as told
 use Rattle.tx_actor.specs.declared.actor.TxActor.{TxActor}
-use Rattle.tx_table.specs.declared.seat.Seat as table
-use Rattle.tx_table.specs.declared.table.TxTable.{TxTable}
-use Rattle.tx_table.specs.Seated.{acts, opening_of, out}
-use Rattle.tx_table.specs.Seated as seated
-use Rattle.tx_table.specs.Turns as turns
+use Rattle.shared_table.specs.declared.seat.Seat as table
+use Rattle.shared_table.specs.declared.table.TxTable.{TxTable}
+use Rattle.shared_table.specs.Seated.{acts, opening_of, out}
+use Rattle.shared_table.specs.Seated as seated
+use Rattle.shared_table.specs.Turns as turns
 use Rattle.actor_laws.specs.Courses.{ComesTo, EndsFrom}
 use Rattle.actor_laws.specs.KnownStages.{KnownStage, Rests, Begins, Stands, Calls, Commits, Ends, known_stage, known_stage_at}
 use Rattle.tx_turns.proofs.OwnLemmas.{own_gates}

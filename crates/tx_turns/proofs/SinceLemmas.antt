@@ -9,11 +9,11 @@ use Rattle.replay_log.specs.WorldRefusals.{IsCause}
 use Rattle.actor_laws.specs.Own.{Alike}
 use Rattle.tx_actor.specs.Running.{notice_of}
 use Rattle.tx_actor.specs.declared.actor.ActorNotice.{ActorNotice}
-use Rattle.tx_table.specs.declared.seat.Seat as table
-use Rattle.tx_table.specs.declared.view.Turn.{Turn}
-use Rattle.tx_table.specs.Seated.{view}
-use Rattle.tx_table.specs.Seated as seated
-use Rattle.tx_table.specs.Turns.{asked_all, lone}
+use Rattle.shared_table.specs.declared.seat.Seat as table
+use Rattle.shared_table.specs.declared.view.Turn.{Turn}
+use Rattle.shared_table.specs.Seated.{view}
+use Rattle.shared_table.specs.Seated as seated
+use Rattle.shared_table.specs.Turns.{asked_all, lone}
 use Rattle.tx_turns.specs.Driven.{HasFound, HasTold, IsExhausted, IsTurnFrom}
 
 module _ {V : Type 0} (o : World V) (s m : table.Seat V) (same : seated.actor m ≡ seated.actor s) (more : List (Turn V))

@@ -43,11 +43,11 @@ use Rattle.actor_laws.proofs.Alone.{same_actors}
 use Rattle.actor_laws.specs.StepTargets.{Spot, Nowhere, Word, Gate, deed_of, spot_at, spot_of}
 use Rattle.actor_laws.specs.Steps.{ready_at}
 use Rattle.actor_laws.specs.StepAnswers.{tells}
-use Rattle.tx_table.specs.declared.view.Opening.{Opening}
-use Rattle.tx_table.specs.Opening.{blocks_at, world_at}
-use Rattle.tx_table.specs.Seated.{turned}
-use Rattle.tx_table.specs.Shown.{IsReached}
-use Rattle.tx_table.specs.Turns.{found_at, moved, spot}
+use Rattle.shared_table.specs.declared.view.Opening.{Opening}
+use Rattle.shared_table.specs.Opening.{blocks_at, world_at}
+use Rattle.shared_table.specs.Seated.{turned}
+use Rattle.shared_table.specs.Shown.{IsReached}
+use Rattle.shared_table.specs.Turns.{found_at, moved, spot}
 use Rattle.actor_laws.proofs.KnownStageLemmas.{steps_move}
 use Rattle.actor_laws.specs.KnownStages.{KnownStage, Commits, Ends, StepMoves, known_stage, known_stage_at}
 use Rattle.tx_turns.proofs.WritingLemmas.{is_commit, was_commit}

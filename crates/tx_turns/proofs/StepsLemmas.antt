@@ -33,11 +33,11 @@ use Rattle.tx_actor.specs.declared.actor.ActorNotice.TheVariants as tells
 use Rattle.tx_actor.specs.declared.actor.TxActor.{TxActor}
 use Rattle.tx_actor.proofs.OwnLemmas.{OthersLaw}
 use Rattle.tx_actor.proofs.StepLemmas.{running_moved}
-use Rattle.tx_table.specs.declared.seat.Seat as table
-use Rattle.tx_table.specs.declared.table.TxTable.{TxTable}
-use Rattle.tx_table.specs.Opening.{blocks_at}
-use Rattle.tx_table.specs.Seated.{acts, blocks_in, opening_of}
-use Rattle.tx_table.specs.Seated as seated
+use Rattle.shared_table.specs.declared.seat.Seat as table
+use Rattle.shared_table.specs.declared.table.TxTable.{TxTable}
+use Rattle.shared_table.specs.Opening.{blocks_at}
+use Rattle.shared_table.specs.Seated.{acts, blocks_in, opening_of}
+use Rattle.shared_table.specs.Seated as seated
 use Rattle.tx_turns.specs.Touches.{StepsWords}
 use Rattle.tx_turns.proofs.TurnLemmas.{word_turned}
 use Rattle.tx_turns.specs.Ties.{Ties, Turned, laid_in}

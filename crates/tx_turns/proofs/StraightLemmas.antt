@@ -50,9 +50,9 @@ use Rattle.tx_actor.specs.declared.actor.TxActor.{TxActor}
 use Rattle.tx_actor.proofs.LoadStepLemmas.{loads_word}
 use Rattle.tx_actor.proofs.OwnLemmas.{OthersLaw}
 use Rattle.tx_actor.proofs.StepLemmas.{running_moved}
-use Rattle.tx_table.specs.declared.seat.Seat.{Seat}
-use Rattle.tx_table.specs.declared.table.TxTable.{TxTable}
-use Rattle.tx_table.specs.Seated.{Loads, Stepped, acts, actor, blocks_in, opening_of, view}
+use Rattle.shared_table.specs.declared.seat.Seat.{Seat}
+use Rattle.shared_table.specs.declared.table.TxTable.{TxTable}
+use Rattle.shared_table.specs.Seated.{Loads, Stepped, acts, actor, blocks_in, opening_of, view}
 use Rattle.tx_machine.specs.Cells.{LockCell, ValueCell}
 use Rattle.tx_turns.specs.Touches.{StepsWords}
 use Rattle.tx_turns.specs.declared.due.NextStep.TheVariants as due

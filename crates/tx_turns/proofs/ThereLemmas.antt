@@ -29,13 +29,13 @@ use Rattle.tx_actor.proofs.GatesLemmas.{gates_as, gates_in}
 use Rattle.tx_actor.proofs.OwnLemmas.{OthersLaw, copies_stand}
 use Rattle.tx_actor.proofs.SeatLemmas.{next_as, runs_stand}
 use Rattle.tx_actor.proofs.StepLemmas.{reached_linked}
-use Rattle.tx_table.specs.declared.seat.Seat as table
-use Rattle.tx_table.specs.declared.table.TxTable.{TxTable}
-use Rattle.tx_table.specs.Shown.{SameBases, Slot}
-use Rattle.tx_table.specs.Seated as seated
-use Rattle.tx_table.specs.Seated.{Takes, acts, opening_of, out}
-use Rattle.tx_table.specs.Turns.{moved}
-use Rattle.tx_table.proofs.Keeps.{base_sym}
+use Rattle.shared_table.specs.declared.seat.Seat as table
+use Rattle.shared_table.specs.declared.table.TxTable.{TxTable}
+use Rattle.shared_table.specs.Shown.{SameBases, Slot}
+use Rattle.shared_table.specs.Seated as seated
+use Rattle.shared_table.specs.Seated.{Takes, acts, opening_of, out}
+use Rattle.shared_table.specs.Turns.{moved}
+use Rattle.shared_table.proofs.Keeps.{base_sym}
 use Rattle.tx_turns.specs.Ties.{Ties, laid_in}
 use Rattle.tx_turns.specs.Bases.{AreBases, ArePreparedAt, IsBaseIn, gates_at, slots_of}
 use Rattle.tx_turns.specs.Own.{HasOwn}

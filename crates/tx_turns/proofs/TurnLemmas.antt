@@ -40,13 +40,13 @@ use Rattle.tx_actor.specs.declared.actor.Stage as own
 use Rattle.tx_actor.specs.declared.actor.Stage.TheVariants as stage
 use Rattle.tx_actor.specs.declared.actor.ActorNotice.{ActorNotice}
 use Rattle.tx_actor.specs.declared.actor.TxActor.{TxActor}
-use Rattle.tx_table.specs.declared.seat.Seat as table
-use Rattle.tx_table.specs.declared.table.TxTable.{TxTable}
-use Rattle.tx_table.specs.Shown.{Slot}
-use Rattle.tx_table.specs.declared.view.SeatKnowledge.{SeatKnowledge}
-use Rattle.tx_table.specs.Seated.{Takes, acts, opening_of, view}
-use Rattle.tx_table.specs.Seated as seated
-use Rattle.tx_table.specs.Turns.{ends_of, found_at, moved, spot}
+use Rattle.shared_table.specs.declared.seat.Seat as table
+use Rattle.shared_table.specs.declared.table.TxTable.{TxTable}
+use Rattle.shared_table.specs.Shown.{Slot}
+use Rattle.shared_table.specs.declared.view.SeatKnowledge.{SeatKnowledge}
+use Rattle.shared_table.specs.Seated.{Takes, acts, opening_of, view}
+use Rattle.shared_table.specs.Seated as seated
+use Rattle.shared_table.specs.Turns.{ends_of, found_at, moved, spot}
 use Rattle.tx_turns.proofs.OwnLemmas.{own_due, own_gates, own_ok}
 use Rattle.tx_turns.specs.NextStep.{IsDeed}
 use Rattle.tx_turns.specs.Touches.{Finds, IsNext, StepsWords}

@@ -12,9 +12,9 @@ use Rattle.actor_parts.specs.Dispatch.{next_of}
 use Rattle.actor_parts.specs.declared.next.Next.TheVariants as next
 use Rattle.step_core.specs.Shown as words
 use Rattle.step_core.specs.declared.actor.Actor.{Actor}
-use Rattle.tx_table.specs.Seated.{actor, acts}
-use Rattle.tx_table.specs.Turns.{stage_of}
-use Rattle.tx_table.specs.declared.seat.Seat.{Seat}
+use Rattle.shared_table.specs.Seated.{actor, acts}
+use Rattle.shared_table.specs.Turns.{stage_of}
+use Rattle.shared_table.specs.declared.seat.Seat.{Seat}
 use Rattle.tx_turns.proofs.OwnLemmas.{word_action}
 use Rattle.tx_turns.specs.NextStep.{IsDeed}
 use Rattle.tx_turns.specs.Touches.{Finds, IsClock, IsNext, changed, spot_due}

@@ -39,11 +39,11 @@ use Rattle.tx_actor.proofs.LoadStepLemmas.{HasMoved, load_heard, load_keeps, loa
 use Rattle.tx_actor.proofs.OwnLemmas.{OthersLaw}
 use Rattle.tx_actor.proofs.SeatLemmas.{loading_as, next_as}
 use Rattle.tx_actor.proofs.StepLemmas.{first_is, quiet_first}
-use Rattle.tx_table.specs.declared.seat.Seat as table
-use Rattle.tx_table.specs.declared.table.TxTable.{TxTable}
-use Rattle.tx_table.specs.Seated as seated
-use Rattle.tx_table.specs.Seated.{acts, opening_of, out}
-use Rattle.tx_table.specs.Turns.{moved, spot}
+use Rattle.shared_table.specs.declared.seat.Seat as table
+use Rattle.shared_table.specs.declared.table.TxTable.{TxTable}
+use Rattle.shared_table.specs.Seated as seated
+use Rattle.shared_table.specs.Seated.{acts, opening_of, out}
+use Rattle.shared_table.specs.Turns.{moved, spot}
 use Rattle.tx_turns.specs.Touches.{StepsWords}
 use Rattle.tx_turns.specs.Ties.{IsOnWord, Ties, Turned, laid_in}
 use Rattle.tx_turns.proofs.TurnStepLemmas.{clock_left}

@@ -9,7 +9,7 @@ use Rattle.actor_parts.specs.CopyList.{copy_of}
 use Rattle.actor_parts.specs.Logs.{changes_had}
 use Rattle.tx_actor.specs.declared.actor.Stage.{Stage}
 use Rattle.tx_actor.specs.declared.actor.Stage.TheVariants as stage
-use Rattle.tx_table.specs.Shown.{IsBaseAt, Slot}
+use Rattle.shared_table.specs.Shown.{IsBaseAt, Slot}
 
 module _ {V : Type 0} where
   -- the collections whose gates an actor holds at this stage, in the order in which it took them

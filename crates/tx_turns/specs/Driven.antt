@@ -25,10 +25,10 @@ use Rattle.tx_actor.specs.declared.actor.Stage as own
 use Rattle.tx_actor.specs.declared.actor.Stage.TheVariants as stage
 use Rattle.tx_actor.specs.declared.actor.ActorNotice.{ActorNotice}
 use Rattle.tx_actor.specs.declared.actor.ActorNotice.TheVariants as told
-use Rattle.tx_table.specs.declared.seat.Seat.{Seat}
-use Rattle.tx_table.specs.Seated.{IsSameSeat, actor, acts, view}
-use Rattle.tx_table.specs.Turns.{asked_all, lone}
-use Rattle.tx_table.specs.declared.view.Turn.{Turn}
+use Rattle.shared_table.specs.declared.seat.Seat.{Seat}
+use Rattle.shared_table.specs.Seated.{IsSameSeat, actor, acts, view}
+use Rattle.shared_table.specs.Turns.{asked_all, lone}
+use Rattle.shared_table.specs.declared.view.Turn.{Turn}
 use Rattle.tx_turns.specs.RequestStep.{Starved}
 use Rattle.tx_turns.specs.Ties.{commits}
 use Rattle.tx_actor.specs.declared.actor.TxActor.{TxActor}

@@ -7,9 +7,9 @@ use Rattle.tx_actor.specs.CopiesByStage.{KeepsCopies}
 use Rattle.tx_actor.specs.Running.{stage_of}
 use Rattle.tx_actor.specs.declared.actor.ActorNotice.{ActorNotice}
 use Rattle.tx_actor.specs.declared.actor.TxActor.{TxActor}
-use Rattle.tx_table.specs.declared.seat.Seat.{Seat}
-use Rattle.tx_table.specs.declared.table.TxTable.{TxTable}
-use Rattle.tx_table.specs.Seated.{opening_of}
+use Rattle.shared_table.specs.declared.seat.Seat.{Seat}
+use Rattle.shared_table.specs.declared.table.TxTable.{TxTable}
+use Rattle.shared_table.specs.Seated.{opening_of}
 use Rattle.tx_turns.specs.RequestStep.{Starved}
 use Rattle.tx_turns.specs.Ties.{Ties, Turned}
 use Rattle.tx_turns.specs.Own.{HasOwn}

@@ -3,9 +3,9 @@ use Rattle.std.specs.Prelude.{◌≡◌, List}
 use Rattle.replay_log.specs.declared.base.Base.{Base}
 use Rattle.tx_actor.specs.CopiesByStage.{HasCopies}
 use Rattle.tx_actor.specs.declared.actor.TxActor.{TxActor}
-use Rattle.tx_table.specs.declared.seat.Seat.{Seat}
-use Rattle.tx_table.specs.declared.table.TxTable.{TxTable}
-use Rattle.tx_table.specs.Seated.{actor, acts, opening_of, out}
+use Rattle.shared_table.specs.declared.seat.Seat.{Seat}
+use Rattle.shared_table.specs.declared.table.TxTable.{TxTable}
+use Rattle.shared_table.specs.Seated.{actor, acts, opening_of, out}
 use Rattle.tx_turns.specs.Bases.{AreBases, ArePreparedAt, gates_at, slots_of}
 
 -- A seat of the table that runs the actor r, with these bases in hand. In the world with r alone it has of collections what its stage asks

@@ -5,8 +5,8 @@ use Rattle.actor_parts.specs.Dispatch.{is_loading}
 use Rattle.tx_actor.specs.declared.actor.ActorNotice.{ActorNotice}
 use Rattle.tx_actor.specs.declared.actor.ActorNotice.TheVariants as told
 use Rattle.tx_actor.specs.declared.actor.TxActor.{TxActor}
-use Rattle.tx_table.specs.declared.seat.Seat.{Seat}
-use Rattle.tx_table.specs.Seated.{actor, acts}
+use Rattle.shared_table.specs.declared.seat.Seat.{Seat}
+use Rattle.shared_table.specs.Seated.{actor, acts}
 use Rattle.tx_turns.specs.RequestStep.{Starved}
 use Rattle.tx_turns.specs.Ties.{Turned, commits}
 

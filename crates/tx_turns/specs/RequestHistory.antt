@@ -3,9 +3,9 @@ use Rattle.std.specs.Prelude.{List, [], ◌∷◌, ◌++◌}
 use Rattle.seq_model.specs.declared.event.Event.{Event}
 use Rattle.seq_model.specs.declared.event.Event.TheVariants.{Ask}
 use Rattle.seq_model.specs.declared.event.Request.{Request}
-use Rattle.tx_table.specs.declared.seat.Seat.{Seat}
-use Rattle.tx_table.specs.Seated.{list_of, view}
-use Rattle.tx_table.specs.declared.view.Turn.{Turn}
+use Rattle.shared_table.specs.declared.seat.Seat.{Seat}
+use Rattle.shared_table.specs.Seated.{list_of, view}
+use Rattle.shared_table.specs.declared.view.Turn.{Turn}
 
 module _ {V : Type 0} where
   -- what these events ask: a step asks nothing, nor does a failed allocation

@@ -7,8 +7,8 @@ use Rattle.replay_log.specs.Seats.{World}
 use Rattle.replay_log.specs.Worlds.{happens}
 use Rattle.tx_actor.specs.Running.{notice_of}
 use Rattle.tx_actor.specs.declared.actor.ActorNotice.{ActorNotice}
-use Rattle.tx_table.specs.declared.seat.Seat.{Seat}
-use Rattle.tx_table.specs.Seated.{IsSameSeat, actor, acts, list_of}
+use Rattle.shared_table.specs.declared.seat.Seat.{Seat}
+use Rattle.shared_table.specs.Seated.{IsSameSeat, actor, acts, list_of}
 
 module _ {V : Type 0} where
   -- the seat's actor has asked this too since its last step, or an allocation of it failed; the number of the event is no matter

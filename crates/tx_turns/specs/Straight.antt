@@ -13,9 +13,9 @@ use Rattle.tx_actor.specs.declared.taking.KeyedCall.{KeyedCall}
 use Rattle.tx_actor.specs.Copying.{CanCopy}
 use Rattle.tx_actor.specs.Running.{at}
 use Rattle.tx_actor.specs.Taking.{IsTakenCall}
-use Rattle.tx_table.specs.declared.seat.Seat.{Seat}
-use Rattle.tx_table.specs.declared.table.TxTable.{TxTable}
-use Rattle.tx_table.specs.Seated.{Takes, opening_of, out, view}
+use Rattle.shared_table.specs.declared.seat.Seat.{Seat}
+use Rattle.shared_table.specs.declared.table.TxTable.{TxTable}
+use Rattle.shared_table.specs.Seated.{Takes, opening_of, out, view}
 use Rattle.tx_turns.specs.Ties.{Ties, laid_in}
 use Rattle.tx_turns.specs.Own.{HasOwn}
 use Rattle.tx_turns.specs.Driven.{Driven, LeadsOn, Stops}

@@ -10,11 +10,11 @@ use Rattle.tx_actor.specs.declared.actor.Stage.{Stage}
 use Rattle.tx_actor.specs.declared.actor.Stage.TheVariants as stage
 use Rattle.tx_actor.specs.declared.actor.ActorNotice.{ActorNotice}
 use Rattle.tx_actor.specs.declared.actor.TxActor.{TxActor}
-use Rattle.tx_table.specs.declared.seat.Seat.{Seat}
-use Rattle.tx_table.specs.declared.table.TxTable.{TxTable}
-use Rattle.tx_table.specs.Turns.{moved, spot}
-use Rattle.tx_table.specs.Shown.{IsReached, Slot}
-use Rattle.tx_table.specs.Seated.{Owns, Takes, actor, acts, blocks_in, opening_of, out, turned, view, words_in}
+use Rattle.shared_table.specs.declared.seat.Seat.{Seat}
+use Rattle.shared_table.specs.declared.table.TxTable.{TxTable}
+use Rattle.shared_table.specs.Turns.{moved, spot}
+use Rattle.shared_table.specs.Shown.{IsReached, Slot}
+use Rattle.shared_table.specs.Seated.{Owns, Takes, actor, acts, blocks_in, opening_of, out, turned, view, words_in}
 use Rattle.actor_laws.specs.StepTargets.{Word}
 use Rattle.tx_machine.specs.Cells.{ClockCell}
 use Rattle.actor_parts.specs.Dispatch.{next_of}

@@ -1,12 +1,12 @@
 -- What one atomic step on the table asks of a seat, and what it leaves.
 use Rattle.std.specs.Prelude.{◌≡◌, ℕ, ◌+◌, ◌<◌, ◌≤◌, ◌^◌, ◌==◌, if◌then◌else◌, None, Option, Result}
-use Rattle.tx_table.specs.Shown.{highest_clock}
+use Rattle.shared_table.specs.Shown.{highest_clock}
 use Rattle.tx_machine.specs.Cells.{ClockCell, LockCell, ValueCell}
 use Rattle.replay_log.specs.Seats.{World}
 use Rattle.actor_laws.specs.StepTargets.{Spot, Nowhere, Word}
-use Rattle.tx_table.specs.declared.seat.Seat.{Seat}
-use Rattle.tx_table.specs.Turns.{spot}
-use Rattle.tx_table.specs.Seated.{Takes, actor, acts, out, turned, view}
+use Rattle.shared_table.specs.declared.seat.Seat.{Seat}
+use Rattle.shared_table.specs.Turns.{spot}
+use Rattle.shared_table.specs.Seated.{Takes, actor, acts, out, turned, view}
 use Rattle.tx_machine.specs.World.{plan}
 use Rattle.step_core.specs.Shown.{actor_of}
 use Rattle.step_core.specs.declared.actor.Actor.{Actor}

@@ -1,13 +1,13 @@
 //! What the actor of a seat is asked. The seat keeps it until its next step takes it in.
 ghost use Rattle.std.specs.Prelude.{◌≡◌};
 ghost use Rattle.tx_actor.specs.CopiesByStage.{KeepsCopies};
-ghost use Rattle.tx_table.specs.Seated.{opening_of};
+ghost use Rattle.shared_table.specs.Seated.{opening_of};
 ghost use Rattle.tx_turns.specs.RequestStep.{HasAsked, Starved};
 ghost use Rattle.tx_turns.specs.Ties.{Ties};
 
 use seq_model::{Event, Request, Value};
+use shared_table::{Seat, TxTable};
 use tx_actor::{ActorNotice, Stage, TxActor};
-use tx_table::{Seat, TxTable};
 
 /// A transaction is to begin.
 pub fn ask_begin<V: Value>(table: &TxTable<V>, seat: &mut Seat<V>, actor: &mut TxActor<V>)

@@ -8,7 +8,7 @@ ghost use Rattle.seq_model.specs.declared.record.Record.{Record as Made};
 ghost use Rattle.actor_parts.specs.Dispatch.{next_of};
 ghost use Rattle.replay_log.specs.WorldProgress.{AreSmall};
 ghost use Rattle.tx_actor.specs.Running.{stage_of};
-ghost use Rattle.tx_table.specs.Seated.{blocks_in, opening_of};
+ghost use Rattle.shared_table.specs.Seated.{blocks_in, opening_of};
 ghost use Rattle.tx_turns.specs.Ties.{Ties};
 ghost use Rattle.tx_turns.specs.Own.{HasOwn};
 ghost use Rattle.tx_turns.specs.Driven.{told_in};
@@ -22,9 +22,9 @@ use crate::turns::{home_next, keep, report, store_next, try_next};
 use actor_parts::{Boxed, Next, at_place};
 use replay_log::Base;
 use seq_model::{Memory, Record, Value};
+use shared_table::{Seat, TxTable};
 use std::alloc::Global;
 use tx_actor::{ActorNotice, Stage, TxActor};
-use tx_table::{Seat, TxTable};
 
 /// The gate that a commit is to try.
 #[inline(always)]

@@ -2,7 +2,7 @@
 ghost use Rattle.std.specs.Prelude.{◌≡◌, ◌≢◌, [], None, OnErr, OnOk, false, true};
 ghost use Rattle.actor_parts.specs.Dispatch.{next_of};
 ghost use Rattle.replay_log.specs.WorldProgress.{AreSmall};
-ghost use Rattle.tx_table.specs.Seated.{blocks_in, opening_of};
+ghost use Rattle.shared_table.specs.Seated.{blocks_in, opening_of};
 ghost use Rattle.actor_laws.specs.Courses.{IsUnderWay};
 ghost use Rattle.tx_actor.specs.Running.{stage_of};
 ghost use Rattle.actor_laws.specs.KnownStages.{Ends};
@@ -18,9 +18,9 @@ use crate::turns::{report, step, turn_apart, turn_on_gate};
 use actor_parts::{Boxed, Next};
 use replay_log::Base;
 use seq_model::{Memory, Record, Value};
+use shared_table::{Seat, TxTable};
 use std::alloc::Global;
 use tx_actor::{ActorNotice, Stage, TxActor};
-use tx_table::{Seat, TxTable};
 
 /// Whether the next turn is a step on the words that makes no receipt.
 fn is_on_words<V>(next: Next, stage: &Stage<V>) -> bool

@@ -4,7 +4,7 @@ ghost use Rattle.seq_model.specs.declared.event.Event.TheVariants.{Starve};
 ghost use Rattle.actor_parts.specs.Dispatch.{next_of};
 ghost use Rattle.tx_actor.specs.Running.{stage_of};
 ghost use Rattle.tx_actor.specs.declared.actor.ActorNotice.TheVariants as told;
-ghost use Rattle.tx_table.specs.Seated.{blocks_in, opening_of};
+ghost use Rattle.shared_table.specs.Seated.{blocks_in, opening_of};
 ghost use Rattle.tx_turns.specs.RequestStep.{HasTaken, Starved};
 ghost use Rattle.tx_turns.specs.Ties.{Ties, Turned};
 ghost use Rattle.tx_turns.specs.Own.{HasOwn};
@@ -14,13 +14,13 @@ use actor_parts::word_laws::steps_as_worlds;
 use actor_parts::{Boxed, Next, copies_go_on, copies_stay, excerpts_as_worlds, sizes_copies};
 use replay_log::Base;
 use seq_model::{Event, Memory, Value};
+use shared_table::{Seat, TxTable};
 use std::alloc::Global;
 use std::hint::spin_loop;
 use std::thread::yield_now;
 use tx_actor::laws::{copies_by_stage, copies_stay_own, taken_parts_are_own};
 use tx_actor::turn_laws::events_keep_copies;
 use tx_actor::{ActorNotice, Stage, TxActor};
-use tx_table::{Seat, TxTable};
 
 /// The first base in hand.
 fn front<V: Value>(bases: &Vec<Boxed<Base<V>>>) -> &Base<V>

@@ -2,7 +2,7 @@
 ghost use Rattle.std.specs.Prelude.{◌≡◌, ◌<◌, ◌++◌, ◌∷◌, [], IfOk, OnErr, OnOk, length, true};
 ghost use Rattle.actor_parts.specs.Dispatch.{next_of};
 ghost use Rattle.tx_actor.specs.Running.{stage_of};
-ghost use Rattle.tx_table.specs.Seated.{actor as actor_of_seat, opening_of, view};
+ghost use Rattle.shared_table.specs.Seated.{actor as actor_of_seat, opening_of, view};
 ghost use Rattle.tx_turns.specs.Ties.{Ties, Turned};
 ghost use Rattle.tx_turns.specs.Bases.{AreAlike, ArePrepared, OneIsPrepared, gates_at};
 ghost use Rattle.tx_turns.specs.Own.{HasOwn};
@@ -13,12 +13,12 @@ use actor_parts::word_laws::{goes_on_as_worlds, steps_as_worlds};
 use actor_parts::{Boxed, Next, copies_stay};
 use replay_log::Base;
 use seq_model::{Memory, Record, Value};
+use shared_table::{Seat, TxTable};
 use std::alloc::Global;
 use std::collections::VecDeque;
 use tx_actor::laws::copies_by_stage;
 use tx_actor::turn_laws::events_keep_copies;
 use tx_actor::{ActorNotice, Stage, TxActor};
-use tx_table::{Seat, TxTable};
 
 fn prepare_base<V: Value>(
     actor: &TxActor<V>,

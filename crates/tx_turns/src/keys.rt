@@ -9,7 +9,7 @@ ghost use Rattle.replay_log.specs.WorldProgress.{AreSmall};
 ghost use Rattle.step_core.specs.declared.actor.Place.TheVariants.{Again, Fetch, Look};
 ghost use Rattle.tx_actor.specs.Running.{at};
 ghost use Rattle.tx_actor.specs.declared.actor.ActorNotice.TheVariants as told;
-ghost use Rattle.tx_table.specs.Seated.{blocks_in, opening_of};
+ghost use Rattle.shared_table.specs.Seated.{blocks_in, opening_of};
 ghost use Rattle.actor_laws.specs.Courses.{IsUnderWay};
 ghost use Rattle.tx_turns.specs.Ties.{Ties};
 ghost use Rattle.tx_turns.specs.Own.{HasOwn};
@@ -24,6 +24,7 @@ use actor_parts::word_laws::steps_as_worlds;
 use actor_parts::{Boxed, copies_go_on, copies_stay, excerpts_as_worlds, sizes_copies};
 use replay_log::Base;
 use seq_model::{Memory, Record, Value};
+use shared_table::{Seat, TxTable};
 use std::alloc::Global;
 use std::collections::VecDeque;
 use std::mem;
@@ -34,7 +35,6 @@ use tx_actor::laws::{
 };
 use tx_actor::turn_laws::events_keep_copies;
 use tx_actor::{ActorNotice, CallInHand, CallWithOutcome, KeyedCall, Stage, TxActor, WaitingCall};
-use tx_table::{Seat, TxTable};
 use vlock_word::LockWord;
 
 /// Whether a gate is to be tried for a call.

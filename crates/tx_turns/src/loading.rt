@@ -2,7 +2,7 @@
 ghost use Rattle.std.specs.Prelude.{◌≡◌, true};
 ghost use Rattle.actor_parts.specs.Dispatch.{is_loading};
 ghost use Rattle.tx_actor.specs.Running.{stage_of};
-ghost use Rattle.tx_table.specs.Seated.{opening_of};
+ghost use Rattle.shared_table.specs.Seated.{opening_of};
 ghost use Rattle.tx_turns.specs.Ties.{Ties, Turned};
 ghost use Rattle.tx_turns.specs.Own.{HasOwn};
 
@@ -11,11 +11,11 @@ use actor_parts::word_laws::steps_as_worlds;
 use actor_parts::{Boxed, copies_stay};
 use replay_log::Base;
 use seq_model::Value;
+use shared_table::{Seat, TxTable};
 use tx_actor::laws::{
     copies_by_stage, loads_as_worlds, loads_keep_running, loads_stay_own, seats_as_actors,
 };
 use tx_actor::{ActorNotice, TxActor};
-use tx_table::{Seat, TxTable};
 
 /// The next step of an actor's words while the locations of its call are read: with the copied edition the call continues, and is accepted
 /// at the last; with another the copy is stale, and where the location has moved the transaction is aborted.

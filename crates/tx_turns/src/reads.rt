@@ -4,7 +4,7 @@ ghost use Rattle.actor_parts.specs.Dispatch.{next_of};
 ghost use Rattle.tx_actor.specs.Running.{stage_of};
 ghost use Rattle.replay_log.specs.WorldProgress.{AreSmall};
 ghost use Rattle.step_core.specs.declared.actor.Place.TheVariants.{Again, Fetch, Look};
-ghost use Rattle.tx_table.specs.Seated.{blocks_in, opening_of};
+ghost use Rattle.shared_table.specs.Seated.{blocks_in, opening_of};
 ghost use Rattle.tx_turns.specs.Ties.{Ties};
 ghost use Rattle.tx_turns.specs.Own.{HasOwn};
 ghost use Rattle.tx_turns.specs.Driven.{LeadsOn, told_in};
@@ -20,9 +20,9 @@ use actor_parts::word_laws::steps_as_worlds;
 use actor_parts::{Boxed, Next};
 use replay_log::Base;
 use seq_model::Value;
+use shared_table::{Seat, TxTable};
 use step_core::Place;
 use tx_actor::{ActorNotice, Stage, TxActor};
-use tx_table::{Seat, TxTable};
 use vlock_word::LockWord;
 
 /// The word that is to be read, none of whose loads was made yet.

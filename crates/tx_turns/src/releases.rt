@@ -6,7 +6,7 @@ ghost use Rattle.replay_log.specs.WorldProgress.{AreSmall};
 ghost use Rattle.step_core.specs.Shown.{actor_of};
 ghost use Rattle.step_core.specs.Sound.{Fits};
 ghost use Rattle.step_core.specs.declared.actor.Place.TheVariants.{Release};
-ghost use Rattle.tx_table.specs.Seated.{blocks_in, opening_of};
+ghost use Rattle.shared_table.specs.Seated.{blocks_in, opening_of};
 ghost use Rattle.tx_turns.specs.Ties.{Ties};
 ghost use Rattle.tx_turns.specs.Own.{HasOwn};
 ghost use Rattle.tx_turns.specs.Driven.{LeadsOn, told_in};
@@ -18,9 +18,9 @@ use actor_parts::Boxed;
 use actor_parts::word_laws::steps_as_worlds;
 use replay_log::Base;
 use seq_model::Value;
+use shared_table::{Seat, TxTable};
 use step_core::{Actor, Place};
 use tx_actor::{ActorNotice, Stage, TxActor};
-use tx_table::{Seat, TxTable};
 
 /// Whether locks are to be given back by a commit.
 #[inline(always)]

@@ -3,7 +3,7 @@ ghost use Rattle.std.specs.Prelude.{◌≡◌, IfOk, OnErr, OnOk};
 ghost use Rattle.seq_model.specs.declared.event.Event.TheVariants.{Ask};
 ghost use Rattle.seq_model.specs.declared.event.Request.{Request as Asked};
 ghost use Rattle.replay_log.specs.WorldAnswers.{IsAdmitted};
-ghost use Rattle.tx_table.specs.Seated.{actor as actor_of, acts, opening_of};
+ghost use Rattle.shared_table.specs.Seated.{actor as actor_of, acts, opening_of};
 ghost use Rattle.tx_turns.specs.RequestStep.{Answers, HasAsked};
 ghost use Rattle.tx_turns.specs.Ties.{Ties};
 ghost use Rattle.tx_turns.specs.Own.{HasOwn};
@@ -12,12 +12,12 @@ use actor_parts::copy_laws::calls_as_worlds;
 use actor_parts::{Boxed, copies_stay};
 use replay_log::Base;
 use seq_model::{Event, Memory, Request, Value};
+use shared_table::{Seat, TxTable};
 use std::alloc::Global;
 use std::snapshot::Snapshot;
 use tx_actor::laws::{copies_by_stage, copies_stay_own};
 use tx_actor::turn_laws::events_keep_copies;
 use tx_actor::{ActorNotice, TxActor};
-use tx_table::{Seat, TxTable};
 
 /// A request, which the seat keeps until its next step takes it in. What is answered at once is answered as the definitions say:
 /// `NotIdle` where another is under way, or for a begin within a transaction, and `NoTransaction` for a call or an end without one. A call

@@ -3,15 +3,15 @@ ghost use Rattle.std.specs.Prelude.{◌≡◌, ◌≢◌, ℕ, ◌<◌};
 ghost use Rattle.tx_machine.specs.World.{Rests, plan};
 ghost use Rattle.step_core.specs.Shown.{actor_of};
 ghost use Rattle.step_core.specs.Sound.{Fits, IsLoad, KeepsRoom};
-ghost use Rattle.tx_table.specs.Seated.{Owns, locations_in, opening_of, view};
+ghost use Rattle.shared_table.specs.Seated.{Owns, locations_in, opening_of, view};
 ghost use Rattle.tx_turns.specs.Touches.{IsNext, StepsWords};
 
 use crate::due::next_step;
 use crate::learning::learn;
 use crate::touching::touch;
 use seq_model::Value;
+use shared_table::{Seat, TxTable};
 use step_core::{Actor, WordAnswer, WordRefusal};
-use tx_table::{Seat, TxTable};
 
 /// The next step of a word actor, taken on the table: one load, store, compare_exchange or fetch_add of one word. The actor becomes what
 /// the word machine makes of it by the number that was found, and the machine's answer is returned: a refusal is that of TL2 (DISC 2006),

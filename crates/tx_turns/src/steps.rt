@@ -4,7 +4,7 @@ ghost use Rattle.tx_machine.specs.Notices as notice;
 ghost use Rattle.actor_parts.specs.Dispatch.{next_of, notice_told};
 ghost use Rattle.replay_log.specs.WorldProgress.{AreSmall};
 ghost use Rattle.tx_actor.specs.Running.{stage_of};
-ghost use Rattle.tx_table.specs.Seated.{blocks_in, opening_of};
+ghost use Rattle.shared_table.specs.Seated.{blocks_in, opening_of};
 ghost use Rattle.tx_turns.specs.Ties.{Ties};
 ghost use Rattle.tx_turns.specs.Own.{HasOwn};
 ghost use Rattle.tx_turns.specs.Driven.{LeadsOn, is_still, told_in};
@@ -16,12 +16,12 @@ use actor_parts::word_laws::steps_as_worlds;
 use actor_parts::{Boxed, Next};
 use replay_log::Base;
 use seq_model::Value;
+use shared_table::{Seat, TxTable};
 use step_core::{WordAnswer, WordRefusal};
 use tx_actor::laws::{
     copies_by_stage, loads_as_worlds, loads_keep_running, loads_stay_own, seats_as_actors,
 };
 use tx_actor::{ActorNotice, Stage, TxActor};
-use tx_table::{Seat, TxTable};
 
 /// Whether nothing comes of a step on the words at this stage, since it answered nothing.
 #[inline(always)]

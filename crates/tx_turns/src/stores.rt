@@ -2,7 +2,7 @@
 ghost use Rattle.std.specs.Prelude.{◌≡◌, ◌≢◌, ◌+◌, ◌<◌, false, true, IfSome, length};
 ghost use Rattle.replay_log.specs.WorldProgress.{AreSmall};
 ghost use Rattle.step_core.specs.declared.actor.Place.TheVariants.{Store};
-ghost use Rattle.tx_table.specs.Seated.{blocks_in, opening_of};
+ghost use Rattle.shared_table.specs.Seated.{blocks_in, opening_of};
 ghost use Rattle.tx_turns.specs.Ties.{Ties};
 ghost use Rattle.tx_turns.specs.Own.{HasOwn};
 ghost use Rattle.tx_turns.specs.Driven.{LeadsOn, told_in};
@@ -14,9 +14,9 @@ use actor_parts::Boxed;
 use actor_parts::word_laws::steps_as_worlds;
 use replay_log::Base;
 use seq_model::Value;
+use shared_table::{Seat, TxTable};
 use step_core::Place;
 use tx_actor::{ActorNotice, Stage, TxActor};
-use tx_table::{Seat, TxTable};
 
 /// Which value is stored next, where it is not the first.
 #[inline(always)]

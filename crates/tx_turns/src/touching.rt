@@ -1,12 +1,12 @@
 //! One atomic step on the table, the one that is next for a seat.
 ghost use Rattle.std.specs.Prelude.{◌≡◌, ◌≢◌, ◌<◌};
-ghost use Rattle.tx_table.specs.Seated.{Owns, locations_in, opening_of, view};
+ghost use Rattle.shared_table.specs.Seated.{Owns, locations_in, opening_of, view};
 ghost use Rattle.tx_turns.specs.NextStep.{IsWithin};
 ghost use Rattle.tx_turns.specs.Touches.{Awaits, IsInWord, Touches};
 
 use crate::due::NextStep;
 use seq_model::Value;
-use tx_table::{Seat, TxTable};
+use shared_table::{Seat, TxTable};
 
 // A lock that is tried: the number that was found.
 fn try_lock<V: Value>(table: &TxTable<V>, seat: &mut Seat<V>, location: u32, old: u64) -> u64

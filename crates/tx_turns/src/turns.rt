@@ -3,7 +3,7 @@ ghost use Rattle.std.specs.Prelude.{◌≡◌, ◌≢◌, [], IfOk, OnErr, OnOk,
 ghost use Rattle.actor_parts.specs.Dispatch.{next_of};
 ghost use Rattle.tx_actor.specs.Running.{stage_of};
 ghost use Rattle.tx_actor.specs.declared.actor.ActorNotice.{ActorNotice as Tells};
-ghost use Rattle.tx_table.specs.Seated.{actor as actor_of_seat, opening_of};
+ghost use Rattle.shared_table.specs.Seated.{actor as actor_of_seat, opening_of};
 ghost use Rattle.tx_turns.specs.Ties.{Ties, Turned, commits};
 ghost use Rattle.tx_turns.specs.Own.{HasOwn};
 ghost use Rattle.tx_turns.specs.Refused.{IsGivenUp};
@@ -19,9 +19,9 @@ use crate::words::{close, step_word};
 use actor_parts::{Boxed, Next};
 use replay_log::Base;
 use seq_model::{Memory, Record, Value};
+use shared_table::{Seat, TxTable};
 use std::alloc::Global;
 use tx_actor::{ActorNotice, Stage, TxActor};
-use tx_table::{Seat, TxTable};
 
 /// Whether this is quiet. What isn't is stored in `said` from then on.
 #[inline(always)]

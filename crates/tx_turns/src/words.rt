@@ -4,17 +4,17 @@ ghost use Rattle.actor_parts.specs.Dispatch.{is_loading, next_of};
 ghost use Rattle.tx_actor.specs.Dispatch.{Records};
 ghost use Rattle.tx_actor.specs.CopiesByStage.{KeepsCopies};
 ghost use Rattle.tx_actor.specs.Running.{stage_of};
-ghost use Rattle.tx_table.specs.Seated.{actor as actor_of_seat, opening_of, view};
+ghost use Rattle.shared_table.specs.Seated.{actor as actor_of_seat, opening_of, view};
 ghost use Rattle.tx_turns.specs.Ties.{Ties, Turned};
 
 use crate::stepping::step_words;
 use actor_parts::Next;
 use actor_parts::word_laws::steps_as_worlds;
 use seq_model::{Items, Memory, Record, Value};
+use shared_table::{Seat, TxTable};
 use std::alloc::Global;
 use std::mem;
 use tx_actor::{ActorNotice, Stage, TxActor};
-use tx_table::{Seat, TxTable};
 
 /// The next step of an actor's words, taken on the table by its seat.
 pub(crate) fn step_word<V: Value>(

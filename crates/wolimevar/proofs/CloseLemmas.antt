@@ -2,9 +2,9 @@
 use Rattle.std.proofs.Common.{◌≡◌, ℕ, List, Option, Some, refl, subst}
 use Rattle.seq_model.specs.Contents.{Contents}
 use Rattle.seq_model.specs.declared.held.Held.{Held}
-use Rattle.tx_table.specs.declared.closed.Closed.{Closed}
-use Rattle.tx_table.specs.declared.table.TxTable.{TxTable}
-use Rattle.tx_table.specs.Seated.{contents_in, view}
+use Rattle.shared_table.specs.declared.closed.Closed.{Closed}
+use Rattle.shared_table.specs.declared.table.TxTable.{TxTable}
+use Rattle.shared_table.specs.Seated.{contents_in, view}
 use Rattle.tx_engine.specs.declared.seats.TxSeat.{TxSeat}
 use Rattle.tx_engine.specs.Closing as closing
 use Rattle.tx_client.specs.declared.tally.Tally.{Tally}

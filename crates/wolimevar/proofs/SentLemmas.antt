@@ -11,10 +11,10 @@ use Rattle.counted_slot.proofs.Counted.TheSendSync as counted
 use Rattle.actor_parts.proofs.Boxed.TheSendSync as boxed
 use Rattle.replay_log.proofs.base.Base.TheSendSync as base
 use Rattle.tx_actor.proofs.actor.TxActor.TheSendSync as actor
-use Rattle.tx_table.specs.contracts.seat.EventsSinceStep as EventsSinceStep
-use Rattle.tx_table.specs.contracts.seat.Seat as Seat
-use Rattle.tx_table.proofs.home.Home.TheSendSync as base_home
-use Rattle.tx_table.proofs.table.TxTable.TheSendSync as table
+use Rattle.shared_table.specs.contracts.seat.EventsSinceStep as EventsSinceStep
+use Rattle.shared_table.specs.contracts.seat.Seat as Seat
+use Rattle.shared_table.proofs.home.Home.TheSendSync as base_home
+use Rattle.shared_table.proofs.table.TxTable.TheSendSync as table
 use Rattle.tx_engine.specs.contracts.seats.TxSeat as TxSeat
 use Rattle.tx_engine.proofs.reply_room.ReplyRoom.TheSendSync as replies
 use Rattle.wolimevar.specs.contracts.homes.Back as Back

@@ -1,7 +1,7 @@
 -- Where the seats of lent clients come back.
 use Rattle.std.specs.Prelude.{◌≡◌}
 use Rattle.std.specs.Arc.{arc_value}
-use Rattle.tx_table.specs.declared.table.TxTable.{TxTable}
+use Rattle.shared_table.specs.declared.table.TxTable.{TxTable}
 use Rattle.wolimevar.specs.declared.homes.Home.{Home}
 
 module _ {V : Type 0} where

@@ -1,9 +1,9 @@
 -- A lender, and what it takes back.
 use Rattle.std.specs.Prelude.{◌≡◌, ℕ, ◌+◌, ◌≤◌, ◌++◌, All, List, Some, length}
 use Rattle.seq_model.specs.declared.record.Record.{Record}
-use Rattle.tx_table.specs.declared.seat.Seat.{Seat}
-use Rattle.tx_table.specs.declared.table.TxTable.{TxTable}
-use Rattle.tx_table.specs.Seated.{view}
+use Rattle.shared_table.specs.declared.seat.Seat.{Seat}
+use Rattle.shared_table.specs.declared.table.TxTable.{TxTable}
+use Rattle.shared_table.specs.Seated.{view}
 use Rattle.tx_turns.specs.RequestHistory.{requests_of}
 use Rattle.tx_engine.specs.declared.seats.TxSeat.{TxSeat}
 use Rattle.tx_engine.specs.Ready.{IsReady}

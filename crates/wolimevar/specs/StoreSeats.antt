@@ -1,8 +1,8 @@
 -- A store, between its transactions.
 use Rattle.std.specs.Prelude.{◌≡◌, ℕ, [], Option, Some, None}
-use Rattle.tx_table.specs.declared.table.TxTable.{TxTable}
-use Rattle.tx_table.specs.Seated.{contents_in, view}
-use Rattle.tx_table.specs.declared.view.TheConstants.{SHARES}
+use Rattle.shared_table.specs.declared.table.TxTable.{TxTable}
+use Rattle.shared_table.specs.Seated.{contents_in, view}
+use Rattle.shared_table.specs.declared.view.TheConstants.{SHARES}
 use Rattle.tx_turns.specs.RequestHistory.{requests_of}
 use Rattle.tx_client.specs.declared.tally.Tally.{Tally}
 use Rattle.tx_engine.specs.declared.seats.TxSeat.{TxSeat}

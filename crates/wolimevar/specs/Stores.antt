@@ -5,7 +5,7 @@ use Rattle.seq_model.specs.Runs.{IsInCommitOrder, IsRun, after_run}
 use Rattle.seq_model.specs.declared.event.Request.{Request}
 use Rattle.seq_model.specs.declared.record.Record.{Record}
 use Rattle.tx_client.specs.declared.tally.Tally.{Tally}
-use Rattle.tx_table.specs.Shown.{total}
+use Rattle.shared_table.specs.Shown.{total}
 
 module _ (V : Type 0) where
   -- its number, what it opened with, the receipts of its transactions, each with the number of its actor, the last number that it committed

@@ -3,8 +3,8 @@ use Rattle.std.specs.Prelude.{◌≡◌, ◌≤◌, ℕ, All, length}
 use Rattle.actor_parts.specs.declared.blocks.TheConstants.{COLLECTION_LIMIT}
 use Rattle.seq_model.specs.Calls.{IsWithinLimits}
 use Rattle.seq_model.specs.Contents.{Contents}
-use Rattle.tx_table.specs.declared.closed.Closed.{Closed}
-use Rattle.tx_table.specs.Ends.{held_in, homes_of}
+use Rattle.shared_table.specs.declared.closed.Closed.{Closed}
+use Rattle.shared_table.specs.Ends.{held_in, homes_of}
 use Rattle.tx_engine.specs.Closing.{state_of}
 
 module _ (V : Type 0) where

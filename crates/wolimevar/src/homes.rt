@@ -11,11 +11,11 @@ ghost use Rattle.wolimevar.specs.Homes.{IsHomeOf};
 
 use counted_slot::{Counted, FREE, Fits, MARKED, PRESENT, TAKEN};
 use seq_model::{Memory, Value};
+use shared_table::TxTable;
 use std::alloc::Global;
 use std::snapshot::Snapshot;
 use std::sync::Arc;
 use tx_engine::TxSeat;
-use tx_table::TxTable;
 
 /// A seat that has come back.
 #[derive(Drop)]

@@ -5,8 +5,8 @@
 ghost use Rattle.std.specs.Prelude.{◌≡◌, ◌⊎◌, ◌+◌, ◌-◌, ◌<◌, ◌≤◌, ◌++◌, [], All, IfErr, IfOk, IfSome, OnErr, OnOk};
 ghost use Rattle.std.specs.Arc.{arc_value};
 ghost use Rattle.seq_model.specs.declared.refusal.Refusal.TheVariants.{Memory as OutOfMemory, TooLong};
-ghost use Rattle.tx_table.specs.Seated.{view};
-ghost use Rattle.tx_table.specs.declared.view.TheConstants.{SHARES};
+ghost use Rattle.shared_table.specs.Seated.{view};
+ghost use Rattle.shared_table.specs.declared.view.TheConstants.{SHARES};
 ghost use Rattle.tx_turns.specs.RequestHistory.{requests_of};
 ghost use Rattle.tx_engine.specs.Ready.{IsReady};
 ghost use Rattle.tx_client.specs.Backs.{IsBack, shares_at};
@@ -23,13 +23,13 @@ use crate::sessions::Session;
 use crate::store::Store;
 use actor_parts::Boxed;
 use seq_model::{Memory, Refusal, Value};
+use shared_table::{SHARES, TxTable};
 use std::alloc::Global;
 use std::marker::Model;
 use std::sync::Arc;
 use std::thread::Threads;
 use tx_client::{Caller, Tally};
 use tx_engine::TxSeat;
-use tx_table::{SHARES, TxTable};
 
 /// A store that lends clients to threads of the caller's own. [`crate::Store::lend`] makes it, [`Lender::end`] gives the store back.
 ///

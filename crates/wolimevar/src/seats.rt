@@ -3,15 +3,15 @@
 //! A client's seat is in a box, so that it goes from call to call as a pointer. Where no box can be had, the seat that was split off is
 //! joined again: it has nothing but its share, so what contracts see of the store's seat is as before.
 ghost use Rattle.std.specs.Prelude.{◌<◌, IfOk, OnErr, OnOk};
-ghost use Rattle.tx_table.specs.Seated.{view};
+ghost use Rattle.shared_table.specs.Seated.{view};
 ghost use Rattle.tx_engine.specs.Ready.{IsReady};
 ghost use Rattle.wolimevar.specs.Splits.{HasLeft, IsUnused};
 
 use actor_parts::Boxed;
 use seq_model::{Memory, Value};
+use shared_table::TxTable;
 use std::alloc::Global;
 use tx_engine::TxSeat;
-use tx_table::TxTable;
 
 /// Joins a seat again that was split off and not used.
 pub(crate) fn join_unused<V: Value>(table: &TxTable<V>, seat: &mut TxSeat<V>, own: TxSeat<V>)

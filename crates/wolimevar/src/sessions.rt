@@ -5,7 +5,7 @@
 //! [`Task`] (the session, its seat, the place for its result) and makes the client itself.
 ghost use Rattle.std.specs.Prelude.{◌≡◌, ℕ, ◌+◌, ◌<◌, ◌≤◌, ◌++◌, [], All, IfErr, IfOk, OnErr, OnOk, Some, length, map, slice_index_or};
 ghost use Rattle.std.specs.Vec.{vec_capacity};
-ghost use Rattle.tx_table.specs.Seated.{actor, view};
+ghost use Rattle.shared_table.specs.Seated.{actor, view};
 ghost use Rattle.tx_turns.specs.RequestHistory.{requests_of};
 ghost use Rattle.tx_engine.specs.Ready.{IsReady};
 ghost use Rattle.tx_client.specs.Frames.{AreBy};
@@ -15,13 +15,13 @@ ghost use Rattle.wolimevar.specs.Splits.{HasLeft};
 use crate::seats::{join_unused, split_off};
 use actor_parts::Boxed;
 use seq_model::{Memory, Refusal, Value};
+use shared_table::{SHARES, TxTable};
 use std::alloc::Global;
 use std::marker::Brand;
 use std::thread;
 use std::thread::Threads;
 use tx_client::{Caller, Client, Scope, client_of, seat_of};
 use tx_engine::TxSeat;
-use tx_table::{SHARES, TxTable};
 
 /// What a thread does with a client of its own.
 ///

@@ -1,7 +1,7 @@
 //! A store, which runs transactions itself and lends clients to sessions.
 ghost use Rattle.std.specs.Prelude.{◌≡◌, ◌<◌, ◌≤◌, ◌++◌, ◌∷◌, [], IfErr, IfOk, OnErr, OnOk, false, length, max, true};
 ghost use Rattle.seq_model.specs.declared.refusal.Refusal.TheVariants.{Ahead};
-ghost use Rattle.tx_table.specs.declared.view.TheConstants.{SHARES};
+ghost use Rattle.shared_table.specs.declared.view.TheConstants.{SHARES};
 ghost use Rattle.tx_client.specs.RequestKinds.{HasAsked};
 ghost use Rattle.tx_client.specs.Ends.{IsAbortBy};
 ghost use Rattle.wolimevar.specs.Sessions.{HaveServed, IsWhy};
@@ -13,13 +13,13 @@ use crate::sessions::{Session, serve};
 use crate::unread::Unread;
 use actor_parts::Boxed;
 use seq_model::{Failure, Refusal, Value};
+use shared_table::TxTable;
 use std::alloc::Global;
 use std::marker::Model;
 use std::sync::Arc;
 use std::thread::Threads;
 use tx_client::{Body, Caller, Contents, Tally, retry};
 use tx_engine::{Receipt, TxSeat};
-use tx_table::TxTable;
 
 /// Words and collections, on which transactions run. [`crate::Layout::open`] opens it, [`Store::close`] ends it.
 ///

@@ -5,15 +5,15 @@
 ghost use Rattle.std.specs.Prelude.{◌≡◌, ◌≤◌, All, IfErr, IfOk, length};
 ghost use Rattle.actor_parts.specs.declared.blocks.TheConstants.{COLLECTION_LIMIT};
 ghost use Rattle.seq_model.specs.Calls.{IsWithinLimits};
-ghost use Rattle.tx_table.specs.Ends.{held_in, homes_of, row_of};
-ghost use Rattle.tx_table.specs.Layout.{values_in};
+ghost use Rattle.shared_table.specs.Ends.{held_in, homes_of, row_of};
+ghost use Rattle.shared_table.specs.Layout.{values_in};
 ghost use Rattle.tx_engine.specs.Closing.{state_of};
 
 use seq_model::{Held, Memory, Refusal, State, Value};
+use shared_table::Closed;
 use std::alloc::Global;
 use std::marker::Model;
 use tx_client::{Contents, contents_of};
-use tx_table::Closed;
 
 /// A store that has ended while memory was out: what it held is here, to be read later. [`crate::Store::close`] returns it.
 ///

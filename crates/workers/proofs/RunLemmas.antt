@@ -19,12 +19,12 @@ use Rattle.client_sessions.specs.Holding.{HoldsTables, state_of}
 use Rattle.client_sessions.specs.Runs.{after_deals}
 use Rattle.seq_model.specs.declared.held.Held.{Held}
 use Rattle.seq_model.specs.declared.refusal.Memory.{Memory}
-use Rattle.tx_table.specs.declared.closed.Closed.{Closed}
-use Rattle.tx_table.specs.declared.table.TxTable.{TxTable}
-use Rattle.tx_table.specs.Ends.{homes_of, row_of}
-use Rattle.tx_table.specs.Seated.{actor, contents_in, opening_of, view}
-use Rattle.tx_table.specs.Shown.{ShowsWorld, total}
-use Rattle.tx_table.specs.declared.view.SeatKnowledge.{SeatKnowledge}
+use Rattle.shared_table.specs.declared.closed.Closed.{Closed}
+use Rattle.shared_table.specs.declared.table.TxTable.{TxTable}
+use Rattle.shared_table.specs.Ends.{homes_of, row_of}
+use Rattle.shared_table.specs.Seated.{actor, contents_in, opening_of, view}
+use Rattle.shared_table.specs.Shown.{ShowsWorld, total}
+use Rattle.shared_table.specs.declared.view.SeatKnowledge.{SeatKnowledge}
 use Rattle.tx_engine.specs.Closing.{IsLeftBy, state_of as held_by}
 use Rattle.tx_engine.specs.Ready.{IsReady}
 use Rattle.tx_engine.specs.declared.seats.TxSeat.{TxSeat}

@@ -20,9 +20,9 @@ use Rattle.job_workers.specs.Reports.{IsReportOf, Reports, numbered}
 use Rattle.tx_engine.specs.Tasks as worked
 use Rattle.tx_engine.specs.Tasks.{AreNotStarted, AreTried, Outcome, Took, missed_in, receipts_in}
 use Rattle.tx_engine.specs.Retries.{HasReceipt}
-use Rattle.tx_table.specs.Seated.{actor, view}
-use Rattle.tx_table.specs.declared.table.TxTable.{TxTable}
-use Rattle.tx_table.specs.declared.view.Turn.{Turn}
+use Rattle.shared_table.specs.Seated.{actor, view}
+use Rattle.shared_table.specs.declared.table.TxTable.{TxTable}
+use Rattle.shared_table.specs.declared.view.Turn.{Turn}
 use Rattle.tx_engine.specs.declared.seats.TxSeat.{TxSeat}
 use Rattle.workers.proofs.AuditLemmas.{ReadsAsTold}
 use Rattle.workers.specs.Serving.{AreAllOutcomes, AreAllowed, AreOwnOutcomes, AreReportedAs, all_dealt, all_missed, asks_of, dealt}

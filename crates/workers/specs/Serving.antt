@@ -20,11 +20,11 @@ use Rattle.vacation_core.specs.Served.{AreServedInOrder, Receipt}
 use Rattle.actor_parts.specs.Openings.{world_of}
 use Rattle.vacation_core.specs.Stripes.{eight}
 use Rattle.tx_engine.specs.Jobs.{IsWholeJob}
-use Rattle.tx_table.specs.declared.closed.Closed.{Closed}
-use Rattle.tx_table.specs.declared.table.TxTable.{TxTable}
-use Rattle.tx_table.specs.Ends.{homes_of, row_of}
-use Rattle.tx_table.specs.Seated.{actor, contents_in, opening_of, view}
-use Rattle.tx_table.specs.Shown.{ShowsWorld, first}
+use Rattle.shared_table.specs.declared.closed.Closed.{Closed}
+use Rattle.shared_table.specs.declared.table.TxTable.{TxTable}
+use Rattle.shared_table.specs.Ends.{homes_of, row_of}
+use Rattle.shared_table.specs.Seated.{actor, contents_in, opening_of, view}
+use Rattle.shared_table.specs.Shown.{ShowsWorld, first}
 use Rattle.tx_engine.specs.Closing.{IsLeftBy, state_of as held_by}
 use Rattle.tx_engine.specs.declared.seats.TxSeat.{TxSeat}
 use Rattle.tx_engine.specs.Ready.{IsReady}

@@ -3,7 +3,7 @@ ghost use Rattle.std.specs.Prelude.{◌≡◌, ◌↔◌, ◌≤◌, IfErr, IfOk
 ghost use Rattle.conflict.specs.Refusals.{IsStripeCount};
 ghost use Rattle.seq_model.specs.Refusals.{IsTooLong};
 ghost use Rattle.vac_model.specs.Balanced.{IsBalanced};
-ghost use Rattle.tx_table.specs.Seated.{view};
+ghost use Rattle.shared_table.specs.Seated.{view};
 ghost use Rattle.tx_engine.specs.Ready.{IsReady};
 ghost use Rattle.job_workers.specs.Reports.{jobs_of};
 ghost use Rattle.workers.specs.Serving.{AreAllowed, IsClosedWith, IsServed, OpensOnTables};
@@ -12,11 +12,11 @@ use client_sessions::{Entry, Session, state_of};
 use conflict::is_stripe_count;
 use job_workers::{Report, run_workers_owned};
 use seq_model::{ACTOR_LIMIT, Items, Memory, Refusal, Shape, State};
+use shared_table::{SHARES, TxTable};
 use std::alloc::Global;
 use std::sync::Wait;
 use std::thread::Threads;
 use tx_engine::{Pause, TxSeat};
-use tx_table::{SHARES, TxTable};
 use vac_model::{Action, Tables};
 use vacation_core::{are_allowed, sessions_of, tables_left};
 

@@ -6,8 +6,8 @@ use super::calls::{Placed, Style, ask};
 use super::ends::{End, end_as};
 use crate::shared::{Answer, Meeting, Page, Stand, Told};
 use seq_model::Refusal;
+use shared_table::TxTable;
 use tx_engine::{Tx, TxSeat, begin, begin_read};
-use tx_table::TxTable;
 
 /// A transaction makes these calls, and ends so.
 pub fn transact<V: Told>(

@@ -3,8 +3,8 @@ ghost use Rattle.std.specs.Prelude.{◌≡◌};
 ghost use Rattle.tx_engine.specs.Ready.{HasBegunSince, IsReady};
 
 use seq_model::{Call, Record, Refusal, Value};
+use shared_table::TxTable;
 use tx_engine::{Tx, TxSeat, begin};
-use tx_table::TxTable;
 
 /// Makes these calls in one transaction, and commits. A call that runs out of memory has aborted it, so there is nothing to commit then.
 pub fn commit_calls<V: Value>(

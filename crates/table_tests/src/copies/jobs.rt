@@ -1,15 +1,15 @@
 //! Jobs of workers, whose values are rationed.
 ghost use Rattle.std.specs.Prelude.{◌≡◌, ◌≤◌, length};
-ghost use Rattle.tx_table.specs.Seated.{view};
+ghost use Rattle.shared_table.specs.Seated.{view};
 ghost use Rattle.tx_engine.specs.Ready.{IsReady};
 
 use super::rations::{Ration, Rationed, get};
 use seq_model::{Ask, Call, Job, Memory, Op, Refusal, Reply};
+use shared_table::TxTable;
 use std::alloc::Global;
 use std::sync::Wait;
 use std::thread::Threads;
 use tx_engine::{Pause, TxSeat};
-use tx_table::TxTable;
 use workers::{Report, run_workers};
 
 /// What a job asks.

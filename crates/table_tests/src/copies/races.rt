@@ -1,6 +1,6 @@
 //! Workers at a table of such values, whose commits overlap, and one of whose copies is refused.
 ghost use Rattle.std.specs.Prelude.{◌≡◌};
-ghost use Rattle.tx_table.specs.Seated.{view};
+ghost use Rattle.shared_table.specs.Seated.{view};
 ghost use Rattle.tx_engine.specs.Ready.{IsReady};
 
 use super::jobs::{Asks, Plan, run_plans};
@@ -10,11 +10,11 @@ use super::tables::Made;
 use crate::shared::{Meeting, Order, keep_all};
 use crate::worker::reports::memory_missed;
 use seq_model::{Record, Refusal};
+use shared_table::TxTable;
 use std::alloc::Global;
 use std::sync::Wait;
 use std::thread::Threads;
 use tx_engine::TxSeat;
-use tx_table::TxTable;
 use workers::Report;
 
 /// So many attempts no job needs.

@@ -5,8 +5,8 @@ use super::borrowers::commit_calls;
 use super::rations::{Ration, Rationed, get};
 use super::tables::Made;
 use seq_model::{Record, Refusal};
+use shared_table::TxTable;
 use tx_engine::TxSeat;
-use tx_table::TxTable;
 
 /// The transaction is run with the copy at this position refused; whether one was. It is answered as `Memory` then, and else it
 /// commits; the same seat commits the next one.

@@ -1,6 +1,6 @@
 //! A table of such values, from its opening to the audit of its receipts.
 ghost use Rattle.std.specs.Prelude.{◌≡◌};
-ghost use Rattle.tx_table.specs.Seated.{view};
+ghost use Rattle.shared_table.specs.Seated.{view};
 ghost use Rattle.tx_engine.specs.Ready.{IsReady};
 
 use super::races::race;
@@ -9,10 +9,10 @@ use super::seats::refuse;
 use super::waits::hold;
 use crate::shared::{audit_receipts, close, open};
 use seq_model::{Record, Refusal, State};
+use shared_table::TxTable;
 use std::sync::Wait;
 use std::thread::Threads;
 use tx_engine::TxSeat;
-use tx_table::TxTable;
 
 /// No work has more receipts.
 const RECEIPTS: usize = 5;

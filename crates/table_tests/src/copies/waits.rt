@@ -1,7 +1,7 @@
 //! Two workers at a table of such values. One that the first worker's commit replaces waits as it is dropped, under the lock of a word and
 //! the gate of a map, until the second worker was refused at both.
 ghost use Rattle.std.specs.Prelude.{◌≡◌};
-ghost use Rattle.tx_table.specs.Seated.{view};
+ghost use Rattle.shared_table.specs.Seated.{view};
 ghost use Rattle.tx_engine.specs.Ready.{IsReady};
 
 use super::jobs::{Asks, Plan, run_plans};
@@ -11,10 +11,10 @@ use super::tables::Made;
 use crate::shared::keep_all;
 use crate::worker::reports::{memory_missed, print_missed, print_own};
 use seq_model::{Record, Refusal};
+use shared_table::TxTable;
 use std::sync::Wait;
 use std::thread::Threads;
 use tx_engine::TxSeat;
-use tx_table::TxTable;
 use workers::Report;
 
 /// The second worker is refused while the first one's commit is held, and commits once that one has its receipt.

@@ -5,10 +5,10 @@ use crate::shared::{Answer, Listed, Meeting, Told, job_of};
 use crate::{resumed, shown};
 use row_parts::script_of;
 use seq_model::{Refusal, Request};
+use shared_table::TxTable;
 use std::alloc::Global;
 use text_formats::{EventLine, number};
 use tx_engine::{Attempt, Pause, TxSeat, attempt_with, learn};
-use tx_table::TxTable;
 
 /// The request that this row spells.
 pub fn ask_row<V: Told>(

@@ -9,10 +9,10 @@ use crate::borrowed::transacted::transact;
 use crate::resumed;
 use crate::shared::{Answer, Meeting, Page, Stand, Told};
 use seq_model::Refusal;
+use shared_table::TxTable;
 use std::alloc::Global;
 use text_formats::number;
 use tx_engine::TxSeat;
-use tx_table::TxTable;
 
 /// Answers the row if it is one of this seat; unless an allocation failed before: then no other seat is to wait for this one.
 pub fn answer_at<V: Told>(

@@ -8,9 +8,9 @@ use crate::resumed;
 use crate::shared::{Meeting, Order, Page, Stand, Told};
 use crate::worker::retries::{AMONG_OTHERS, commit_after};
 use seq_model::Refusal;
+use shared_table::TxTable;
 use std::thread::{Threads, join_mut};
 use tx_engine::TxSeat;
-use tx_table::TxTable;
 
 /// Where a row of the first seat stands that waits for none.
 const FIRST: Stand = Stand {

@@ -1,7 +1,7 @@
 //! What rows are answered.
 use seq_model::{Memory, Record, Refusal, Reply, Value};
+use shared_table::Block;
 use std::fmt::Write;
-use tx_table::Block;
 
 /// What a row is answered that is not refused.
 #[derive(Drop)]

@@ -1,7 +1,7 @@
 //! How a table ends.
 ghost use Rattle.std.specs.Prelude.{All, IfOk};
 ghost use Rattle.seq_model.specs.Calls.{IsWithinLimits};
-ghost use Rattle.tx_table.specs.Ends.{held_in};
+ghost use Rattle.shared_table.specs.Ends.{held_in};
 ghost use Rattle.tx_engine.specs.Ready.{IsReady};
 
 use super::answers::Answer;
@@ -9,10 +9,10 @@ use super::pages::Page;
 use super::told::Told;
 use row_parts::script_of;
 use seq_model::{AuditFault, Items, Memory, Record, Refusal, Request, State, Value, audit};
+use shared_table::{Closed, TxTable};
 use std::alloc::Global;
 use text_formats::EventLine;
 use tx_engine::TxSeat;
-use tx_table::{Closed, TxTable};
 
 /// How many shares a seat has into which all were joined.
 const ALL_SHARES: u64 = 64;

@@ -1,12 +1,12 @@
 //! How a table opens.
 ghost use Rattle.std.specs.Prelude.{◌≡◌, IfOk};
-ghost use Rattle.tx_table.specs.Seated.{view};
+ghost use Rattle.shared_table.specs.Seated.{view};
 ghost use Rattle.tx_engine.specs.Ready.{IsReady};
 
 use seq_model::{Refusal, Shape, State, Value};
+use shared_table::TxTable;
 use std::alloc::Global;
 use tx_engine::TxSeat;
-use tx_table::TxTable;
 
 /// The table of this shape and opening, and its first seat, which has all shares.
 pub fn open<V: Value>(

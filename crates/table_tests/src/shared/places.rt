@@ -5,8 +5,8 @@ use super::answers::Answer;
 use super::pages::Page;
 use super::told::Told;
 use seq_model::Refusal;
+use shared_table::{Closed, TxTable};
 use text_formats::number;
-use tx_table::{Closed, TxTable};
 
 /// Answers each row `the words`, how many there are, and `the block 0`, where this collection is stored.
 pub fn say_places<V: Told>(page: &mut Page<V>, table: &TxTable<V>, rows: &str) {

@@ -3,9 +3,9 @@ ghost use Rattle.tx_engine.specs.Ready.{IsReady};
 
 use crate::shared::{Answer, Page, Told, job_of};
 use seq_model::Refusal;
+use shared_table::{Kind, TxTable};
 use std::alloc::Global;
 use tx_engine::TxSeat;
-use tx_table::{Kind, TxTable};
 use workers::{LastAbort, NoPause, retry};
 
 /// So often a write is tried where other seats may stand in its way.

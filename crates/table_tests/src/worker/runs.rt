@@ -1,16 +1,16 @@
 //! Jobs on a table, each list by a worker of its own.
 ghost use Rattle.std.specs.Prelude.{◌≡◌, ◌≤◌, length};
-ghost use Rattle.tx_table.specs.Seated.{view};
+ghost use Rattle.shared_table.specs.Seated.{view};
 ghost use Rattle.tx_engine.specs.Ready.{IsReady};
 
 use super::lists::{Limits, lists_of, wants_of};
 use super::reports::{memory_missed, print_report};
 use crate::shared::{Meeting, Page, Told, keep_all};
 use seq_model::{Memory, Refusal};
+use shared_table::TxTable;
 use std::sync::Wait;
 use std::thread::Threads;
 use tx_engine::TxSeat;
-use tx_table::TxTable;
 use workers::{Report, run_workers};
 
 /// The workers' lists that these rows spell are run. Whether jobs ran out of memory that were to have none. `NoSuch` where there are no

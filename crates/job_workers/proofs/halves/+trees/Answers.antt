@@ -1,5 +1,5 @@
 use Rattle.std.proofs.Common.{rules, [], ◌∷◌, ◌++◌, ◌∙◌, ap, inl, inr, refl, subst, sym}
-use Rattle.tx_table.specs.Seated.{actor, view}
+use Rattle.shared_table.specs.Seated.{actor, view}
 use Rattle.job_workers.proofs.HalfLemmas.{back_gains, back_ready, back_works, both_joined, first_done, second_done}
 use Rattle.job_workers.proofs.ReportLemmas.{same_works}
 use Rattle.tx_engine.proofs.TaskLemmas.{both_gain}

@@ -1,5 +1,5 @@
 use Rattle.std.proofs.Common.{refl, sym}
-use Rattle.tx_table.specs.Seated.{opening_of}
+use Rattle.shared_table.specs.Seated.{opening_of}
 use Rattle.tx_client.specs.Frames.{calls_made}
 use Rattle.tx_client.proofs.RequestKindLemmas.{abort_asks, finish_asks}
 use Rattle.tx_client.proofs.EndLemmas.{committed, aborted, refused}

@@ -1,6 +1,6 @@
 use Rattle.std.proofs.Common.{◌∙◌, arith, inl, refl, subst, sym}
 use Rattle.std.proofs.lemmas.Result.{err_from_is_err_and}
-use Rattle.tx_table.specs.Seated.{acts, opening_of}
+use Rattle.shared_table.specs.Seated.{acts, opening_of}
 use Rattle.tx_engine.proofs.AttemptLemmas.{fresh_so_far, keeps_self, reaches_before, unmade_before}
 use Rattle.tx_engine.proofs.RequestLemmas.{then_keeps}
 use Rattle.tx_engine.specs.Attempts.{IsSoFar}

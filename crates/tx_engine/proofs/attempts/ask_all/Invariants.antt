@@ -1,7 +1,7 @@
 use Rattle.std.proofs.Common.{◌≡◌, ◌-◌, length}
 use Rattle.seq_model.specs.declared.limits.TheConstants.{CALL_LIMIT}
 use Rattle.seq_model.specs.Places.{IsPlaceIn}
-use Rattle.tx_table.specs.Seated.{opening_of}
+use Rattle.shared_table.specs.Seated.{opening_of}
 use Rattle.tx_turns.specs.Begins.{begins_of}
 use Rattle.tx_engine.specs.Ready.{HasBegunSince, IsReady}
 use Rattle.tx_engine.specs.Requests.{HasSameAborted, KeepsReceipts}

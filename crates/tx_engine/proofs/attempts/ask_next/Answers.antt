@@ -1,7 +1,7 @@
 use Rattle.std.proofs.Common.{◌∷◌, ◌++◌, [], length, inl, inr, refl, ap, ◌∙◌, sym, subst, length-append}
 use Rattle.std.proofs.lemmas.Result.{err_from_is_err_and}
 use Rattle.seq_model.specs.Places.{IsPlaceIn}
-use Rattle.tx_table.specs.Seated.{opening_of}
+use Rattle.shared_table.specs.Seated.{opening_of}
 use Rattle.tx_engine.proofs.AttemptLemmas.{call_adds_none, call_made, call_refused, call_within, keeps_self, reaches_now, starved}
 use Rattle.tx_engine.proofs.JobLemmas.{asked_here, place_on}
 use Rattle.tx_engine.specs.Attempts.{IsSoFar}

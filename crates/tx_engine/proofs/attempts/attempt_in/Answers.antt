@@ -1,6 +1,6 @@
 use Rattle.std.proofs.Common.{ap, inl, sym, ◌∙◌}
 use Rattle.std.proofs.lemmas.Result.{err_from_is_err_and}
-use Rattle.tx_table.specs.Seated.{acts, opening_of}
+use Rattle.shared_table.specs.Seated.{acts, opening_of}
 use Rattle.tx_engine.proofs.RequestLemmas.{then_keeps}
 use Rattle.tx_engine.proofs.AttemptLemmas.{aborted_and_made, aborted_first, at_end, broken_off, commit_refused, given_up, has_begun}
 use Rattle.tx_engine.proofs.AttemptLemmas.{has_made}

@@ -1,6 +1,6 @@
 use Rattle.std.proofs.Common.{ap, ◌∙◌, subst, sym}
-use Rattle.tx_table.specs.Seated.{opening_of}
-use Rattle.tx_table.specs.declared.seat.Seat.{Seat}
+use Rattle.shared_table.specs.Seated.{opening_of}
+use Rattle.shared_table.specs.declared.seat.Seat.{Seat}
 use Rattle.tx_engine.specs.Ready.{standing}
 use Rattle.tx_engine.proofs.ReadyLemmas.{still_ready}
 use Rattle.tx_engine.specs.Attempts.{AttemptsTo}

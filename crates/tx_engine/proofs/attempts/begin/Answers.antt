@@ -1,4 +1,4 @@
-use Rattle.tx_table.specs.Seated.{opening_of}
+use Rattle.shared_table.specs.Seated.{opening_of}
 use Rattle.tx_engine.proofs.GainLemmas.{aborts_first}
 use Rattle.tx_engine.proofs.attempts.begin.Goals as goal
 

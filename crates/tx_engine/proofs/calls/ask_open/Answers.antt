@@ -1,6 +1,6 @@
 use Rattle.std.proofs.Common.{◌≡◌, true, [], ◌∷◌, ◌++◌, None, subst}
 use Rattle.seq_model.specs.declared.event.Request.TheVariants.{Abort}
-use Rattle.tx_table.specs.Seated.{opening_of}
+use Rattle.shared_table.specs.Seated.{opening_of}
 use Rattle.tx_turns.specs.Driven.{is_declared}
 use Rattle.tx_turns.specs.RequestHistory.{requests_of}
 use Rattle.tx_engine.specs.Requests.{HasAborted, IsLastAborted}

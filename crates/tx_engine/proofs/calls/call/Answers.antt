@@ -4,7 +4,7 @@ use Rattle.seq_model.specs.declared.event.Request.TheVariants as request
 use Rattle.seq_model.specs.declared.refusal.Refusal.{Refusal}
 use Rattle.tx_actor.specs.declared.actor.ActorNotice.{ActorNotice}
 use Rattle.tx_actor.specs.declared.actor.ActorNotice.TheVariants as told
-use Rattle.tx_table.specs.Seated.{opening_of}
+use Rattle.shared_table.specs.Seated.{opening_of}
 use Rattle.tx_engine.proofs.AskLemmas.{aborted_for, asked_for}
 use Rattle.tx_engine.proofs.RequestLemmas.{asks_one, begins_none}
 use Rattle.tx_engine.proofs.CallLemmas.{at_once, call_starved, call_told, calls_on, driven_calls}

@@ -1,6 +1,6 @@
 use Rattle.std.proofs.Common.{subst}
 use Rattle.tx_actor.specs.declared.actor.ActorNotice.{ActorNotice}
-use Rattle.tx_table.specs.Seated.{opening_of}
+use Rattle.shared_table.specs.Seated.{opening_of}
 use Rattle.tx_engine.proofs.CallLemmas.{call_said, under_call}
 use Rattle.tx_turns.specs.Driven.{Driven, seat_in}
 use Rattle.tx_engine.proofs.calls.driven_call.Goals as goal

@@ -1,7 +1,7 @@
 use Rattle.std.proofs.Common.{◌∙◌, refl, sym}
 use Rattle.std.proofs.lemmas.Result.{err_from_is_err_and}
 use Rattle.seq_model.specs.declared.event.Request.TheVariants.{Commit}
-use Rattle.tx_table.specs.Seated.{opening_of}
+use Rattle.shared_table.specs.Seated.{opening_of}
 use Rattle.tx_engine.proofs.AskLemmas.{aborted_for, asked_for}
 use Rattle.tx_engine.proofs.RequestLemmas.{asks_one, begins_none}
 use Rattle.tx_engine.proofs.CommitLemmas.{commit_asked, commit_told, commits_to, starved_commit, under_commits}

@@ -2,7 +2,7 @@ use Rattle.std.proofs.Common.{◌≡◌, ℕ, ◌+◌, Some, inl, inr, subst}
 use Rattle.replay_log.specs.Seats.{World}
 use Rattle.replay_log.specs.WorldTries.{InVain, tried_at}
 use Rattle.replay_log.specs.Worlds.{gate_tries, run}
-use Rattle.tx_table.specs.Seated.{opening_of}
+use Rattle.shared_table.specs.Seated.{opening_of}
 use Rattle.tx_engine.proofs.SeatLemmas.{is_calm}
 use Rattle.tx_engine.proofs.BusyGateLemmas.{tried_in_vain}
 use Rattle.tx_engine.proofs.laws.busy_gates_were_tried_64_times.Goals as goal

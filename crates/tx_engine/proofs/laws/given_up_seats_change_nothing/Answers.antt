@@ -2,7 +2,7 @@ use Rattle.std.proofs.Common.{inl, inr, subst, sym}
 use Rattle.seq_model.specs.declared.event.Answer.TheVariants.{Aborted}
 use Rattle.seq_model.specs.declared.refusal.Refusal.{Refusal}
 use Rattle.tx_actor.specs.declared.actor.ActorNotice.TheVariants.{Answered, Refused}
-use Rattle.tx_table.specs.Seated.{actor, acts, opening_of}
+use Rattle.shared_table.specs.Seated.{actor, acts, opening_of}
 use Rattle.tx_turns.specs.Driven.{HasTold}
 use Rattle.tx_engine.proofs.RefusedLemmas.{gave_up}
 use Rattle.tx_engine.proofs.SeatLemmas.{opening_linked}

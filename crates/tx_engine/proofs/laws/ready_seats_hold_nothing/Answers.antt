@@ -1,4 +1,4 @@
-use Rattle.tx_table.specs.Seated.{opening_of}
+use Rattle.shared_table.specs.Seated.{opening_of}
 use Rattle.tx_engine.proofs.SeatLemmas.{holds_nothing, is_calm}
 use Rattle.tx_engine.proofs.laws.ready_seats_hold_nothing.Goals as goal
 

@@ -1,6 +1,6 @@
 use Rattle.std.proofs.Common.{◌∙◌, refl, sym}
 use Rattle.seq_model.specs.declared.event.Request.TheVariants.{Abort}
-use Rattle.tx_table.specs.Seated.{opening_of}
+use Rattle.shared_table.specs.Seated.{opening_of}
 use Rattle.tx_turns.proofs.GivenUpLemmas.{under_ends}
 use Rattle.tx_turns.proofs.RequestHistoryLemmas.{same_begins}
 use Rattle.tx_turns.proofs.RestLemmas.{bare_out}

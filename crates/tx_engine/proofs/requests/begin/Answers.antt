@@ -1,7 +1,7 @@
 use Rattle.std.proofs.Common.{◌∙◌, ap, false, subst, sym}
 use Rattle.seq_model.specs.declared.event.Request.TheVariants.{Begin}
 use Rattle.tx_actor.specs.declared.actor.Stage as own
-use Rattle.tx_table.specs.Seated.{opening_of}
+use Rattle.shared_table.specs.Seated.{opening_of}
 use Rattle.tx_turns.specs.Bases.{gates_at}
 use Rattle.tx_turns.specs.Driven.{is_declared}
 use Rattle.tx_turns.proofs.RestLemmas.{IsFree, bare_out, free_own}

@@ -1,5 +1,5 @@
 use Rattle.std.proofs.Common.{◌∙◌, sym}
-use Rattle.tx_table.specs.Seated.{opening_of}
+use Rattle.shared_table.specs.Seated.{opening_of}
 use Rattle.tx_turns.proofs.RequestHistoryLemmas.{same_begins}
 use Rattle.tx_turns.proofs.RestLemmas.{bare_out}
 use Rattle.tx_turns.specs.Driven.{is_declared, seat_in}

@@ -1,6 +1,6 @@
 use Rattle.std.proofs.Common.{rules, ◌≡◌, ◌+◌, ◌<◌, Ok, Result, ap, inl, inr, refl, subst, ◌∙◌, arith}
 use Rattle.seq_model.specs.declared.refusal.Refusal.{Refusal}
-use Rattle.tx_table.specs.Seated.{opening_of}
+use Rattle.shared_table.specs.Seated.{opening_of}
 use Rattle.tx_engine.specs.Attempts.{AttemptsTo}
 use Rattle.tx_engine.specs.declared.attempts.Attempt.{Attempt}
 use Rattle.tx_engine.specs.Retries.{IsTransient}

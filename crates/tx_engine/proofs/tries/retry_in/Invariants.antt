@@ -1,5 +1,5 @@
 use Rattle.std.proofs.Common.{◌≡◌, ◌⊎◌}
-use Rattle.tx_table.specs.Seated.{opening_of}
+use Rattle.shared_table.specs.Seated.{opening_of}
 use Rattle.actor_laws.specs.KnownStages.{Rests}
 use Rattle.tx_engine.specs.Ready.{IsReady, standing}
 use Rattle.tx_engine.specs.Retries.{HasNoReceipt}

@@ -1,6 +1,6 @@
 use mathlib.Core.Option.{some}
 use Rattle.std.proofs.Common.{ap, false, refl, subst, sym}
-use Rattle.tx_table.specs.Seated.{opening_of}
+use Rattle.shared_table.specs.Seated.{opening_of}
 use Rattle.tx_engine.specs.Borrowed.{IsBegunSince}
 use Rattle.tx_engine.specs.Ready.{HasBegunSince, IsReady}
 use Rattle.tx_engine.specs.Requests.{KeepsReceipts}

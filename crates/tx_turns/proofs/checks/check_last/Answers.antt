@@ -1,5 +1,5 @@
 use Rattle.step_core.specs.declared.actor.Place.TheVariants.{Check}
-use Rattle.tx_table.specs.Seated.{opening_of}
+use Rattle.shared_table.specs.Seated.{opening_of}
 use Rattle.tx_turns.specs.Ties.{laid_in}
 use Rattle.tx_turns.specs.Straight.{at_place}
 use Rattle.tx_turns.proofs.CheckLemmas.{check_due, check_steps}

@@ -1,5 +1,5 @@
 use Rattle.std.proofs.Common.{true}
-use Rattle.tx_table.specs.Seated.{opening_of}
+use Rattle.shared_table.specs.Seated.{opening_of}
 use Rattle.tx_turns.proofs.CommitLemmas.{failed, joins, stands}
 use Rattle.tx_turns.proofs.commits.commit_on.Goals as goal
 

@@ -2,7 +2,7 @@ use Rattle.std.proofs.Common.{Option, subst, sym}
 use Rattle.seq_model.specs.declared.record.Record.{Record}
 use Rattle.actor_parts.specs.declared.next.Next.{Next}
 use Rattle.tx_actor.specs.declared.actor.ActorNotice.{ActorNotice}
-use Rattle.tx_table.specs.Seated.{opening_of}
+use Rattle.shared_table.specs.Seated.{opening_of}
 use Rattle.tx_turns.specs.Driven.{Driven, WantsMemory}
 use Rattle.tx_turns.proofs.DrivenLemmas.{driven_on}
 use Rattle.tx_turns.proofs.GivenUpLemmas.{stops_at}

@@ -1,7 +1,7 @@
 use Rattle.std.proofs.Common.{Bool, ap, false, subst, sym, true}
 use Rattle.actor_parts.specs.declared.next.Next.{Next}
 use Rattle.actor_parts.specs.declared.next.Next.TheVariants.{TryGate}
-use Rattle.tx_table.specs.Seated.{opening_of}
+use Rattle.shared_table.specs.Seated.{opening_of}
 use Rattle.tx_turns.specs.Driven.{WantsMemory, told_in}
 use Rattle.tx_turns.proofs.CommitLemmas.{failed, gate_leads, joins}
 use Rattle.tx_turns.proofs.GivenUpLemmas.{stops_at}

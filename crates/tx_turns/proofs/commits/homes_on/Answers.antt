@@ -1,6 +1,6 @@
 use Rattle.std.proofs.Common.{Bool, ap, false, true}
 use Rattle.actor_parts.specs.declared.next.Next.TheVariants.{GoHome}
-use Rattle.tx_table.specs.Seated.{opening_of}
+use Rattle.shared_table.specs.Seated.{opening_of}
 use Rattle.tx_turns.specs.Driven.{told_in}
 use Rattle.tx_turns.proofs.CommitLemmas.{gate_leads, joins}
 use Rattle.tx_turns.proofs.StepsLemmas.{nearer}

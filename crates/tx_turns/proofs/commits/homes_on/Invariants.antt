@@ -1,6 +1,6 @@
 use Rattle.replay_log.specs.WorldProgress.{left_of}
 use Rattle.tx_actor.specs.declared.actor.ActorNotice.TheVariants as told
-use Rattle.tx_table.specs.Seated.{actor, acts, opening_of}
+use Rattle.shared_table.specs.Seated.{actor, acts, opening_of}
 use Rattle.tx_turns.specs.Straight.{LeadsAll}
 use Rattle.tx_turns.specs.Ties.{Ties}
 use Rattle.tx_turns.specs.Own.{HasOwn}

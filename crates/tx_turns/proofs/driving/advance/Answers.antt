@@ -3,7 +3,7 @@ use Rattle.replay_log.specs.declared.base.Base.{Base}
 use Rattle.seq_model.specs.declared.record.Record.{Record}
 use Rattle.tx_actor.specs.declared.actor.ActorNotice.{ActorNotice}
 use Rattle.tx_actor.specs.declared.actor.ActorNotice.TheVariants as told
-use Rattle.tx_table.specs.Seated.{opening_of}
+use Rattle.shared_table.specs.Seated.{opening_of}
 use Rattle.tx_turns.specs.Own.{HasOwn}
 use Rattle.tx_turns.proofs.DrivenLemmas.{driven_on}
 use Rattle.tx_turns.proofs.StepsLemmas.{nearer}

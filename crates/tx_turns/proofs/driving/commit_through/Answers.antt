@@ -1,4 +1,4 @@
-use Rattle.tx_table.specs.Seated.{opening_of}
+use Rattle.shared_table.specs.Seated.{opening_of}
 use Rattle.tx_turns.proofs.DrivenLemmas.{driven_first}
 use Rattle.tx_turns.proofs.GivenUpLemmas.{given_up, stopped_ends}
 use Rattle.tx_turns.proofs.RestLemmas.{answered_own}

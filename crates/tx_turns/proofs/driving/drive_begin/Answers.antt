@@ -1,6 +1,6 @@
 use Rattle.std.proofs.Common.{List, None, subst}
 use Rattle.replay_log.specs.declared.base.Base.{Base}
-use Rattle.tx_table.specs.Seated.{opening_of}
+use Rattle.shared_table.specs.Seated.{opening_of}
 use Rattle.tx_turns.specs.Own.{HasOwn}
 use Rattle.tx_turns.proofs.DrivenLemmas.{driven_first}
 use Rattle.tx_turns.proofs.driving.drive_begin.Goals as goal

@@ -1,5 +1,5 @@
 use Rattle.std.proofs.Common.{false, true}
-use Rattle.tx_table.specs.Seated.{opening_of}
+use Rattle.shared_table.specs.Seated.{opening_of}
 use Rattle.tx_turns.proofs.RestLemmas.{answered_own}
 use Rattle.tx_turns.proofs.StraightLemmas.{told_so}
 use Rattle.tx_turns.proofs.driving.finish_after.Goals as goal

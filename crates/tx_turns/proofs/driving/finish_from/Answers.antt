@@ -1,5 +1,5 @@
 use Rattle.std.proofs.Common.{None}
-use Rattle.tx_table.specs.Seated.{opening_of}
+use Rattle.shared_table.specs.Seated.{opening_of}
 use Rattle.tx_turns.proofs.GivenUpLemmas.{given_up, stopped_ends}
 use Rattle.tx_turns.proofs.RestLemmas.{answered_own}
 use Rattle.tx_turns.proofs.driving.finish_from.Goals as goal

@@ -1,6 +1,6 @@
 use Rattle.std.proofs.Common.{None, Option, subst}
 use Rattle.seq_model.specs.declared.record.Record.{Record}
-use Rattle.tx_table.specs.Seated.{opening_of}
+use Rattle.shared_table.specs.Seated.{opening_of}
 use Rattle.tx_turns.proofs.DrivenLemmas.{driven_first}
 use Rattle.tx_turns.proofs.GivenUpLemmas.{ends_never, none_ends, under_ends}
 use Rattle.tx_turns.specs.Driven.{Driven, seat_in}

@@ -10,7 +10,7 @@ use Rattle.tx_actor.specs.Copying.{CanCopyAt}
 use Rattle.tx_actor.specs.ActorBounds.{IsRunning}
 use Rattle.tx_actor.specs.Running.{at}
 use Rattle.tx_actor.specs.Taking.{AreTakenAt}
-use Rattle.tx_table.specs.Seated.{blocks_in, opening_of}
+use Rattle.shared_table.specs.Seated.{blocks_in, opening_of}
 use Rattle.tx_turns.specs.Ties.{Turned}
 use Rattle.tx_turns.proofs.LoneRequestLemmas.{starved}
 use Rattle.tx_turns.proofs.TurnLemmas.{laid_as}

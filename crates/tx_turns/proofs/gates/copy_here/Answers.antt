@@ -5,7 +5,7 @@ use Rattle.actor_parts.specs.Blocks.{BlocksView}
 use Rattle.tx_actor.proofs.NameLemmas.{named_copy}
 use Rattle.tx_actor.specs.Copying.{CanCopyAt, HasTakenAt, StepsOnAt}
 use Rattle.tx_actor.specs.ActorBounds.{IsRunning}
-use Rattle.tx_table.specs.Seated.{blocks_in}
+use Rattle.shared_table.specs.Seated.{blocks_in}
 use Rattle.tx_turns.proofs.LoneRequestLemmas.{starved}
 use Rattle.tx_turns.proofs.TurnLemmas.{laid_as}
 use Rattle.tx_turns.proofs.CopyLemmas.{copy_can, copy_first, copy_reads, copy_tied}

@@ -2,7 +2,7 @@ use Rattle.std.proofs.Common.{length}
 use Rattle.tx_actor.proofs.NameLemmas.{named_put}
 use Rattle.tx_actor.proofs.StepLemmas.{quiet_put}
 use Rattle.tx_actor.specs.Running.{stage_of}
-use Rattle.tx_table.specs.Seated.{actor, acts, blocks_in, opening_of}
+use Rattle.shared_table.specs.Seated.{actor, acts, blocks_in, opening_of}
 use Rattle.tx_turns.specs.Ties.{laid_in}
 use Rattle.tx_turns.proofs.GateLemmas.{first_out, held_base, may_put, put_due, put_first, put_tied, some_held}
 use Rattle.tx_turns.proofs.gates.put_gate.Goals as goal

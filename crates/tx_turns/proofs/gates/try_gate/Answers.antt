@@ -2,7 +2,7 @@ use Rattle.std.proofs.Common.{◌∷◌, ◌++◌, [], ap, subst, sym, ◌∙◌
 use Rattle.tx_actor.proofs.NameLemmas.{named_try}
 use Rattle.tx_actor.proofs.StepLemmas.{quiet_try}
 use Rattle.tx_actor.specs.Running.{stage_of}
-use Rattle.tx_table.specs.Seated.{blocks_in}
+use Rattle.shared_table.specs.Seated.{blocks_in}
 use Rattle.tx_turns.specs.Ties.{laid_in}
 use Rattle.tx_turns.specs.Own.{HasOwn}
 use Rattle.tx_turns.proofs.GateLemmas.{try_due, try_lost, try_won}

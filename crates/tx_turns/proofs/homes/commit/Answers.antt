@@ -1,5 +1,5 @@
 use Rattle.std.proofs.Common.{sym, subst}
-use Rattle.tx_table.specs.Seated.{acts, opening_of}
+use Rattle.shared_table.specs.Seated.{acts, opening_of}
 use Rattle.tx_turns.specs.Bases.{gates_at}
 use Rattle.tx_turns.specs.Own.{HasOwn}
 use Rattle.tx_turns.proofs.HomeLemmas.{bases_count, own_alike, refused_commit}

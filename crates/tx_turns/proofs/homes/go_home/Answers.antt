@@ -14,7 +14,7 @@ use Rattle.tx_actor.specs.CopiesByStage.{KeepsFrom}
 use Rattle.tx_actor.specs.Running.{stage_of}
 use Rattle.tx_actor.specs.declared.actor.Stage.{Stage}
 use Rattle.tx_actor.specs.declared.actor.TxActor.{TxActor}
-use Rattle.tx_table.specs.Seated.{blocks_in}
+use Rattle.shared_table.specs.Seated.{blocks_in}
 use Rattle.tx_turns.specs.Ties.{laid_in}
 use Rattle.tx_turns.proofs.GateLemmas.{first_out, some_held}
 use Rattle.tx_turns.proofs.HomeLemmas.{home_base, home_below, home_gates, home_may, home_tied, home_within}

@@ -3,7 +3,7 @@ use Rattle.step_core.specs.declared.actor.Place.TheVariants.{Again}
 use Rattle.tx_actor.proofs.LoadStepLemmas.{loads_word}
 use Rattle.tx_actor.specs.Running.{at}
 use Rattle.tx_actor.specs.declared.actor.Stage.TheVariants as stage
-use Rattle.tx_table.specs.Seated.{opening_of}
+use Rattle.shared_table.specs.Seated.{opening_of}
 use Rattle.tx_turns.specs.Ties.{laid_in}
 use Rattle.tx_turns.specs.Straight.{at_place}
 use Rattle.tx_turns.proofs.KeyLemmas.{found_last, found_may}

@@ -5,7 +5,7 @@ use Rattle.tx_actor.specs.Running.{at}
 use Rattle.tx_actor.specs.declared.actor.CollectionCall.{CollectionCall}
 use Rattle.tx_actor.specs.declared.actor.Stage.TheVariants as stage
 use Rattle.tx_actor.proofs.NameLemmas.{named_try}
-use Rattle.tx_table.specs.Seated.{blocks_in}
+use Rattle.shared_table.specs.Seated.{blocks_in}
 use Rattle.tx_turns.specs.Ties.{laid_in}
 use Rattle.tx_turns.specs.Straight.{HasDriven}
 use Rattle.tx_turns.proofs.GateLemmas.{try_due}

@@ -12,8 +12,8 @@ use Rattle.tx_actor.specs.declared.actor.CollectionCall.{CollectionCall}
 use Rattle.tx_actor.specs.declared.actor.Stage.TheVariants as stage
 use Rattle.tx_actor.specs.declared.taking.KeyedCall.{KeyedCall}
 use Rattle.tx_actor.proofs.NameLemmas.{named_copy}
-use Rattle.tx_table.specs.Seated.{blocks_in}
-use Rattle.tx_table.specs.declared.seat.Seat.{Seat}
+use Rattle.shared_table.specs.Seated.{blocks_in}
+use Rattle.shared_table.specs.declared.seat.Seat.{Seat}
 use Rattle.tx_turns.proofs.GateLemmas.{copy_due, first_out, held_base, may_put}
 use Rattle.tx_turns.proofs.TurnLemmas.{laid_as}
 use Rattle.tx_turns.proofs.LoneRequestLemmas.{starved}

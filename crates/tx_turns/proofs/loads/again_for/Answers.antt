@@ -2,7 +2,7 @@ use Rattle.std.proofs.Common.{refl}
 use Rattle.step_core.specs.declared.actor.Place.TheVariants.{Again}
 use Rattle.tx_actor.proofs.LoadStepLemmas.{loads_word}
 use Rattle.tx_turns.specs.Ties.{laid_in}
-use Rattle.tx_table.specs.Seated.{opening_of}
+use Rattle.shared_table.specs.Seated.{opening_of}
 use Rattle.tx_turns.specs.Straight.{at_place}
 use Rattle.tx_turns.proofs.StraightLemmas.{LoadLaws, again_due, again_steps, loading_hears, loading_last}
 use Rattle.tx_turns.proofs.loads.again_for.Goals as goal

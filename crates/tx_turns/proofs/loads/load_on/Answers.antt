@@ -1,7 +1,7 @@
 use Rattle.std.proofs.Common.{subst}
 use Rattle.tx_actor.specs.declared.actor.ActorNotice.{ActorNotice}
 use Rattle.tx_actor.specs.declared.actor.TxActor.{TxActor}
-use Rattle.tx_table.specs.Seated.{opening_of}
+use Rattle.shared_table.specs.Seated.{opening_of}
 use Rattle.step_core.specs.declared.actor.Place.TheVariants.{Look}
 use Rattle.tx_turns.specs.Own.{HasOwn}
 use Rattle.tx_turns.specs.Driven.{LeadsOn}

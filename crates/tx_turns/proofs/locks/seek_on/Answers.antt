@@ -1,6 +1,6 @@
 use Rattle.std.proofs.Common.{sym}
 use Rattle.step_core.specs.declared.actor.Place.TheVariants.{Lock}
-use Rattle.tx_table.specs.Seated.{opening_of}
+use Rattle.shared_table.specs.Seated.{opening_of}
 use Rattle.tx_turns.specs.Ties.{laid_in}
 use Rattle.tx_turns.specs.Straight.{at_place}
 use Rattle.tx_turns.proofs.LockLemmas.{locking_heard, quiet_locking, room_locking, seek_due, seek_led, seek_steps}

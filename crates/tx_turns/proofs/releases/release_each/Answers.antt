@@ -1,6 +1,6 @@
 use Rattle.std.proofs.Common.{subst}
 use Rattle.tx_actor.specs.declared.actor.ActorNotice.{ActorNotice}
-use Rattle.tx_table.specs.Seated.{opening_of}
+use Rattle.shared_table.specs.Seated.{opening_of}
 use Rattle.tx_turns.specs.Driven.{LeadsOn}
 use Rattle.tx_turns.proofs.StepsLemmas.{starts}
 use Rattle.tx_turns.proofs.StraightLemmas.{come_then, leads_from}

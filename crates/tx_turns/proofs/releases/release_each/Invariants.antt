@@ -2,7 +2,7 @@ use Rattle.std.proofs.Common.{◌≡◌, ◌<◌}
 use Rattle.std.specs.VecDeque.{deque_len}
 use Rattle.step_core.specs.declared.actor.Place.TheVariants.{Release}
 use Rattle.tx_actor.specs.declared.actor.Stage.TheVariants as stage
-use Rattle.tx_table.specs.Seated.{opening_of}
+use Rattle.shared_table.specs.Seated.{opening_of}
 use Rattle.tx_turns.specs.Ties.{Ties}
 use Rattle.tx_turns.specs.Own.{HasOwn}
 use Rattle.tx_turns.proofs.StepsLemmas.{HasCome}

@@ -1,7 +1,7 @@
 use Rattle.std.proofs.Common.{subst}
 use Rattle.tx_machine.specs.World.{plan}
 use Rattle.step_core.specs.Shown.{actor_of}
-use Rattle.tx_table.specs.Seated.{locations_in}
+use Rattle.shared_table.specs.Seated.{locations_in}
 use Rattle.tx_turns.specs.NextStep.{IsDeed}
 use Rattle.tx_turns.specs.declared.due.NextStep.{NextStep}
 use Rattle.tx_turns.proofs.NextStepLemmas.{has_clock, in_word}

@@ -1,5 +1,5 @@
 use Rattle.std.proofs.Common.{refl, arith, sym, ◌+◌, subst}
-use Rattle.tx_table.specs.Seated.{view, locations_in, opening_of}
+use Rattle.shared_table.specs.Seated.{view, locations_in, opening_of}
 use Rattle.tx_turns.specs.declared.due.NextStep.{NextStep}
 use Rattle.tx_turns.specs.NextStep.{IsWithin}
 use Rattle.tx_turns.specs.Touches.{Awaits, IsInWord, Touches}

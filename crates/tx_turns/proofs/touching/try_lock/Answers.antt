@@ -1,5 +1,5 @@
 use Rattle.std.proofs.Common.{refl, arith}
-use Rattle.tx_table.specs.Seated.{view}
+use Rattle.shared_table.specs.Seated.{view}
 use Rattle.tx_turns.proofs.touching.try_lock.Goals as goal
 
 pub lock-requires-clause-due : goal.lock-requires-clause-due

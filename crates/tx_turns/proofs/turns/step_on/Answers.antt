@@ -1,4 +1,4 @@
-use Rattle.tx_table.specs.Seated.{actor}
+use Rattle.shared_table.specs.Seated.{actor}
 use Rattle.tx_turns.proofs.NextLemmas.{makes_none, not_loading}
 use Rattle.tx_turns.proofs.turns.step_on.Goals as goal
 

@@ -1,6 +1,6 @@
 use Rattle.std.proofs.Common.{inl, subst}
-use Rattle.tx_table.specs.declared.seat.Seat.{Seat}
-use Rattle.tx_table.specs.Seated.{actor, opening_of}
+use Rattle.shared_table.specs.declared.seat.Seat.{Seat}
+use Rattle.shared_table.specs.Seated.{actor, opening_of}
 use Rattle.tx_turns.specs.RequestStep.{Starved}
 use Rattle.tx_turns.proofs.NextLemmas.{makes_one}
 use Rattle.tx_turns.proofs.turns.store_next.Goals as goal

@@ -4,7 +4,7 @@ use Rattle.std.specs.declared.vec.Vec.{Vec}
 use Rattle.actor_parts.specs.Dispatch.{is_loading, next_of}
 use Rattle.tx_actor.specs.Dispatch.{Records}
 use Rattle.tx_actor.specs.Running.{stage_of}
-use Rattle.tx_table.specs.Seated.{actor, view}
+use Rattle.shared_table.specs.Seated.{actor, view}
 use Rattle.tx_turns.proofs.TurnLemmas.{closing_gains, ties_made}
 use Rattle.tx_turns.proofs.words.close.Goals as goal
 

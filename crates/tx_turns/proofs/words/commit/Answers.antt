@@ -2,7 +2,7 @@ use Rattle.std.proofs.Common.{◌≡◌, ◌++◌, ◌∷◌, [], true, ap, ◌�
 use Rattle.std.specs.declared.alloc.Global.{Global}
 use Rattle.std.specs.declared.vec.Vec.{Vec}
 use Rattle.tx_actor.specs.Running.{stage_of}
-use Rattle.tx_table.specs.Seated.{actor, view}
+use Rattle.shared_table.specs.Seated.{actor, view}
 use Rattle.tx_actor.proofs.StepLemmas.{first_is}
 use Rattle.tx_turns.proofs.FirstLemmas.{first_commits}
 use Rattle.tx_turns.proofs.words.commit.Goals as goal

@@ -1,7 +1,7 @@
 use Rattle.std.proofs.Common.{subst, sym}
 use Rattle.std.proofs.lemmas.List.Elements.{All-get_or}
 use Rattle.std.specs.Prelude.{IfSome}
-use Rattle.tx_table.specs.declared.table.TxTable.{TxTable}
+use Rattle.shared_table.specs.declared.table.TxTable.{TxTable}
 use Rattle.wolimevar.specs.declared.homes.Home.{Home}
 use Rattle.tx_client.specs.Backs.{IsBack}
 use Rattle.wolimevar.specs.Homes.{IsHomeOf}

@@ -3,7 +3,7 @@ use Rattle.std.specs.Prelude.{All}
 use Rattle.std.specs.Vec.{vec_len}
 use Rattle.std.specs.Vec.Iter.{into_iter_items}
 use Rattle.std.proofs.lemmas.List.Elements.{All-head, All-tail}
-use Rattle.tx_table.specs.Seated.{view}
+use Rattle.shared_table.specs.Seated.{view}
 use Rattle.wolimevar.specs.Sessions.{IsFinished, joined, receipts_at}
 use Rattle.wolimevar.proofs.SessionLemmas.{given_first, joined_first}
 use Rattle.wolimevar.proofs.sessions.join_all.Goals as goal

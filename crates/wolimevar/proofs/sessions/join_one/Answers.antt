@@ -1,5 +1,5 @@
 use Rattle.std.proofs.Common.{rules, ◌≡◌, ◌++◌, ◌∙◌, Some, ap, arith, sym}
-use Rattle.tx_table.specs.Seated.{view}
+use Rattle.shared_table.specs.Seated.{view}
 use Rattle.tx_engine.specs.declared.seats.TxSeat.{TxSeat}
 use Rattle.wolimevar.specs.Sessions.{receipts_at}
 use Rattle.wolimevar.proofs.sessions.join_one.Goals as goal

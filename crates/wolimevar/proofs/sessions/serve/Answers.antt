@@ -1,7 +1,7 @@
 use Rattle.std.proofs.Common.{rules, ◌≡◌, ◌++◌, ◌∙◌, ap, arith, length, map, sym, subst}
 use Rattle.std.specs.Prelude.{All, drop, take}
 use Rattle.std.specs.List.{AllZip}
-use Rattle.tx_table.specs.Seated.{view}
+use Rattle.shared_table.specs.Seated.{view}
 use Rattle.wolimevar.specs.Sessions.{IsFinished, IsServed, IsWaiting, receipts_at}
 use Rattle.wolimevar.proofs.SessionLemmas.{all_own, all_served, as_long, finished_all, joined_behind, whole_slice, zip_of}
 use Rattle.wolimevar.proofs.sessions.serve.Goals as goal

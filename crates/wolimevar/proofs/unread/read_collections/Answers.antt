@@ -1,5 +1,5 @@
-use Rattle.tx_table.specs.Ends.{homes_of}
-use Rattle.tx_table.proofs.Left.{held_grow}
+use Rattle.shared_table.specs.Ends.{homes_of}
+use Rattle.shared_table.proofs.Left.{held_grow}
 use Rattle.wolimevar.proofs.unread.read_collections.Goals as goal
 
 pub loop-k-preserved : goal.loop-k-preserved

@@ -1,6 +1,6 @@
 use Rattle.std.proofs.Common.{◌≡◌, map, take}
 use Rattle.replay_log.specs.Base.{held_of, shown_of}
-use Rattle.tx_table.specs.Ends.{bases_in, homes_of}
+use Rattle.shared_table.specs.Ends.{bases_in, homes_of}
 use Rattle.wolimevar.proofs.unread.read_collections.Given as goal
 
 abbrev pub invariant-loop-k : goal.invariant-loop-k

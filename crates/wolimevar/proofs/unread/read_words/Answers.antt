@@ -1,6 +1,6 @@
 use Rattle.std.proofs.Common.{[], ◌∷◌, ◌++◌, sym, ap, ◌∙◌}
-use Rattle.tx_table.specs.Ends.{row_of}
-use Rattle.tx_table.proofs.LayoutLemmas.{one_value}
+use Rattle.shared_table.specs.Ends.{row_of}
+use Rattle.shared_table.proofs.LayoutLemmas.{one_value}
 use Rattle.wolimevar.proofs.unread.read_words.Goals as goal
 
 pub loop-word-preserved : goal.loop-word-preserved

@@ -1,6 +1,6 @@
 use Rattle.std.proofs.Common.{◌≡◌}
-use Rattle.tx_table.specs.Ends.{row_of}
-use Rattle.tx_table.specs.Layout.{values_in}
+use Rattle.shared_table.specs.Ends.{row_of}
+use Rattle.shared_table.specs.Layout.{values_in}
 use Rattle.wolimevar.proofs.unread.read_words.Given as goal
 
 abbrev pub invariant-loop-word : goal.invariant-loop-word

@@ -1,6 +1,6 @@
 use Rattle.std.proofs.Common.{◌≡◌, arith}
-use Rattle.tx_table.specs.Seated.{view}
-use Rattle.tx_table.specs.declared.view.TheConstants.{SHARES}
+use Rattle.shared_table.specs.Seated.{view}
+use Rattle.shared_table.specs.declared.view.TheConstants.{SHARES}
 use Rattle.job_workers.specs.Reports.{jobs_of}
 use Rattle.workers.proofs.ListLemmas.{as_many}
 use Rattle.workers.proofs.RunLemmas.{are_balanced, holds_some, served_so}

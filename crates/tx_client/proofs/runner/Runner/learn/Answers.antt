@@ -1,6 +1,6 @@
 use Rattle.std.proofs.Common.{rules, ◌≡◌, Some, ap, refl, subst, sym, ◌∙◌}
 use Rattle.std.specs.Prelude.{OnErr, OnOk, max}
-use Rattle.tx_table.specs.Seated.{opening_of, view}
+use Rattle.shared_table.specs.Seated.{opening_of, view}
 use Rattle.tx_engine.specs.declared.seats.TxSeat.{TxSeat}
 use Rattle.tx_engine.specs.Requests.{OnlyKnows}
 use Rattle.tx_client.specs.Backs.{shares_at}

@@ -1,7 +1,7 @@
 use Rattle.std.proofs.Common.{◌∙◌, ap, arith, true}
 use Rattle.seq_model.specs.declared.event.Answer.TheVariants as answer
 use Rattle.tx_actor.specs.declared.actor.ActorNotice.TheVariants as told
-use Rattle.tx_table.specs.Seated.{acts, opening_of}
+use Rattle.shared_table.specs.Seated.{acts, opening_of}
 use Rattle.tx_engine.proofs.AskLemmas.{asked_to_begin}
 use Rattle.tx_engine.proofs.ReadyLemmas.{begun_ready}
 use Rattle.tx_engine.proofs.RequestLemmas.{begun_since, told_on}

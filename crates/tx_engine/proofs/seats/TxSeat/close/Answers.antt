@@ -1,8 +1,8 @@
 use mathlib.Core.Option.{some}
 use Rattle.std.proofs.Common.{map, subst, sym}
-use Rattle.tx_table.specs.Ends.{homes_of, row_of}
-use Rattle.tx_table.specs.Seated.{Rests, actor, blocks_in, contents_in, kept, opening_of, view, words_in}
-use Rattle.tx_table.specs.Shown.{ShowsWorld}
+use Rattle.shared_table.specs.Ends.{homes_of, row_of}
+use Rattle.shared_table.specs.Seated.{Rests, actor, blocks_in, contents_in, kept, opening_of, view, words_in}
+use Rattle.shared_table.specs.Shown.{ShowsWorld}
 use Rattle.tx_engine.specs.Closing.{IsLeftBy}
 use Rattle.tx_engine.proofs.CloseLemmas.{left_by}
 use Rattle.tx_engine.proofs.ShareLemmas.{rests_kept}

@@ -1,5 +1,5 @@
 use Rattle.std.proofs.Common.{◌≡◌, ◌+◌, ◌<◌, ◌∙◌, ap, arith, refl, subst, sym}
-use Rattle.tx_table.specs.Seated.{Rests, actor, kept, opening_of, out, view}
+use Rattle.shared_table.specs.Seated.{Rests, actor, kept, opening_of, out, view}
 use Rattle.tx_turns.proofs.RequestHistoryLemmas.{same_requests}
 use Rattle.tx_turns.proofs.RestLemmas.{bare_out}
 use Rattle.tx_engine.proofs.ShareLemmas.{rests_kept, stays_ready}

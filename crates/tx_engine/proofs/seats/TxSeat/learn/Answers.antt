@@ -1,5 +1,5 @@
 use Rattle.std.proofs.Common.{◌∙◌, refl}
-use Rattle.tx_table.specs.Seated.{opening_of}
+use Rattle.shared_table.specs.Seated.{opening_of}
 use Rattle.tx_engine.proofs.ReadyLemmas.{noted_stands, only_knows, stays_standing}
 use Rattle.tx_engine.proofs.seats.TxSeat.learn.Goals as goal
 

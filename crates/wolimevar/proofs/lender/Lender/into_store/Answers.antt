@@ -1,7 +1,7 @@
 use Rattle.std.proofs.Common.{rules, ◌≡◌, Some, subst, sym}
-use Rattle.tx_table.specs.Seated.{view}
-use Rattle.tx_table.specs.declared.table.TxTable.{TxTable}
-use Rattle.tx_table.specs.declared.view.TheConstants.{SHARES}
+use Rattle.shared_table.specs.Seated.{view}
+use Rattle.shared_table.specs.declared.table.TxTable.{TxTable}
+use Rattle.shared_table.specs.declared.view.TheConstants.{SHARES}
 use Rattle.wolimevar.specs.StoreSeats.{IsAtStore}
 use Rattle.wolimevar.proofs.LenderLemmas.{lender_ends}
 use Rattle.wolimevar.proofs.lender.Lender.into_store.Goals as goal

@@ -1,6 +1,6 @@
 use Rattle.std.proofs.Common.{rules, ◌≡◌, Some, subst}
 use Rattle.std.specs.Arc.{arc_value}
-use Rattle.tx_table.specs.declared.table.TxTable.{TxTable}
+use Rattle.shared_table.specs.declared.table.TxTable.{TxTable}
 use Rattle.tx_engine.specs.Ready.{IsReady}
 use Rattle.wolimevar.proofs.LenderLemmas.{served_client}
 use Rattle.wolimevar.proofs.lent.LentClient.played.Goals as goal

@@ -1,6 +1,6 @@
 use Rattle.std.proofs.Common.{subst, sym}
 use Rattle.actor_parts.specs.declared.blocks.TheConstants.{COLLECTION_LIMIT}
-use Rattle.tx_table.specs.Seated.{contents_in, view}
+use Rattle.shared_table.specs.Seated.{contents_in, view}
 use Rattle.tx_engine.specs.declared.seats.TxSeat.{TxSeat}
 use Rattle.tx_engine.specs.Closing as closing
 use Rattle.wolimevar.proofs.CloseLemmas.{close_left}

@@ -1,6 +1,6 @@
 use Rattle.std.proofs.Common.{rules, ◌≡◌, Some, ap, subst, ◌∙◌}
 use Rattle.std.specs.Prelude.{OnErr, OnOk, max}
-use Rattle.tx_table.specs.Seated.{view}
+use Rattle.shared_table.specs.Seated.{view}
 use Rattle.tx_turns.specs.RequestHistory.{requests_of}
 use Rattle.tx_engine.specs.declared.seats.TxSeat.{TxSeat}
 use Rattle.wolimevar.specs.Stores.{StoreShown}

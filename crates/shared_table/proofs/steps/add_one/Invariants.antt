@@ -1,0 +1,10 @@
+use Rattle.std.proofs.Common.{◌≡◌, ◌+◌, ◌≤◌, None}
+use Rattle.shared_table.specs.Opening.{world_at}
+use Rattle.shared_table.specs.Shown.{highest_clock, Told, Went}
+use Rattle.shared_table.proofs.steps.add_one.Given as goal
+
+abbrev pub ghosts-fetch_add : goal.ghosts-fetch_add
+ghosts-fetch_add g a = record {
+  then = λ st m found t. Told (world_at a.self.now.key) a.seat.now.id g.asks (found + 1) m found None t.0 × (t.1 ≡ m.1)
+      × (m.0.clock ≤ found) × (found ≤ highest_clock) × Went (world_at a.self.now.key) a.seat.now.id t;
+}

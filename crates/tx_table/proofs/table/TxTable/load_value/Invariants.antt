@@ -1,5 +1,0 @@
-use Rattle.tx_table.specs.Seated.{list_of}
-use Rattle.tx_table.proofs.table.TxTable.load_value.Given as goal
-
-abbrev pub ghost-load_word : goal.ghost-load_word
-ghost-load_word g a = list_of a.seat.now.asked

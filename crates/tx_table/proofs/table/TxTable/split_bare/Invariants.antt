@@ -1,4 +1,0 @@
-use Rattle.tx_table.proofs.table.TxTable.split_bare.Given as goal
-
-abbrev pub ghost-cut : goal.ghost-cut
-ghost-cut g a = a.shares
