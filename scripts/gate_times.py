@@ -40,12 +40,19 @@ def provers():
     return found
 
 
+def folders_of(pid):
+    """Where a process works, and where it was started: `rt ci` moves into a copy of its own."""
+    yield os.readlink(f"/proc/{pid}/cwd")
+    with open(f"/proc/{pid}/environ", errors="replace") as file:
+        yield from (it[4:] for it in file.read().split("\0") if it.startswith("PWD="))
+
+
 def is_ours(pid, roots):
-    """Whether the process, or one that started it, works at the top of such a repository or in one of its crates."""
+    """Whether the process, or one that started it, works or was started at the top of such a repository or in one of its crates."""
     while pid > 1:
-        at = os.readlink(f"/proc/{pid}/cwd")
-        if any(at == root or at.startswith(f"{root}/crates/") for root in roots):
-            return True
+        for at in folders_of(pid):
+            if any(at == root or at.startswith(f"{root}/crates/") for root in roots):
+                return True
         pid = stat_of(pid)[0]
     return False
 
