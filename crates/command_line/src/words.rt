@@ -6,7 +6,8 @@ ghost use Rattle.clap.specs.Words.{FailsBy, app_of, found_of, kind_of, rows_of, 
 ghost use Rattle.clap.specs.declared.builder.command.Command.TheViews.{out-Command as fields_of};
 ghost use Rattle.command_line.specs.declared.work.Task.TheVariants.{OnFile};
 ghost use Rattle.command_line.specs.Ends.{IsDoable};
-ghost use Rattle.command_line.specs.Words.{explore_app, faults, file_word, named_file, not_dash, tool_app, step_app, vacation_app, file_rule, task_by};
+ghost use Rattle.command_line.specs.Words.{explore_app, faults, file_word, named_file, not_dash};
+ghost use Rattle.command_line.specs.Words.{tool_app, step_app, vacation_app, file_rule, task_by};
 ghost use Rattle.command_line.specs.Words.{faults_of_forms, lanes_rule, step_work, step_work_by, task_of, vacation_work};
 ghost use Rattle.clap.specs.declared.error.kind.ErrorKind.TheVariants.{InvalidValue};
 

@@ -54,7 +54,8 @@ module _ {V : Type 0} where
       let fresh_there : IsOwn (length vs) w o = S.fresh (length vs) (omega arith) in
       let same : (f : SeatKnowledge V → ℕ) → f x + f y ≡ f v → total f new ≡ total f vs =
       λ f e. (let p = total_set f vs id v x here in let q = total_snoc f (set vs id x) y in omega arith) in
-      let cases : (P : ℕ → SeatKnowledge V → Type 0) → P id x → P (length vs) y → ((j : ℕ) (u : SeatKnowledge V) → get_elem? vs j ≡ some u → P j u)
+      let cases : (P : ℕ → SeatKnowledge V → Type 0) → P id x → P (length vs) y
+      → ((j : ℕ) (u : SeatKnowledge V) → get_elem? vs j ≡ some u → P j u)
       → (j : ℕ) (u : SeatKnowledge V) → get_elem? new j ≡ some u → P j u =
       λ P px py old j u e. ⊎_elim
       (λ (t : get_elem? (set vs id x) j ≡ some u). ⊎_elim
@@ -107,7 +108,8 @@ module _ {V : Type 0} where
       let len : length new ≡ length vs = length-set mid other y ∙ length-set vs id x in
       let same : (f : SeatKnowledge V → ℕ) → f x + f y ≡ f v + f u → total f new ≡ total f vs =
       λ f e. (let p = total_set f vs id v x here in let q = total_set f mid other u y there₁ in omega arith) in
-      let cases : (P : ℕ → SeatKnowledge V → Type 0) → P id x → P other y → ((j : ℕ) (q : SeatKnowledge V) → get_elem? vs j ≡ some q → P j q)
+      let cases : (P : ℕ → SeatKnowledge V → Type 0) → P id x → P other y
+      → ((j : ℕ) (q : SeatKnowledge V) → get_elem? vs j ≡ some q → P j q)
       → (j : ℕ) (q : SeatKnowledge V) → get_elem? new j ≡ some q → P j q =
       λ P px pn old j q e. ⊎_elim
       (λ (t : (j ≡ other) × (y ≡ q)). subst (λ (z : ℕ × SeatKnowledge V). P z.0 z.1) (λ i. (sym t.0 i, t.1 i)) pn)
@@ -153,12 +155,15 @@ module _ {V : Type 0} where
 
   -- a seat with all shares leaves none to the others
   spent_at : (o : World V) (id : ℕ) (v : SeatKnowledge V) (s : State (Slot V) (SeatKnowledge V)) → Rule o s
-      → get_elem? s.views id ≡ some v → v.shares ≡ SHARES → (j : ℕ) (u : SeatKnowledge V) → j ≢ id → get_elem? s.views j ≡ some u → u.shares ≡ 0
+      → get_elem? s.views id ≡ some v → v.shares ≡ SHARES → (j : ℕ) (u : SeatKnowledge V) → j ≢ id → get_elem? s.views j ≡ some u
+      → u.shares ≡ 0
   spent_at o id v s rule here all j u ne e =
-      let p = total_two (λ (z : SeatKnowledge V). z.shares) s.views id j v u here e ne in let q = rule.shows.shares in omega (arith, p, q, all)
+      let p = total_two (λ (z : SeatKnowledge V). z.shares) s.views id j v u here e ne in let q =
+      rule.shows.shares in omega (arith, p, q, all)
 
   -- what holds then of the lone world of its actor, of those of seats that were joined, and of the opening, holds of every actor
-  every : (o : World V) (id : ℕ) (v : SeatKnowledge V) (s : State (Slot V) (SeatKnowledge V)) (rule : Rule o s) → get_elem? s.views id ≡ some v
+  every : (o : World V) (id : ℕ) (v : SeatKnowledge V) (s : State (Slot V) (SeatKnowledge V)) (rule : Rule o s)
+      → get_elem? s.views id ≡ some v
       → v.shares ≡ SHARES → (P : World V → ℕ → Type 0) → ((a : ℕ) (x y : World V) → Alike a x y → P y a → P x a)
       → P (lone id o v.turns) id → ((j : ℕ) (u : SeatKnowledge V) → IsSpent o j u → P (lone j o u.turns) j) → ((a : ℕ) → P o a) → (a : ℕ)
       → P (run o rule.events) a
@@ -184,7 +189,8 @@ module _ {V : Type 0} where
       by_gate (Some j) e = absurd (true≢false (sym (eq-eqb j j refl) ∙ (sym (ap (is_actor j) e) ∙ none_has j)))
 
   -- the receipts of a seat that has all shares are all records
-  all_records : (o : World V) (id : ℕ) (v : SeatKnowledge V) (s : State (Slot V) (SeatKnowledge V)) (rule : Rule o s) → get_elem? s.views id ≡ some v
+  all_records : (o : World V) (id : ℕ) (v : SeatKnowledge V) (s : State (Slot V) (SeatKnowledge V)) (rule : Rule o s)
+      → get_elem? s.views id ≡ some v
       → v.shares ≡ SHARES → (h : ℕ × Record V → ℕ) → total h v.receipts ≡ total h (run o rule.events).records
   all_records o id v s rule here all h = sym (total_alone (λ (z : SeatKnowledge V). total h z.receipts) s.views id v here
       (λ j u ne e. ap (total h) (rule.shows.spent j u e (spent_at o id v s rule here all j u ne e)).receipts)) ∙ rule.shows.receipts h

@@ -42,7 +42,8 @@ use Rattle.actor_laws.proofs.StepResult.{try_turned, put_turned, home_turned, ho
 use Rattle.shared_table.specs.Layout.{address, gate_address}
 use Rattle.shared_table.specs.Turns.{Turn, asked_all, stage_of, spot, parts_found, editions_found, found_at, moved, ends, took, lone}
 use Rattle.shared_table.specs.Turns.{turn_events}
-use Rattle.shared_table.specs.Shown.{SeatKnowledge, Slot, total, acting, HasHappened, IsBaseAt, OneBase, SameBases, HomeOk, Table, Shows, Rule, Told}
+use Rattle.shared_table.specs.Shown.{SeatKnowledge, Slot, total, acting, HasHappened, IsBaseAt, OneBase}
+use Rattle.shared_table.specs.Shown.{SameBases, HomeOk, Table, Shows, Rule, Told}
 use Rattle.shared_table.specs.Shown.{Steps, Took, aborted_by, only_by}
 use Rattle.shared_table.proofs.Numbers.{at_set_same, at_set_other}
 use Rattle.shared_table.proofs.Turned.{asked_alike, asked_calm, ends_theirs, found_alike, others_notes, records_grow, turn_notes}
@@ -76,7 +77,8 @@ module _ {V : Type 0} where
   home_spot a v k e = ap (spot_by a (ready_at a v (stage_of v a))) e
 
   -- what an action on a gate finds
-  finds_gate : (a : ℕ) (v t : World V) (p : Stage V) (d : Action (CollectionCall V)) → (Some (moves a) ≡ Some d → ⊥) → atomic_action a v p ≡ Some d
+  finds_gate : (a : ℕ) (v t : World V) (p : Stage V) (d : Action (CollectionCall V)) → (Some (moves a) ≡ Some d → ⊥)
+      → atomic_action a v p ≡ Some d
       → FindsBelow (content v.words v.blocks) a v.boosted t.boosted d → ((q : CollectionCall V) → p ≡ Copying q → SameCopy v t q)
       → FindsAt a v t p
   finds_gate a v t (Ready ks) d out e f g = absurd (out e)
@@ -171,10 +173,12 @@ module _ {V : Type 0} where
     abbrev world : (s : State (Slot V) (SeatKnowledge V)) → Rule o s → World V
     world s rule = asked_all id (run o rule.events) qs
 
-    pub shape_of : (s : State (Slot V) (SeatKnowledge V)) (rule : Rule o s) → ((world s rule).words ≡ o.words) × ((world s rule).blocks ≡ o.blocks)
+    pub shape_of : (s : State (Slot V) (SeatKnowledge V)) (rule : Rule o s)
+        → ((world s rule).words ≡ o.words) × ((world s rule).blocks ≡ o.blocks)
     shape_of s rule = let g = asked_calm id qs (run o rule.events) in (g.words ∙ rule.shows.shape.0, g.blocks ∙ rule.shows.shape.1)
 
-    pub alike_of : (s : State (Slot V) (SeatKnowledge V)) (rule : Rule o s) → get_elem? s.views id ≡ some m.0 → Alike id (world s rule) alone
+    pub alike_of : (s : State (Slot V) (SeatKnowledge V)) (rule : Rule o s) → get_elem? s.views id ≡ some m.0
+        → Alike id (world s rule) alone
     alike_of s rule here = asked_alike id qs (run o rule.events) (lone id o m.0.turns) (rule.shows.own id m.0 here).alike
 
     -- the bases that it took out, once it has asked
@@ -292,7 +296,8 @@ module _ {V : Type 0} where
         two a c (Some j) x y ne = ne (eqb-true c j y ∙ sym (eqb-true a j x))
 
     -- ---- a gate is put back, its base as it was or with the changes of the transaction
-    came_home : (s : State (Slot V) (SeatKnowledge V)) (rule : Rule o s) (k : ℕ) (b : Base V) (rest : List (ℕ × Slot V)) → get_elem? s.views id
+    came_home : (s : State (Slot V) (SeatKnowledge V)) (rule : Rule o s) (k : ℕ) (b : Base V) (rest : List (ℕ × Slot V))
+        → get_elem? s.views id
         ≡ some m.0 → 0 < m.0.shares → k < length o.blocks
         → m.1 ≡ (k, Some b) ∷ rest → spot id alone ≡ Gate k → is_actor id (alone.boosted.gates k) ≡ true
         → let w1 = world s rule in let u = (happens w1 (Step id)).0 in

@@ -33,7 +33,8 @@ use Rattle.actor_laws.proofs.StepTargets.{Keeps, one_spot, after_calm}
 use Rattle.actor_laws.proofs.StepResult.{word_turned}
 use Rattle.shared_table.specs.Layout.{address, gate_address, IsInside}
 use Rattle.shared_table.specs.Turns.{Turn, own, asked_all, stage_of, spot, found_at, moved, ends, ends_of, took, lone, turn_events}
-use Rattle.shared_table.specs.Shown.{highest_clock, SeatKnowledge, Slot, total, owed, owed_of, acting, HasHappened, OneBase, SameBases, Table, IsOwn}
+use Rattle.shared_table.specs.Shown.{highest_clock, SeatKnowledge, Slot, total, owed, owed_of}
+use Rattle.shared_table.specs.Shown.{acting, HasHappened, OneBase, SameBases, Table, IsOwn}
 use Rattle.shared_table.specs.Shown.{HasReceipts, IsJoined, Shows, Rule, Steps, Told, aborted_by, only_by}
 use Rattle.shared_table.proofs.LayoutLemmas.{apart, gate_apart, low}
 use Rattle.shared_table.proofs.Numbers.{total_set, total_append, inside, tally_set, tally_below, at_set_same, at_set_other}
@@ -105,7 +106,8 @@ module _ {V : Type 0} where
       (λ ne. (is.0, at_set_other vs id p.0 y ne ∙ is.1, is.2, is.3))
 
   -- ---- a seat has taken a turn
-  pub shows_after : (o w u : World V) (s : State (Slot V) (SeatKnowledge V)) (id : ℕ) (v : SeatKnowledge V) (i : Turn V) (rs : List (ℕ × Record V)) (k : ℕ)
+  pub shows_after : (o w u : World V) (s : State (Slot V) (SeatKnowledge V)) (id : ℕ) (v : SeatKnowledge V) (i : Turn V)
+      (rs : List (ℕ × Record V)) (k : ℕ)
       (ws : List ℕ) (hs : List (Option (Slot V)))
       → Shows o w s → get_elem? s.views id ≡ some v → 0 < v.shares → (u.words ≡ w.words) × (u.blocks ≡ w.blocks)
       → Table o.words o.blocks u ws hs
@@ -134,7 +136,8 @@ module _ {V : Type 0} where
       record {
         shape = (shaped.0 ∙ S.shape.0, shaped.1 ∙ S.shape.1);
         table = T;
-        clocks = λ j z e. ⊎_elim (λ (t : (j ≡ id) × (y ≡ z)). let q : k ≡ z.clock = ap (λ (p : SeatKnowledge V). p.clock) t.1 in omega arith)
+        clocks = λ j z e. ⊎_elim (λ (t : (j ≡ id) × (y ≡ z)). let q : k ≡ z.clock =
+            ap (λ (p : SeatKnowledge V). p.clock) t.1 in omega arith)
             (λ (t : (j ≢ id) × (get_elem? vs j ≡ some z)). let q = S.clocks j z t.1 in omega arith) (at_set vs id j y z e);
         room =
             (let t = tally_set (owed o) 0 vs id v y here in
@@ -170,7 +173,8 @@ module _ {V : Type 0} where
             (λ (t : (j ≡ id) × (y ≡ z)). absurd (let q : v.shares ≡ z.shares = ap (λ (p : SeatKnowledge V). p.shares) t.1 in omega arith))
             (λ (t : (j ≢ id) × (get_elem? vs j ≡ some z)). S.spent j z t.1 none) (at_set vs id j y z e);
         joined = λ j z e i d lt.
-            (let old : (k : ℕ) (x : SeatKnowledge V) → get_elem? vs k ≡ some x → i < length x.joined → IsJoined (set vs id y) (get_or x.joined i d) =
+            (let old : (k : ℕ) (x : SeatKnowledge V) → get_elem? vs k ≡ some x → i < length x.joined
+            → IsJoined (set vs id y) (get_or x.joined i d) =
             λ k x at low. still_joined vs id v y (get_or x.joined i d) here (λ none. absurd (omega arith)) (S.joined k x at i d low) in
             ⊎_elim
             (λ (t : (j ≡ id) × (y ≡ z)). let q : y.joined ≡ z.joined = ap (λ (x : SeatKnowledge V). x.joined) t.1 in

@@ -42,7 +42,8 @@ module _ {V : Type 0} where
     abbrev events_of : (s : State (Slot V) (SeatKnowledge V)) → Rule o s → List (Event V)
     events_of s rule = rule.events ++ asked_events id qs
 
-    reached : (s : State (Slot V) (SeatKnowledge V)) (rule : Rule o s) → get_elem? s.views id ≡ some m.0 → Alike id (run o (events_of s rule)) alone
+    reached : (s : State (Slot V) (SeatKnowledge V)) (rule : Rule o s) → get_elem? s.views id ≡ some m.0
+        → Alike id (run o (events_of s rule)) alone
     reached s rule here =
         subst (λ (w : World V). Alike id w alone)
         (sym (run_append rule.events (asked_events id qs) o ∙ run_asked id qs (run o rule.events)))

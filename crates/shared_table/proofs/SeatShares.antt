@@ -40,7 +40,8 @@ module _ {A : Type 0} where
   stands (x ∷ xs) (suc i) v low e = stands xs i v (omega arith) e
 
 module _ {V : Type 0} where
-  pub cuts : (key : Opening V) (id k : ℕ) (v : SeatKnowledge V) → 0 < k → k < v.shares → Splits (Holds key) id v (left_of k v) (right_of k v)
+  pub cuts : (key : Opening V) (id k : ℕ) (v : SeatKnowledge V) → 0 < k → k < v.shares
+      → Splits (Holds key) id v (left_of k v) (right_of k v)
   cuts key id k v more fewer s h here = record {
     stripes = h.stripes;
     suits = h.suits;

@@ -74,7 +74,8 @@ module _ {V : Type 0} where
       }
 
   -- the seat has its shares, and knows its last number, once it took a turn
-  pub still : (s : Seat V) (w : SeatKnowledge V) (i : Turn V) (rs : List (ℕ × Record V)) (k : ℕ) → w ≡ acting (view s) i rs k → (view s).clock ≤ k
+  pub still : (s : Seat V) (w : SeatKnowledge V) (i : Turn V) (rs : List (ℕ × Record V)) (k : ℕ) → w ≡ acting (view s) i rs k
+      → (view s).clock ≤ k
       → (s.shares ≡ w.shares) × (s.last ≤ w.clock)
   still s w i rs k is low = (
     s.counted ∙ sym (ap (λ (v : SeatKnowledge V). v.shares) is),
@@ -82,7 +83,8 @@ module _ {V : Type 0} where
   )
 
   -- a step that keeps the rule of the world keeps that of the table; some events lead to where it leaves the seat
-  lifted : (key : Opening V) (slots id : ℕ) (m : Me (Slot V) (SeatKnowledge V)) (i : ℕ) (f : ℕ → ℕ) (tells : ℕ → Me (Slot V) (SeatKnowledge V) → Type 0)
+  lifted : (key : Opening V) (slots id : ℕ) (m : Me (Slot V) (SeatKnowledge V)) (i : ℕ) (f : ℕ → ℕ) (tells : ℕ
+      → Me (Slot V) (SeatKnowledge V) → Type 0)
       → (asks : List (Event V)) → (HaveStripes (blocks_at key) → Steps (world_at key) slots id m asks i f tells)
       → Allows (Holds key) slots id m i f (λ k t. tells k t × Went (world_at key) id t)
   lifted key slots id m i f tells asks may s h len here small =
@@ -222,7 +224,8 @@ module _ {V : Type 0} where
       (subst (λ (z : ℕ). Told o s.place.id asks (view s).clock s.place.me z None t.place.me.0) p.0 p.1) p.2 none went) told
 
   -- the slot that was taken is in front
-  pub topped : (o : World V) (s : Seat V) (asks : List (Event V)) (k gate found : ℕ) (m : Me (Slot V) (SeatKnowledge V)) → k ≡ gate → found ≡ 0
+  pub topped : (o : World V) (s : Seat V) (asks : List (Event V)) (k gate found : ℕ) (m : Me (Slot V) (SeatKnowledge V)) → k ≡ gate
+      → found ≡ 0
       → Took o s.place.id asks s.place.me k found m → (b : Slot V) × (m.1 ≡ (gate, b) ∷ rest m.1)
   topped o s asks k gate found m same free told = ⊎_elim
       (λ p. let others : s.place.me.1 ≡ rest m.1 = sym (ap (λ (l : List (ℕ × Slot V)). rest l) p.4) in (
@@ -237,7 +240,8 @@ module _ {V : Type 0} where
   still_tried o s asks k found t told = ⊎_elim (λ p. still s t.0 _ _ (view s).clock p.3.0 (omega arith))
       (λ p. still s t.0 _ _ (view s).clock p.1.0 (omega arith)) told
 
-  module _ (key : Opening V) (slots id : ℕ) (m : Me (Slot V) (SeatKnowledge V)) (asks qs : List (Event V)) (are : asks ≡ qs) (live : 0 < m.0.shares)
+  module _ (key : Opening V) (slots id : ℕ) (m : Me (Slot V) (SeatKnowledge V)) (asks qs : List (Event V)) (are : asks ≡ qs)
+      (live : 0 < m.0.shares)
       (k i : ℕ) (low : k < length (blocks_at key)) (place : i ≡ gate_address (locations_at key) k) where
     abbrev start : World V
     start = world_at key
@@ -271,7 +275,8 @@ module _ {V : Type 0} where
         (subst (λ (q : List (Event V)). IsHome start id (alone q) k b) (sym are) due))))
 
   -- the base that is put back was put into the slot in front
-  pub puts_back : (key : Opening V) (slots : ℕ) (s : Seat V) (id : ℕ) (n : Me (Slot V) (SeatKnowledge V)) (asks : List (Event V)) (k gate i : ℕ)
+  pub puts_back : (key : Opening V) (slots : ℕ) (s : Seat V) (id : ℕ) (n : Me (Slot V) (SeatKnowledge V)) (asks : List (Event V))
+      (k gate i : ℕ)
       (b : Base V) → asks ≡ list_of s.asked → k ≡ gate → 0 < (view s).shares → k < length (blocks_at key)
       → i ≡ gate_address (locations_at key) k → id ≡ s.place.id → n ≡ (view s, (gate, Some b) ∷ rest (out s))
       → IsHome (world_at key) s.place.id (acts (world_at key) s) k b

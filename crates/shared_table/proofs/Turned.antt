@@ -27,7 +27,8 @@ use Rattle.actor_laws.specs.Steps.{OnlyOwn, Does, atomic_action, ready_at, ended
 use Rattle.actor_laws.proofs.Alone.{planted_word, planted_alike}
 use Rattle.actor_laws.proofs.OneStep.{one_step, nothing, through, ask_calm}
 use Rattle.actor_laws.proofs.OwnEvents.{own_event}
-use Rattle.shared_table.specs.Turns.{Turn, own, asked_all, stage_of, spot, first_at, parts_found, editions_found, found_at, took, lone, ends_of}
+use Rattle.shared_table.specs.Turns.{Turn, own, asked_all, stage_of, spot, first_at}
+use Rattle.shared_table.specs.Turns.{parts_found, editions_found, found_at, took, lone, ends_of}
 use Rattle.shared_table.specs.Turns.{ends}
 use Rattle.shared_table.specs.Shown.{aborted_by, only_by, total}
 

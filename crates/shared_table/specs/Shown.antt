@@ -209,8 +209,10 @@ module _ {V : Type 0} where
 
   -- A step of a seat on the word at i, which becomes f of what it was. If these events reach a world that the table shows, then what the
   -- seat has asked and its step after them reach the one that it shows then, and this is said of what was found.
-  abbrev pub Steps : World V → ℕ → ℕ → Me (Slot V) (SeatKnowledge V) → List (Event V) → ℕ → (ℕ → ℕ) → (ℕ → Me (Slot V) (SeatKnowledge V) → Type 0) → Type 0
-  Steps o slots id m asks i f tells = (s : State (Slot V) (SeatKnowledge V)) (es : List (Event V)) → Shows o (run o es) s → length s.homes ≡ slots
+  abbrev pub Steps : World V → ℕ → ℕ → Me (Slot V) (SeatKnowledge V) → List (Event V) → ℕ → (ℕ → ℕ)
+      → (ℕ → Me (Slot V) (SeatKnowledge V) → Type 0) → Type 0
+  Steps o slots id m asks i f tells = (s : State (Slot V) (SeatKnowledge V)) (es : List (Event V)) → Shows o (run o es) s
+      → length s.homes ≡ slots
       → get_elem? s.views id ≡ some m.0 → get_or s.words i 0 < 2 ^ 64
       → (v : SeatKnowledge V) × (a : Act (Slot V)) × Valid s.homes m.1 a
       × Shows o (run o (es ++ turn_events id asks)) (stepped s i (f (get_or s.words i 0)) id m.1 v a)

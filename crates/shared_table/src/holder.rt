@@ -15,8 +15,8 @@ use crate::view::SHARES;
 use seq_model::{Memory, Refusal, Shape, State, Value};
 use std::alloc::Global;
 
-/// A seat with what runs there. When the two are ready, and what they and the table become, it says itself: `TxTable` opens with one, splits
-/// and joins them, and closes with the last.
+/// A seat with what runs there. When the two are ready, and what they and the table become, it says itself: `TxTable` opens with one,
+/// splits and joins them, and closes with the last.
 pub trait HoldsSeat<V: Value>: Drop {
     ghost ready: { TxTable V → Self → Type 0 };
 

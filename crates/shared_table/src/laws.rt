@@ -129,7 +129,8 @@ pub fn shares<V>()
 pub fn closed_tables<V: Value>()
     ensures { (blocks : List Block) (clock : ℕ) (values : List ℕ) (held : List (Held V)) → HaveStripes blocks → Suit blocks held →
         let o = opened blocks clock values held in
-        (id : ℕ) (v : SeatKnowledge V) (s : State (Slot V) (SeatKnowledge V)) → Rule o s → get_elem? s.views id ≡ some v → v.shares ≡ SHARES →
+        (id : ℕ) (v : SeatKnowledge V) (s : State (Slot V) (SeatKnowledge V)) → Rule o s → get_elem? s.views id ≡ some v
+        → v.shares ≡ SHARES →
         is_half_done (stage_of (lone id o v.turns) id) ≡ false → ((k : ℕ) → is_actor id ((lone id o v.turns).boosted.gates k) ≡ false) →
         Closes (length values) blocks (record { words = values; held = held }) v s.words s.homes }
 {

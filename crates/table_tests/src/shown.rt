@@ -25,7 +25,8 @@ pub fn call<V: Value>(
 ) -> Result<Reply<V>, Refusal>
     requires fit { IsFit table.now seat.old }
     ensures fit { IsFit table.now seat.new }
-    ensures refused { IfErr result (λ cause. (calls : List (Asked V × Replied V)) → standing (opening_of table.now) seat.old.seat ≡ Stands calls →
+    ensures refused { IfErr result (λ cause. (calls : List (Asked V × Replied V))
+        → standing (opening_of table.now) seat.old.seat ≡ Stands calls →
         standing (opening_of table.now) seat.new.seat ≡ Rests →
         ShownBy table.now seat.new.seat (WasAbortedFor (contents_in table.now) (opening_of table.now) seat.old.seat calls cause)) }
     ensures open { ShownBy table.now seat.new.seat (SeesOneState (contents_in table.now) (opening_of table.now) seat.new.seat) }
@@ -41,7 +42,8 @@ pub fn call<V: Value>(
 pub fn commit<V: Value>(table: &TxTable<V>, seat: &mut TxSeat<V>) -> Result<Record<V>, Refusal>
     requires fit { IsFit table.now seat.old }
     ensures fit { IsFit table.now seat.new }
-    ensures refused { IfErr result (λ cause. (calls : List (Asked V × Replied V)) → standing (opening_of table.now) seat.old.seat ≡ Stands calls →
+    ensures refused { IfErr result (λ cause. (calls : List (Asked V × Replied V))
+        → standing (opening_of table.now) seat.old.seat ≡ Stands calls →
         ShownBy table.now seat.new.seat (WasAbortedFor (contents_in table.now) (opening_of table.now) seat.old.seat calls cause)) }
 {
     aborted_transactions_saw_one_state::<V>();

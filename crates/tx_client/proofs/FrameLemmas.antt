@@ -1,5 +1,6 @@
 -- Calls of a transaction, by the frame that its scope knows.
-use Rattle.std.proofs.Common.{◌≡◌, ◌⊎◌, ℕ, Bool, true, List, [], ◌∷◌, ◌++◌, Option, Some, None, Ok, Err, inl, inr, refl, sym, ap, ◌∙◌, subst}
+use Rattle.std.proofs.Common.{◌≡◌, ◌⊎◌, ℕ, Bool, true, List, [], ◌∷◌, ◌++◌, Option, Some}
+use Rattle.std.proofs.Common.{None, Ok, Err, inl, inr, refl, sym, ap, ◌∙◌, subst}
 use Rattle.std.specs.Prelude.{IfSome, Result}
 use Rattle.std.proofs.lemmas.List.Elements.{All-nil}
 use Rattle.seq_model.specs.declared.call.Call.{Call}
@@ -19,7 +20,8 @@ use Rattle.tx_engine.specs.declared.seats.TxSeat.{TxSeat}
 use Rattle.tx_engine.specs.Ready.{HasBegunSince, HasCalled, IsReady, standing}
 use Rattle.tx_engine.specs.Requests.{IsOpen, KeepsReceipts}
 use Rattle.tx_engine.proofs.RequestLemmas.{keeps_self, then_keeps}
-use Rattle.tx_client.specs.Frames.{AreBy, ComesBack, Frame, GoesOn, HasMadeCalls, IsClient, IsIn, IsOfSeat, IsUnderWay, calls_made, calls_of, transaction_at}
+use Rattle.tx_client.specs.Frames.{AreBy, ComesBack, Frame, GoesOn, HasMadeCalls, IsClient}
+use Rattle.tx_client.specs.Frames.{IsIn, IsOfSeat, IsUnderWay, calls_made, calls_of, transaction_at}
 use Rattle.tx_handles.specs.MadeCall.{TransactionShown, with_call}
 use Rattle.tx_client.specs.RequestKinds.{HasAsked}
 use Rattle.tx_client.specs.Clients.{IsAtClient}
@@ -32,7 +34,8 @@ module _ {V : Type 0} where
   -- a call keeps the receipts
   pub call_keeps : (t : TxTable V) (s u : TxSeat V) (call : Call V) (r : Result (Reply V) Refusal)
       → (standing (opening_of t) s.seat ≡ Rests) ⊎ IsOpen (opening_of t) s.seat → HasCalled t s u call r → KeepsReceipts s.seat u.seat
-  call_keeps t s u call r (inl rests) has = subst (λ (v : TxSeat V). KeepsReceipts s.seat v.seat) (sym (has.none rests).1) (keeps_self s.seat)
+  call_keeps t s u call r (inl rests) has = subst (λ (v : TxSeat V). KeepsReceipts s.seat v.seat) (sym (has.none rests).1)
+      (keeps_self s.seat)
   call_keeps t s u call r (inr at) has = (has.calls at).keeps
 
   -- and asks for itself alone
@@ -110,7 +113,8 @@ module _ {V : Type 0} where
   pub in_frame : (f : Option (Frame V)) (t u : TxTable V) (m : TxSeat V) (s : TxSeat V)
       → f ≡ Some (record { table = t; begun = Some m }) → IsUnderWay f u s → (u ≡ t) × HasMadeCalls (opening_of t) m.seat s.seat
   in_frame f t u m s is h =
-      let at : IfSome (Some (record { table = t; begun = Some m })) (IsIn u s) = subst (λ (g : Option (Frame V)). IfSome g (IsIn u s)) is h.framed in
+      let at : IfSome (Some (record { table = t; begun = Some m })) (IsIn u s) =
+      subst (λ (g : Option (Frame V)). IfSome g (IsIn u s)) is h.framed in
       (at.table, at.since)
 
   pub begin_frame : (f : Option (Frame V)) (t : TxTable V) (s : TxSeat V)
@@ -118,7 +122,8 @@ module _ {V : Type 0} where
   begin_frame f t s is ready since = record {
     ready = ready;
     since = since;
-    framed = subst (λ (g : Option (Frame V)). IfSome g (IsIn t s)) (sym is) (record { table = refl; since = no_calls (opening_of t) s.seat });
+    framed = subst (λ (g : Option (Frame V)). IfSome g (IsIn t s)) (sym is)
+        (record { table = refl; since = no_calls (opening_of t) s.seat });
   }
 
   -- a client by its seat
@@ -165,5 +170,6 @@ module _ {V : Type 0} where
   pub in_hand : (f : Option (Frame V)) (t : TxTable V) (m s : TxSeat V) → f ≡ Some (record { table = t; begun = Some m })
       → IfSome f (ComesBack s) → IsReady t s × GoesOn m.seat s.seat
   in_hand f t m s is h =
-      let at : IfSome (Some (record { table = t; begun = Some m })) (ComesBack s) = subst (λ (g : Option (Frame V)). IfSome g (ComesBack s)) is h in
+      let at : IfSome (Some (record { table = t; begun = Some m })) (ComesBack s) =
+      subst (λ (g : Option (Frame V)). IfSome g (ComesBack s)) is h in
       (at.ready, at.since)

@@ -159,7 +159,8 @@ fn finish<V: Value, T: Drop, E: Drop>(
     requires since { HasBegunSince table.now seat.old }
     ensures ready { IsReady table.now seat.new }
     ensures ends { EndsAs (λ out calls. (Ok out ≡ ran.gave) × (calls ≡ calls_made (opening_of table.now) seat.old.seat))
-        (λ error calls. (Err error ≡ ran.gave) × (calls ≡ calls_made (opening_of table.now) seat.old.seat)) seat.old.seat seat.new.seat result }
+        (λ error calls. (Err error ≡ ran.gave) × (calls ≡ calls_made (opening_of table.now) seat.old.seat)) seat.old.seat seat.new.seat
+        result }
     ensures asks { HasAsked declared (requests_of seat.old.seat) (requests_of seat.new.seat) }
     ensures reads { IfOk result (λ done. is_declared (opening_of table.now) seat.old.seat ≡ true → done.1.writes ≡ false) }
 {

@@ -104,7 +104,8 @@ impl<V: Value> Contents<V> {
     /// let first = items.and_then(|items| items.first()); // Some(6)
     /// ```
     pub fn queue(&self, queue: Queue) -> Option<&QueueItems>
-        ensures { IfSome result (λ items. (head : _) × HeldAt self.now.store self.now.state queue.store queue.number (held.Queue head items.now)) }
+        ensures { IfSome result (λ items. (head : _)
+            × HeldAt self.now.store self.now.state queue.store queue.number (held.Queue head items.now)) }
     {
         match self.held(queue.store, queue.number) {
             Some(Held::Queue { head: _, items }) => Some(items),

@@ -3,7 +3,8 @@
 -- What the ask answers in the world with the actor alone says where the transaction stands (`asks_move`); that it is not aborted there is a
 -- law on worlds that events have reached, and the world with the actor alone is one of these to it. The result of the turns is the law on
 -- courses (`Driven.comes`).
-use Rattle.std.proofs.Common.{◌≡◌, ◌≢◌, ◌⊎◌, ℕ, true, false, List, Option, None, Result, Ok, Err, IfErr, inl, inr, refl, sym, ap, ◌∙◌, subst}
+use Rattle.std.proofs.Common.{◌≡◌, ◌≢◌, ◌⊎◌, ℕ, true, false, List, Option, None, Result}
+use Rattle.std.proofs.Common.{Ok, Err, IfErr, inl, inr, refl, sym, ap, ◌∙◌, subst}
 use Rattle.std.proofs.Common.{[], ◌∷◌, ◌++◌, Some}
 use Rattle.seq_model.specs.declared.call.Call.{Call}
 use Rattle.seq_model.specs.declared.call.Reply.{Reply}
@@ -36,7 +37,8 @@ use Rattle.shared_table.specs.Seated as seated
 use Rattle.actor_laws.proofs.CourseLemmas.{ends_at}
 use Rattle.actor_laws.proofs.KnownStageLemmas.{asks_move}
 use Rattle.actor_laws.specs.Courses.{ComesTo, EndsFrom, IsUnderWay, IsUnderWayFrom}
-use Rattle.actor_laws.specs.KnownStages.{AskMoves, CallMoves, KnownStage, Rests, Begins, Stands, Calls, Ends, IsMistaken, known_stage, known_stage_at}
+use Rattle.actor_laws.specs.KnownStages.{AskMoves, CallMoves, KnownStage, Rests, Begins, Stands}
+use Rattle.actor_laws.specs.KnownStages.{Calls, Ends, IsMistaken, known_stage, known_stage_at}
 use Rattle.tx_turns.proofs.EndedLemmas.{IsGoing}
 use Rattle.tx_turns.proofs.SnapshotLemmas.{Keeps, asks_keep}
 use Rattle.tx_engine.proofs.KindLemmas.{call_given_up, call_mistaken, call_without_memory}

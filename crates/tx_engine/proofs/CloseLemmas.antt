@@ -45,7 +45,8 @@ module _ {V : Type 0} where
   base_slot (Some b ∷ slots) (suc k) base full at = base_slot slots k base (λ j e. full (suc j) e) at
 
   -- The table that is closed had so many words and these blocks.
-  pub left_by : (n : ℕ) (bs : List Block) (opening : Contents V) (v : SeatKnowledge V) (c : Closed V) → c.words ≡ n → c.locations ≡ end_of n bs
+  pub left_by : (n : ℕ) (bs : List Block) (opening : Contents V) (v : SeatKnowledge V) (c : Closed V) → c.words ≡ n
+      → c.locations ≡ end_of n bs
       → length (homes_of c) ≡ length bs → Closes n bs opening v (row_of c) (map some (homes_of c)) → IsLeftBy opening v.receipts c
   left_by n bs opening v c words locations wide closes = record {
     order = closes.order;

@@ -4,7 +4,8 @@
 use Rattle.std.proofs.Common.{◌≡◌, sym, subst}
 use Rattle.seq_model.specs.declared.call.Op.{Op}
 use Rattle.seq_model.specs.declared.refusal.Refusal.{Refusal}
-use Rattle.seq_model.specs.declared.refusal.Refusal.TheVariants.{Busy, GateBusy, Invalid, Moved, NoSuch, NoTransaction, Memory as OutOfMemory, Stale}
+use Rattle.seq_model.specs.declared.refusal.Refusal.TheVariants.{Busy, GateBusy, Invalid, Moved}
+use Rattle.seq_model.specs.declared.refusal.Refusal.TheVariants.{NoSuch, NoTransaction, Memory as OutOfMemory, Stale}
 use Rattle.seq_model.specs.declared.refusal.Refusal.TheVariants.{TooLong}
 use Rattle.actor_laws.specs.KnownStages.{IsMistaken}
 use Rattle.tx_turns.specs.Driven.{IsCallCause, IsCommitCause}

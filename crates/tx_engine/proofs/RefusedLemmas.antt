@@ -263,7 +263,8 @@ module _ {V : Type 0} where
   leaving_at v u a (Copying asked) cause up h = absurd (subst IsGivenUpFor h.0 up)
   leaving_at v u a st cause up h = absurd h
 
-  aborted_ends : (p : KnownStage V) (commits : Bool) (a : ℕ) (later : KnownStage V) → StepMoves p commits (notice.Answered a answer.Aborted) later
+  aborted_ends : (p : KnownStage V) (commits : Bool) (a : ℕ) (later : KnownStage V)
+      → StepMoves p commits (notice.Answered a answer.Aborted) later
       → p ≡ Ends
   aborted_ends Ends commits a later h = refl
   aborted_ends p true a later h = absurd h
@@ -298,7 +299,8 @@ module _ {V : Type 0} where
       let moved = subst (λ (n : Notice V). StepMoves (known_stage x) commits n later) e (steps_move v a) in
       aborted_leaving v a x x.stage (ends_at x (aborted_ends (known_stage x) commits a later moved)) e
 
-  told_at : (v : World V) (a : ℕ) (n : ActorNotice V) → Linked v → IsEndTold n → (happens v (Step a)).1 ≡ notice_of a n → stage_of v a ≡ Leaving
+  told_at : (v : World V) (a : ℕ) (n : ActorNotice V) → Linked v → IsEndTold n → (happens v (Step a)).1 ≡ notice_of a n
+      → stage_of v a ≡ Leaving
   told_at v a (said.Refused cause) linked up is =
       let u = (happens v (Step a)).0 in
       leaving_at v u a (stage_of v a) cause up

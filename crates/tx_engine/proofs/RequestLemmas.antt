@@ -234,7 +234,8 @@ module _ {V : Type 0} where
   keeps_self s = asked_keeps s s ((refl, refl, refl), refl)
 
   -- and so do turns without a receipt
-  pub turns_keep : (o : World V) (s u : table.Seat V) (n : ActorNotice V) (d : Option (Record V)) → d ≡ None → out u ≡ out s → Driven o s u n d
+  pub turns_keep : (o : World V) (s u : table.Seat V) (n : ActorNotice V) (d : Option (Record V)) → d ≡ None → out u ≡ out s
+      → Driven o s u n d
       → KeepsReceipts s u
   turns_keep o s u n d none outs D = record {
     seat = D.seat;
@@ -339,7 +340,8 @@ module _ {V : Type 0} where
       let h = none_ends o s u n d on D ne in (turns_keep o s u n d h.0 outs D, h.1)
 
   -- an open transaction that is to abort is being aborted
-  quiet_abort : (w : World V) (a : ℕ) (x : Seat V) (st : Stage V) (calls : List (Call V × Reply V)) → known_stage_at x.calls st ≡ Stands calls
+  quiet_abort : (w : World V) (a : ℕ) (x : Seat V) (st : Stage V) (calls : List (Call V × Reply V))
+      → known_stage_at x.calls st ≡ Stands calls
       → (ask_at w a x st Abort).1 ≡ Quiet
   quiet_abort w a x worlds.Open calls h = refl
   quiet_abort w a x st calls h = absurd (let z : ⊥ = cc in z)
@@ -353,11 +355,13 @@ module _ {V : Type 0} where
       let after = happens w (Ask a Abort) in
       let said : after.1 ≡ Quiet = quiet_abort w a (w.seats a) (w.seats a).stage calls on in
       let moved : AskMoves (Stands calls) Abort Quiet (known_stage (after.0.seats a)) =
-      subst (λ (k : KnownStage V × Notice V). AskMoves k.0 Abort k.1 (known_stage (after.0.seats a))) (λ i. (on i, said i)) (asks_move w a Abort) in
+      subst (λ (k : KnownStage V × Notice V). AskMoves k.0 Abort k.1 (known_stage (after.0.seats a))) (λ i. (on i, said i))
+      (asks_move w a Abort) in
       (λ i. known_stage ((own_is i).seats (has.0.1 i))) ∙ moved
 
   -- of which its actor noted no cause
-  none_noted : (w : World V) (a : ℕ) (x : Seat V) (st : Stage V) (calls : List (Call V × Reply V)) → known_stage_at x.calls st ≡ Stands calls
+  none_noted : (w : World V) (a : ℕ) (x : Seat V) (st : Stage V) (calls : List (Call V × Reply V))
+      → known_stage_at x.calls st ≡ Stands calls
       → ((ask_at w a x st Abort).0.seats a).cause ≡ None
   none_noted w a x worlds.Open calls h =
       let t = acted w (asks a word.AskCancel ∷ asks a word.AskAbort ∷ []) in

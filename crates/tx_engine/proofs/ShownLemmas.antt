@@ -56,11 +56,13 @@ module _ {V : Type 0} where
   abbrev IsOwnOf : World V → World V → ℕ × List (Turn V) → Type 0
   IsOwnOf o w p = IsOwn p.0 w (lone p.0 o p.1)
 
-  joined_own : (o w : World V) (s : State (Slot V) (SeatKnowledge V)) → Shows o w s → (p : ℕ × List (Turn V)) → IsJoined s.views p → IsOwnOf o w p
+  joined_own : (o w : World V) (s : State (Slot V) (SeatKnowledge V)) → Shows o w s → (p : ℕ × List (Turn V)) → IsJoined s.views p
+      → IsOwnOf o w p
   joined_own o w s shows p is =
       subst (λ (turns : List (Turn V)). IsOwn p.0 w (lone p.0 o turns)) is.3 (shows.own p.0 is.0 is.1)
 
-  all_own : (o w : World V) (s : State (Slot V) (SeatKnowledge V)) → Shows o w s → (j : ℕ) (v : SeatKnowledge V) → get_elem? s.views j ≡ some v
+  all_own : (o w : World V) (s : State (Slot V) (SeatKnowledge V)) → Shows o w s → (j : ℕ) (v : SeatKnowledge V)
+      → get_elem? s.views j ≡ some v
       → All (IsOwnOf o w) (stands_for j v)
   all_own o w s shows j v at =
       All-cons (IsOwnOf o w) (j, v.turns) v.joined (shows.own j v at)
@@ -70,7 +72,8 @@ module _ {V : Type 0} where
   abbrev by_actors : World V → List (ℕ × List (Turn V)) → (ℕ × Record V → ℕ) → ℕ
   by_actors w ps h = total (λ p. total (only_by p.0 h) w.records) ps
 
-  earned_by : (o w : World V) (s : State (Slot V) (SeatKnowledge V)) → Shows o w s → (j : ℕ) (v : SeatKnowledge V) → get_elem? s.views j ≡ some v
+  earned_by : (o w : World V) (s : State (Slot V) (SeatKnowledge V)) → Shows o w s → (j : ℕ) (v : SeatKnowledge V)
+      → get_elem? s.views j ≡ some v
       → 0 < v.shares → (h : ℕ × Record V → ℕ) → total h v.receipts ≡ by_actors w (stands_for j v) h
   earned_by o w s shows j v at live h =
       let own = shows.own j v at in
@@ -87,7 +90,8 @@ module _ {V : Type 0} where
       → by_actors w ps h ≡ total (λ r. total (λ p. where_same (h r) r.0 p.0) ps) w.records
   by_records w ps h = total_swap (λ (p : ℕ × List (Turn V)) (r : ℕ × Record V). only_by p.0 h r) ps w.records
 
-  pub are_receipts : (o w : World V) (s : State (Slot V) (SeatKnowledge V)) → Shows o w s → (j : ℕ) (v : SeatKnowledge V) → get_elem? s.views j ≡ some v
+  pub are_receipts : (o w : World V) (s : State (Slot V) (SeatKnowledge V)) → Shows o w s → (j : ℕ) (v : SeatKnowledge V)
+      → get_elem? s.views j ≡ some v
       → 0 < v.shares → AreReceipts w (stands_for j v) v.receipts
   are_receipts o w s shows j v at live h =
       earned_by o w s shows j v at live h

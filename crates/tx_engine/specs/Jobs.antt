@@ -1,5 +1,5 @@
--- The calls that a job asks, each after the replies to those before it. What it asks is handed on, for who writes a job and names this crate
--- alone.
+-- The calls that a job asks, each after the replies to those before it. What it asks is handed on, for who writes a job and names this
+-- crate alone.
 use Rattle.std.specs.Prelude.{ℕ, ◌<◌, List, length, take, get_or}
 use Rattle.seq_model.specs.declared.call.Call.{Call}
 use Rattle.seq_model.specs.declared.call.Reply.{Reply}

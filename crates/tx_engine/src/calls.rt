@@ -71,7 +71,8 @@ pub(crate) fn ask_open<V: Value>(
     ensures rests { OnErr result (standing (opening_of table.now) seat.new ≡ Rests) }
     ensures aborted { OnErr result (HasAborted (opening_of table.now) seat.old seat.new) }
     ensures noted { OnErr result (IsLastAborted (opening_of table.now) seat.old seat.new None) }
-    ensures reader { OnErr result (is_declared (opening_of table.now) seat.old ≡ true → is_declared (opening_of table.now) seat.new ≡ true) }
+    ensures reader { OnErr result (is_declared (opening_of table.now) seat.old ≡ true
+        → is_declared (opening_of table.now) seat.new ≡ true) }
     ensures begins { OnErr result (begins_of seat.new ≡ begins_of seat.old) }
     ensures asks { OnErr result (requests_of seat.new ≡ requests_of seat.old ++ Request.Abort ∷ []) }
 {

@@ -57,7 +57,8 @@ pub fn tables_are_serial<V: Value>()
 /// seat are what these actors have committed there, each once; and what its actor has asked since its last step is answered there at
 /// once, by the state at the number of its transaction.
 pub fn tables_show_their_seats<V: Value>()
-    ensures { (opening : Opening V) (s : State (Slot V) (SeatKnowledge V)) (rule : Holds opening s) → ShowsSeats opening rule.rule.events s }
+    ensures { (opening : Opening V) (s : State (Slot V) (SeatKnowledge V)) (rule : Holds opening s)
+        → ShowsSeats opening rule.rule.events s }
 {
     worlds_are_serial::<V>();
 }
@@ -81,7 +82,8 @@ pub fn busy_gates_were_tried_64_times<V: Value>()
 /// that is refused for such a cause: no turn of that transaction stores a value, or puts a base back with its changes, and each lock that
 /// it took is put back with its old version.
 pub fn given_up_seats_change_nothing<V: Value>()
-    ensures told { (t : TxTable V) (s u : TxSeat V) (n : ActorNotice V) → IsReady t s → IsEndTold n → HasTold (opening_of t) s.seat u.seat n →
+    ensures told { (t : TxTable V) (s u : TxSeat V) (n : ActorNotice V) → IsReady t s → IsEndTold n
+        → HasTold (opening_of t) s.seat u.seat n →
         GaveUp (opening_of t) s.seat u.seat n }
     ensures refused { (t : TxTable V) (s u : TxSeat V) (cause : Refusal) → IsReady t s → IsGivenUpFor cause →
         IsFoundAndTold (opening_of t) s.seat u.seat cause → GaveUpFor (opening_of t) s.seat u.seat cause }

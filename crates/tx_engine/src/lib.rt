@@ -10,8 +10,8 @@
 //! transaction is left, and the seat is ready for the next attempt. [`retry`] makes attempts up to a receipt; a [`Task`] is a worker's list
 //! of jobs, with what comes of each, and a [`Priority`] says whose job goes first, where jobs are aborted again and again.
 //!
-//! A table shows a world that events have reached (the rule of `shared_table`), and each seat keeps what that world is to its actor. So what
-//! `replay_log` proves of every such world holds while transactions are open and commits half done ([`laws`]).
+//! A table shows a world that events have reached (the rule of `shared_table`), and each seat keeps what that world is to its actor. So
+//! what `replay_log` proves of every such world holds while transactions are open and commits half done ([`laws`]).
 #![tactic(auto)]
 
 mod attempts;

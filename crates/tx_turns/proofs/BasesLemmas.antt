@@ -178,7 +178,8 @@ module _ {V : Type 0} where
       subst (λ (z : List (CopyOfCollection V) × List ℕ). ArePrepared z.0 z.1 bs) (λ i. (sym h.1 i, sym e i)) (p homes.items h.0)
   prepared_from t s before now bs h e p = tt
 
-  pub prepared_of : (s : own.Stage V) (cs : List (CopyOfCollection V)) (bs : List (Base V)) → next_of (stage_of s) ≡ next.Word → ArePreparedAt cs s bs
+  pub prepared_of : (s : own.Stage V) (cs : List (CopyOfCollection V)) (bs : List (Base V)) → next_of (stage_of s) ≡ next.Word
+      → ArePreparedAt cs s bs
       → (ks : List ℕ) → IsWholeOf s ks → ArePrepared cs (gates_at s) bs
   prepared_of (stage.Ready homes) cs bs e h ks is = let z : ⊥ = cc in absurd z
   prepared_of (stage.Storing homes) cs bs e h ks is = h

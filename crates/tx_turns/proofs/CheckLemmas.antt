@@ -3,7 +3,8 @@
 -- A check is one load, which changes of the actor nothing but the index at which it stands. So a check that passes leads from `Check i` to
 -- `Check (i + 1)` (`check_led`), and that the actor stands there is all of the loop's invariant. What the last check found, or
 -- one that fails, is handed to the actor: such a step is like any other of a commit that is locking (`locking_heard` of `LockLemmas`).
-use Rattle.std.proofs.Common.{◌≡◌, ℕ, ◌+◌, ◌<◌, true, List, Option, Some, None, Result, Ok, length, drop, get_or, refl, sym, ap, ◌∙◌, le-leb, arith}
+use Rattle.std.proofs.Common.{◌≡◌, ℕ, ◌+◌, ◌<◌, true, List, Option, Some, None, Result}
+use Rattle.std.proofs.Common.{Ok, length, drop, get_or, refl, sym, ap, ◌∙◌, le-leb, arith}
 use Rattle.std.proofs.lemmas.Bool.{cond-true}
 use Rattle.std.specs.Prelude.{nat_le}
 use Rattle.tx_sets.specs.Entries.{locations, lookup}

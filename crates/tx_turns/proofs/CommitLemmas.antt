@@ -33,7 +33,8 @@ module _ {V : Type 0} where
   none_made a r stage.Closing on = absurd on
   none_made a r t on = refl
 
-  pub gate_leads : (t : TxTable V) (s u : Seat V) (r : TxActor V) (k : Next) (n : ActorNotice V) → next_of (stage_of r.stage) ≡ k → IsOnGate k
+  pub gate_leads : (t : TxTable V) (s u : Seat V) (r : TxActor V) (k : Next) (n : ActorNotice V) → next_of (stage_of r.stage) ≡ k
+      → IsOnGate k
       → Ties t s r → Turned (opening_of t) s r u n → LeadsAll (opening_of t) s u n
   gate_leads t s u r k n due on ties turned d f was =
       driven_on t f s u r n d ties was turned None (none_made (actor s) r r.stage (subst IsOnGate (sym due) on))

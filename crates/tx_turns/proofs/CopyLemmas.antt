@@ -238,11 +238,13 @@ module _ {V : Type 0} where
       let at_it : r.stage ≡ stage.Copying p.asked = c.1 ∙ ap (λ (a : CollectionCall V). stage.Copying a) (sym is.0) in
       (at_it, can_at v r base p.asked stage.Idle (subst (CanCopyAt v r base) at_it can), is.1)
 
-  pub steps_at : (v : BlocksView) (r q : TxActor V) (n : ActorNotice V) (base : Base V) (asked : CollectionCall V) → r.stage ≡ stage.Copying asked
+  pub steps_at : (v : BlocksView) (r q : TxActor V) (n : ActorNotice V) (base : Base V) (asked : CollectionCall V)
+      → r.stage ≡ stage.Copying asked
       → StepsOn v (at r (stage.Copying asked)) q n base asked → StepsOnAt v r q n base r.stage
   steps_at v r q n base asked st h = subst (λ (s : own.Stage V). StepsOnAt v (at r s) q n base s) (sym st) h
 
-  pub taken_at : (v : BlocksView) (r q : TxActor V) (n : ActorNotice V) (base : Base V) (asked : CollectionCall V) → r.stage ≡ stage.Copying asked
+  pub taken_at : (v : BlocksView) (r q : TxActor V) (n : ActorNotice V) (base : Base V) (asked : CollectionCall V)
+      → r.stage ≡ stage.Copying asked
       → HasTaken v (at r stage.Idle) q n base asked → HasTakenAt v r q n base r.stage
   taken_at v r q n base asked st h = subst (HasTakenAt v r q n base) (sym st) h
 

@@ -17,7 +17,8 @@ use Rattle.seq_model.specs.declared.event.Event.TheVariants.{Ask, Starve}
 use Rattle.seq_model.specs.declared.event.Request.{Request}
 use Rattle.tx_machine.specs.Boosted.{word_step}
 use Rattle.replay_log.specs.declared.base.Base.{Base}
-use Rattle.replay_log.specs.Worlds.{World, Seat, Stage, Beginning, Open, acted, actor_of, ask_at, happens, has_begun, moves, step_at, word_notice}
+use Rattle.replay_log.specs.Worlds.{World, Seat, Stage, Beginning, Open, acted, actor_of}
+use Rattle.replay_log.specs.Worlds.{ask_at, happens, has_begun, moves, step_at, word_notice}
 use Rattle.actor_laws.proofs.PassLemmas.{IsPlainAsk, ask_open_keeps, starve_keeps, step_keeps}
 use Rattle.shared_table.specs.Turns.{found_at, moved, spot}
 use Rattle.tx_turns.proofs.StampLemmas.{planted_actor, planted_seats}

@@ -39,7 +39,8 @@ use Rattle.shared_table.specs.declared.view.Turn.{Turn}
 use Rattle.actor_laws.proofs.CourseLemmas.{on_call, on_commit, on_done, steps_come, ends_at}
 use Rattle.actor_laws.proofs.KnownStageLemmas.{steps_move}
 use Rattle.actor_laws.specs.Courses.{ComesTo, IsUnderWay, IsUnderWayFrom, latest}
-use Rattle.actor_laws.specs.KnownStages.{KnownStage, Rests, Begins, Stands, Calls, Commits, Committed, Ends, IsMistaken, StepMoves, known_stage, known_stage_at}
+use Rattle.actor_laws.specs.KnownStages.{KnownStage, Rests, Begins, Stands, Calls, Commits}
+use Rattle.actor_laws.specs.KnownStages.{Committed, Ends, IsMistaken, StepMoves, known_stage, known_stage_at}
 use Rattle.tx_turns.proofs.CauseLemmas.{IsOfCommit, call_cause, commit_cause}
 use Rattle.tx_turns.proofs.DeclaredLemmas.{begin_declared, reader_moved}
 use Rattle.tx_turns.proofs.EndedLemmas.{IsGoing, begin_added, done_added, ends_from, going_added, none_added, one_added}
@@ -48,7 +49,8 @@ use Rattle.tx_turns.proofs.SnapshotLemmas.{Keeps, steps_keep}
 use Rattle.tx_turns.proofs.RequestHistoryLemmas.{turn_requests}
 use Rattle.tx_turns.proofs.StampLemmas.{begun_clock, exhausted_clock, numbered, stamped_step}
 use Rattle.tx_turns.proofs.WritingLemmas.{commits_first, is_commit, is_one, written_on}
-use Rattle.tx_turns.specs.Driven.{AddsAborted, Driven, HasFound, IsNumberOf, IsReason, IsStamped, IsTrue, IsTurnFrom, IsWritten, KnowsNumber}
+use Rattle.tx_turns.specs.Driven.{AddsAborted, Driven, HasFound, IsNumberOf, IsReason}
+use Rattle.tx_turns.specs.Driven.{IsStamped, IsTrue, IsTurnFrom, IsWritten, KnowsNumber}
 use Rattle.tx_turns.specs.Driven.{as_receipts, is_declared, seat_in, standing}
 use Rattle.tx_turns.proofs.OwnLemmas.{own_ok}
 use Rattle.tx_turns.proofs.TurnLemmas.{ends_as as commits_as}
@@ -337,7 +339,10 @@ module _ {V : Type 0} where
     truth Ends m e under was = tt
 
     rises_to : (view u).clock ≤ (view z).clock
-    rises_to = (let q = T.rises in let k : (view z).clock ≡ T.clock = ap (λ (k : SeatKnowledge V). k.clock) T.takes.turn in omega (arith, q, k))
+    rises_to =
+        let q = T.rises in
+        let k : (view z).clock ≡ T.clock = ap (λ (k : SeatKnowledge V). k.clock) T.takes.turn in
+        omega (arith, q, k)
 
     -- the number at which it has begun is unchanged
     begun_stays : (standing o s ≡ Begins → ⊥) → (standing o z ≡ Rests → ⊥) → (seat_in o z).rv ≡ (seat_in o s).rv

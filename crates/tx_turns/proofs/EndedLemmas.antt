@@ -2,7 +2,8 @@
 --
 -- Only the last step of a transaction that is aborted adds one, and answers why; there is none after it. It is answered nowhere else: a
 -- request under way that ends so was being aborted (`steps_move`), and every other step of that answers nothing.
-use Rattle.std.proofs.Common.{◌≡◌, ℕ, Bool, true, false, List, [], ◌∷◌, ◌++◌, Option, Some, None, inl, inr, refl, sym, ap, ◌∙◌, subst, true≢false, append-nil}
+use Rattle.std.proofs.Common.{◌≡◌, ℕ, Bool, true, false, List, [], ◌∷◌, ◌++◌, Option, Some}
+use Rattle.std.proofs.Common.{None, inl, inr, refl, sym, ap, ◌∙◌, subst, true≢false, append-nil}
 use Rattle.tx_machine.specs.Notices as told
 use Rattle.tx_machine.proofs.Sets.{put-same}
 use Rattle.seq_model.specs.declared.event.Answer.TheVariants as answer
@@ -13,7 +14,8 @@ use Rattle.tx_machine.specs.Boosted.{PutGate}
 use Rattle.replay_log.specs.Seats.{Ended, Seat, Stage, World}
 use Rattle.replay_log.specs.WorldRefusals.{is_ending}
 use Rattle.replay_log.specs.WorldTraces.{ended_by}
-use Rattle.replay_log.specs.Worlds.{Beginning, Cancelling, Leaving, Returning, acted, gives_up, happens, has_cancelled, moves, no_one, step_at, why}
+use Rattle.replay_log.specs.Worlds.{Beginning, Cancelling, Leaving, Returning, acted, gives_up}
+use Rattle.replay_log.specs.Worlds.{happens, has_cancelled, moves, no_one, step_at, why}
 use Rattle.replay_log.specs.Worlds.{word_notice}
 use Rattle.replay_log.specs.declared.base.Base.{Base}
 use Rattle.actor_laws.proofs.Alike.{alike_same}

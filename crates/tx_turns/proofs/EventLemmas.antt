@@ -57,7 +57,8 @@ module _ {V : Type 0} where
   going_as : (w : World V) (a : ℕ) (r : TxActor V) → Runs a r w → is_going (w.seats a).stage ≡ is_going (stage_of r.stage)
   going_as w a r runs = ap (λ (x : Seat V). is_going x.stage) runs.0 ∙ going_at (w.seats a) (seat_of r) r.stage
 
-  prepared_not : (cs : List (CopyOfCollection V)) (bs : List (Base V)) (t : own.Stage V) → is_going (stage_of t) ≡ false → ArePreparedAt cs t bs
+  prepared_not : (cs : List (CopyOfCollection V)) (bs : List (Base V)) (t : own.Stage V) → is_going (stage_of t) ≡ false
+      → ArePreparedAt cs t bs
   prepared_not cs bs (stage.Storing homes) e = absurd (true≢false e)
   prepared_not cs bs (stage.Homing homes) e = absurd (true≢false e)
   prepared_not cs bs t e = tt
@@ -129,7 +130,8 @@ module _ {V : Type 0} where
       whole (stage.Homing homes) p other ks is = p
       whole s p other ks is = absurd is
 
-  pub starve_own : StarvesKeep V → OthersLaw V → (t : TxTable V) (s u : table.Seat V) (r q : TxActor V) (n : ActorNotice V) (bs : List (Base V))
+  pub starve_own : StarvesKeep V → OthersLaw V → (t : TxTable V) (s u : table.Seat V) (r q : TxActor V) (n : ActorNotice V)
+      (bs : List (Base V))
       → Ties t s r → HasOwn t s r bs → Starved (opening_of t) s u n → Ties t u q → KeepsCopies r q → HasOwn t u q bs
   starve_own keep law t s u r q n bs ties own starved tie keeps =
       let a = seated.actor s in

@@ -85,7 +85,8 @@ module _ {V : Type 0} where
   starved_up w a st r h is = absurd h
 
   -- ---- a call, or a commit without a record
-  halfway_from : (s x : Seat V) (d : Option (Record V)) (p : KnownStage V) → IsUnderWayFrom s p x d → IsHalfway (known_stage x) → IsHalfway p
+  halfway_from : (s x : Seat V) (d : Option (Record V)) (p : KnownStage V) → IsUnderWayFrom s p x d → IsHalfway (known_stage x)
+      → IsHalfway p
   halfway_from s x d Begins h half = subst IsHalfway h.0 half
   halfway_from s x d (Calls calls call) h half = tt
   halfway_from s x d (Commits calls) h half = tt
@@ -105,7 +106,8 @@ module _ {V : Type 0} where
   halfway_none s x d Committed h half = absurd h
 
   -- it has ended so as an allocation failed
-  halfway_ends : (a : ℕ) (s x : Seat V) (p : KnownStage V) → IsHalfway p → known_stage x ≡ Rests → EndsFrom a s p (Refused a OutOfMemory) x None
+  halfway_ends : (a : ℕ) (s x : Seat V) (p : KnownStage V) → IsHalfway p → known_stage x ≡ Rests
+      → EndsFrom a s p (Refused a OutOfMemory) x None
   halfway_ends a s x (Calls calls call) half rests = (inr rests, refl)
   halfway_ends a s x (Commits calls) half rests = (rests, refl)
   halfway_ends a s x p half rests = absurd half

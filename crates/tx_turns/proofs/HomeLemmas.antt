@@ -164,7 +164,8 @@ module _ {V : Type 0} where
         | inr ne ↦ so_far j m b (omega (arith, low, ne)) there (sym (one.others j ne) ∙ is)
       ]
 
-  pub prepared_all : (cs : List (CopyOfCollection V)) (ks : List ℕ) (bs : List (Base V)) → length ks ≡ length bs → PreparedTo (length ks) cs ks bs
+  pub prepared_all : (cs : List (CopyOfCollection V)) (ks : List ℕ) (bs : List (Base V)) → length ks ≡ length bs
+      → PreparedTo (length ks) cs ks bs
       → ArePrepared cs ks bs
   prepared_all cs [] bs e h = tt
   prepared_all cs (k ∷ ks) [] e h = let z : ⊥ = omega (arith, e) in absurd z
@@ -314,7 +315,8 @@ module _ {V : Type 0} where
         )
       ]
 
-  prepared_at : (cs : List (CopyOfCollection V)) (g : Standing V) (bs : List (Base V)) → ArePrepared cs (gates_at g) bs → ArePreparedAt cs g bs
+  prepared_at : (cs : List (CopyOfCollection V)) (g : Standing V) (bs : List (Base V)) → ArePrepared cs (gates_at g) bs
+      → ArePreparedAt cs g bs
   prepared_at cs (stage.Storing homes) bs h = h
   prepared_at cs (stage.Homing homes) bs h = h
   prepared_at cs g bs h = tt

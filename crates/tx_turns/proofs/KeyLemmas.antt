@@ -101,7 +101,8 @@ module _ {V : Type 0} where
   stopped_then t s u z r bs h k = record { ties = k.ties; own = k.own; wants = λ f was. k.wants f (h None f was) }
 
   -- ---- the gate
-  pub gate_won : HoldsGates V → AreSteps V → StepsKeep V → OthersLaw V → (t : TxTable V) (s u : Seat V) (p : TxActor V) (asked : CollectionCall V)
+  pub gate_won : HoldsGates V → AreSteps V → StepsKeep V → OthersLaw V
+      → (t : TxTable V) (s u : Seat V) (p : TxActor V) (asked : CollectionCall V)
       (tries k : ℕ) (b : Base V) → k ≡ asked.collection → Ties t s (at p (stage.Trying asked tries))
       → HasOwn t s (at p (stage.Trying asked tries)) [] → IsBaseAt (blocks_in t) k b
       → Takes (opening_of t) s (view s).clock 0 (Some b) (out s ++ (k, None) ∷ []) u
@@ -114,7 +115,8 @@ module _ {V : Type 0} where
       ((h.1 (laid_in t)).running ties.running) h.2 in
       record { ties = g.0; own = g.2; leads = turn_leads t s u r told.Quiet ties g.1 refl }
 
-  pub gate_lost : AreSteps V → StepsKeep V → OthersLaw V → (t : TxTable V) (s u : Seat V) (p q : TxActor V) (n : ActorNotice V) (asked : CollectionCall V)
+  pub gate_lost : AreSteps V → StepsKeep V → OthersLaw V
+      → (t : TxTable V) (s u : Seat V) (p q : TxActor V) (n : ActorNotice V) (asked : CollectionCall V)
       (tries k : ℕ) → k ≡ asked.collection → let r = at p (stage.Trying asked tries) in Ties t s r
       → HasOwn t s r [] → Takes (opening_of t) s (view s).clock 1 None (out s) u
       → Does r q n (λ a w. after_try w a (seat_of r) (stage_of r.stage) false) → KeepsIn (laid_in t) r q → KeepsCopies r q
@@ -126,7 +128,8 @@ module _ {V : Type 0} where
       record { ties = g.0; own = g.2; leads = turn_leads t s u r n ties g.1 refl }
 
   -- there was no memory before it
-  pub try_starved : StarvesKeep V → OthersLaw V → (t : TxTable V) (s u : Seat V) (p q : TxActor V) (n : ActorNotice V) (asked : CollectionCall V)
+  pub try_starved : StarvesKeep V → OthersLaw V → (t : TxTable V) (s u : Seat V) (p q : TxActor V) (n : ActorNotice V)
+      (asked : CollectionCall V)
       (tries : ℕ) (bs : List (Base V)) → [] ≡ bs → let r = at p (stage.Trying asked tries) in Ties t s r → HasOwn t s r []
       → Starved (opening_of t) s u n → Ties t u q → KeepsCopies r q → HasStopped t s u q bs
   try_starved keep law t s u p q n asked tries bs none ties has starved tie leaves =
@@ -256,7 +259,8 @@ module _ {V : Type 0} where
       put_behind laws t m z u q p h has (subst (λ (b : BlocksView). StarvesOn b u p q) laid does h.actor h.base h.can h.taken) nothing
       (subst (λ (b : BlocksView). BoundsOn b u p q) laid bounds h.actor h.base h.can h.taken)
 
-  pub key_put : (t : TxTable V) (s m : Seat V) (r u : TxActor V) (asked : CollectionCall V) (b d : Base V) (p : KeyedCall V) (v : BlocksView)
+  pub key_put : (t : TxTable V) (s m : Seat V) (r u : TxActor V) (asked : CollectionCall V) (b d : Base V) (p : KeyedCall V)
+      (v : BlocksView)
       → v ≡ laid_in t → d ≡ b → r.stage ≡ stage.Idle → Ties t s (at r (stage.Copying asked))
       → HasOwn t s (at r (stage.Copying asked)) (b ∷ []) → Takes (opening_of t) s (view s).clock 1 None (rest (out s)) m
       → CanCopy (laid_in t) r b asked → AreTakenFor v r u d asked (Some p) → HasPut t m u p
@@ -277,7 +281,8 @@ module _ {V : Type 0} where
   in_hand bs cs b more none = sym (more ∙ ap (λ (ds : List (Base V)). ds ++ b ∷ []) none)
 
   -- what holds of the seat that put the gate back so, holds of s
-  pub put_then : (t : TxTable V) (s m : Seat V) (r u : TxActor V) (asked : CollectionCall V) (b d : Base V) (p : KeyedCall V) (v : BlocksView)
+  pub put_then : (t : TxTable V) (s m : Seat V) (r u : TxActor V) (asked : CollectionCall V) (b d : Base V) (p : KeyedCall V)
+      (v : BlocksView)
       → v ≡ laid_in t → d ≡ b → r.stage ≡ stage.Idle → Ties t s (at r (stage.Copying asked))
       → HasOwn t s (at r (stage.Copying asked)) (b ∷ []) → Takes (opening_of t) s (view s).clock 1 None (rest (out s)) m
       → CanCopy (laid_in t) r b asked → AreTakenFor v r u d asked (Some p) → (P : Seat V → Type 0)

@@ -4,7 +4,8 @@
 -- which it holds one lock more (`take_led`). So from one lock to the next all of the actor is as it was but for the locks that it holds.
 -- Handed to the actor are a word that is locked (`locking_heard`), one that has changed since its load (`take_lost`), and, after the last
 -- lock, the number (`stamp_heard`).
-use Rattle.std.proofs.Common.{◌≡◌, ℕ, ◌+◌, ◌*◌, ◌<◌, ◌≤◌, ◌^◌, ◌++◌, true, false, true≢false, List, [], ◌∷◌, Option, None, Result, Ok, Err, length, drop, get_or, refl, sym, ap, ◌∙◌, subst, arith}
+use Rattle.std.proofs.Common.{◌≡◌, ℕ, ◌+◌, ◌*◌, ◌<◌, ◌≤◌, ◌^◌, ◌++◌, true, false, true≢false, List, [], ◌∷◌}
+use Rattle.std.proofs.Common.{Option, None, Result, Ok, Err, length, drop, get_or, refl, sym, ap, ◌∙◌, subst, arith}
 use Rattle.std.specs.VecDeque.{deque_capacity, deque_len}
 use Rattle.std.specs.declared.alloc.Global.{Global}
 use Rattle.std.specs.declared.collections.VecDeque.{VecDeque}
@@ -76,7 +77,8 @@ module _ {V : Type 0} where
 
   -- any step of it that is handed to the actor
   pub locking_heard : AreSteps V → WordsKeep V → (t : TxTable V) (s u : Seat V) (r q : TxActor V) (y : Actor)
-      (m : Result (Option WordAnswer) WordRefusal) (n : ActorNotice V) (bs : List (Base V)) → is_locking r.stage ≡ true → AreSmall (blocks_in t)
+      (m : Result (Option WordAnswer) WordRefusal) (n : ActorNotice V) (bs : List (Base V)) → is_locking r.stage ≡ true
+      → AreSmall (blocks_in t)
       → Ties t s r → HasOwn t s r bs → StepsWords (opening_of t) s r.words u y m → ((j : ℕ) → Fits j r.words → Fits j y)
       → IsToldWord (record r { words = y }) q n (notice_told m)
       → (IsRunning (laid_in t) (record r { words = y }) → IsRunning (laid_in t) q) → KeepsCopies r q → HasLed t s u q n bs

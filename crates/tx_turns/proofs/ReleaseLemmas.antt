@@ -2,7 +2,8 @@
 --
 -- A store that gives a lock back takes the front of the locks that are held away, and while others are held it changes nothing else of the
 -- actor (`release_led`): so the loop ends as they get fewer. The last one is handed to the actor, and the commit is over (`release_heard`).
-use Rattle.std.proofs.Common.{◌≡◌, ℕ, ◌*◌, ◌<◌, true, false, List, Option, Some, None, Result, Ok, length, drop, get_or, refl, sym, ap, ◌∙◌, subst, arith}
+use Rattle.std.proofs.Common.{◌≡◌, ℕ, ◌*◌, ◌<◌, true, false, List, Option, Some, None, Result}
+use Rattle.std.proofs.Common.{Ok, length, drop, get_or, refl, sym, ap, ◌∙◌, subst, arith}
 use Rattle.std.specs.VecDeque.{deque_len}
 use Rattle.tx_machine.specs.Actor.{after_release, freed}
 use Rattle.tx_machine.specs.Cells.{LockCell}

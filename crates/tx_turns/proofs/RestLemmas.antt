@@ -54,7 +54,8 @@ module _ {V : Type 0} where
   calm_left calls p A (inl stays) = subst IsCalm (sym stays.0) tt
   calm_left calls p A (inr rests) = subst IsCalm (sym rests) tt
 
-  calm_ends : (a : ℕ) (s x : Seat V) (p : KnownStage V) (n : Notice V) (d : Option (Record V)) → EndsFrom a s p n x d → IsCalm (known_stage x)
+  calm_ends : (a : ℕ) (s x : Seat V) (p : KnownStage V) (n : Notice V) (d : Option (Record V)) → EndsFrom a s p n x d
+      → IsCalm (known_stage x)
   calm_ends a s x Begins (Answered b (answer.Begun rv)) d h = subst IsCalm (sym h.0) tt
   calm_ends a s x Begins (Refused b cause) d h = subst IsCalm (sym h.0) tt
   calm_ends a s x (Calls calls call) (Answered b (answer.Replied r)) d h = subst IsCalm (sym h.0) tt

@@ -160,7 +160,8 @@ module _ {V : Type 0} where
     abbrev Later : World V → Stage V → Type 0
     Later p st = is_commit (known_stage ((step_at p a x st).0.seats a)) ≡ true → IsStamped j (actor_of (step_at p a x st).0 a)
 
-    not_over : (r : After V) (z : Actor) → (known_stage (r.0.seats a) ≡ Ends) ⊎ (actor_of r.0 a ≡ z) → is_commit (known_stage (r.0.seats a)) ≡ true
+    not_over : (r : After V) (z : Actor) → (known_stage (r.0.seats a) ≡ Ends) ⊎ (actor_of r.0 a ≡ z)
+        → is_commit (known_stage (r.0.seats a)) ≡ true
         → IsStamped j z → IsStamped j (actor_of r.0 a)
     unfolding is_commit
     not_over r z (inl ends) c h = absurd (true≢false (sym c ∙ ap is_commit ends))
@@ -191,7 +192,8 @@ module _ {V : Type 0} where
         (subst (IsStamped j) (sym (gate_stands p a i ∙ planted_actor w a n b (spot a w))) (raised k j y y.place le was))
 
     -- a record was made
-    made_over : (calls : List (Call V × Reply V)) (m : Notice V) (q : KnownStage V) → StepMoves (Commits calls) true m q → is_commit q ≡ true → ⊥
+    made_over : (calls : List (Call V × Reply V)) (m : Notice V) (q : KnownStage V) → StepMoves (Commits calls) true m q
+        → is_commit q ≡ true → ⊥
     unfolding is_commit
     made_over calls Quiet q h c = true≢false (sym c ∙ ap is_commit h)
     made_over calls (Answered d (answer.Committed i)) q h c = true≢false (sym c ∙ ap is_commit h)
@@ -200,7 +202,8 @@ module _ {V : Type 0} where
     by_stage : (st : Stage V) → x.stage ≡ st → StageOk w.words w.blocks x y (w.boosted.shadows a) st y.place
         → (is_commit (known_stage_at x.calls st) ≡ true → IsStamped k y)
         → let r = step_at (found_at a w (spot a w) n b) a x st in
-        StepMoves (known_stage_at x.calls st) (is_some (committed_by x st)) r.1 (known_stage (r.0.seats a)) → Later (found_at a w (spot a w) n b) st
+        StepMoves (known_stage_at x.calls st) (is_some (committed_by x st)) r.1 (known_stage (r.0.seats a))
+        → Later (found_at a w (spot a w) n b) st
     unfolding is_commit
     by_stage Locking at ok was moves = at_locking at ok.0 (was refl)
     by_stage (Gating got [] tries) at ok was moves = absurd ok
@@ -211,9 +214,11 @@ module _ {V : Type 0} where
         let r = step_at (found_at a w (spot a w) n b) a x Closing in absurd (made_over x.calls r.1 (known_stage (r.0.seats a)) moves c)
     by_stage st at ok was moves = λ c.
         let r = step_at (found_at a w (spot a w) n b) a x st in
-        absurd (true≢false (sym (was_commit (known_stage_at x.calls st) (is_some (committed_by x st)) r.1 (known_stage (r.0.seats a)) moves c)))
+        absurd (true≢false (sym (was_commit (known_stage_at x.calls st) (is_some (committed_by x st)) r.1 (known_stage (r.0.seats a))
+        moves c)))
 
-    pub stamped_step : StageOk w.words w.blocks x y (w.boosted.shadows a) x.stage y.place → (is_commit (known_stage x) ≡ true → IsStamped k y)
+    pub stamped_step : StageOk w.words w.blocks x y (w.boosted.shadows a) x.stage y.place
+        → (is_commit (known_stage x) ≡ true → IsStamped k y)
         → let r = (moved a w n b).0 in is_commit (known_stage (r.seats a)) ≡ true → IsStamped j (actor_of r a)
     stamped_step ok was =
         let p = found_at a w (spot a w) n b in

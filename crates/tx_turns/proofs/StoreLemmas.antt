@@ -3,7 +3,8 @@
 -- A store changes of the actor nothing but the index at which it stands, whatever it found. So a store after which others are left leads
 -- from `Store i` to `Store (i + 1)` (`store_led`), and that the actor stands there is all of the loop's invariant. The last one is
 -- handed to the actor (`store_heard`).
-use Rattle.std.proofs.Common.{◌≡◌, ℕ, ◌+◌, ◌<◌, true, false, true≢false, List, Option, None, Result, Ok, length, drop, get_or, refl, sym, ap, ◌∙◌, subst, arith}
+use Rattle.std.proofs.Common.{◌≡◌, ℕ, ◌+◌, ◌<◌, true, false, true≢false, List, Option, None, Result}
+use Rattle.std.proofs.Common.{Ok, length, drop, get_or, refl, sym, ap, ◌∙◌, subst, arith}
 use Rattle.std.specs.List.{All}
 use Rattle.tx_sets.specs.Entries.{IsRising, locations}
 use Rattle.tx_machine.proofs.Sets.{put-same}

@@ -3,7 +3,8 @@
 -- What a step on the words makes of an actor is a term, of which the next step asks only that it is next in the world with the seat alone:
 -- so no value has to hold it. Each step is one lemma here, by what it found; it leads on from those before it (`led_on`), and the last one,
 -- which is handed to the actor, is like any turn on the words (`led_last`).
-use Rattle.std.proofs.Common.{◌≡◌, ℕ, ◌<◌, ◌≤◌, true, false, true≢false, Bool, cond, eqb, List, Option, Some, None, Result, Ok, Err, OnOk, IfErr, inl, inr, refl, sym, ap, ◌∙◌, subst, arith}
+use Rattle.std.proofs.Common.{◌≡◌, ℕ, ◌<◌, ◌≤◌, true, false, true≢false, Bool, cond, eqb, List, Option, Some, None}
+use Rattle.std.proofs.Common.{Result, Ok, Err, OnOk, IfErr, inl, inr, refl, sym, ap, ◌∙◌, subst, arith}
 use Rattle.std.specs.Prelude.{nat_le, if◌then◌else◌}
 use Rattle.std.proofs.lemmas.Bool.{cond-true}
 use Rattle.std.specs.Vec.{vec_len, vec_capacity}
@@ -163,7 +164,8 @@ module _ {V : Type 0} where
     near = (let p = h.near in let q = k.nearer refl in omega (arith, p, q));
   }
 
-  pub led_then : (t : TxTable V) (s u z : Seat V) (r : TxActor V) (n : ActorNotice V) (bs : List (Base V)) → LeadsOn (opening_of t) s u told.Quiet
+  pub led_then : (t : TxTable V) (s u z : Seat V) (r : TxActor V) (n : ActorNotice V) (bs : List (Base V))
+      → LeadsOn (opening_of t) s u told.Quiet
       → HasLed t u z r n bs → HasLed t s z r n bs
   led_then t s u z r n bs h k = record { ties = k.ties; own = k.own; leads = leads_then (opening_of t) s u z n h k.leads }
 
@@ -389,7 +391,8 @@ module _ {V : Type 0} where
       load_hears laws.steps laws.keep t s u r y m loading ties step room fits
 
   pub loading_last : LoadLaws V → (t : TxTable V) (s u : Seat V) (r q : TxActor V) (y : Actor) (m : Result (Option WordAnswer) WordRefusal)
-      (n : ActorNotice V) (bs : List (Base V)) → is_loading (stage_of r.stage) ≡ true → AreSmall (blocks_in t) → Ties t s r → HasOwn t s r bs
+      (n : ActorNotice V) (bs : List (Base V)) → is_loading (stage_of r.stage) ≡ true → AreSmall (blocks_in t) → Ties t s r
+      → HasOwn t s r bs
       → StepsWords (opening_of t) s r.words u y m → (IsLoad r.words.place → KeepsRoom r.words y)
       → ((j : ℕ) → Fits j r.words → Fits j y) → let p : TxActor V = record r { words = y } in
       IsToldLoad p q n (notice_told m) → (HasHeard (laid_in t) p (notice_told m) → IsRunning (laid_in t) q)

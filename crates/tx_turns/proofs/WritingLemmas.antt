@@ -20,7 +20,8 @@ use Rattle.replay_log.specs.Worlds.{takes_gates}
 use Rattle.replay_log.specs.Worlds.{word_notice, written_homes}
 use Rattle.replay_log.specs.WorldTraces.{committed_by}
 use Rattle.actor_laws.specs.Courses.{latest}
-use Rattle.actor_laws.specs.KnownStages.{KnownStage, Rests, Begins, Stands, Calls, Commits, Committed, Ends, StepMoves, known_stage, known_stage_at}
+use Rattle.actor_laws.specs.KnownStages.{KnownStage, Rests, Begins, Stands, Calls, Commits}
+use Rattle.actor_laws.specs.KnownStages.{Committed, Ends, StepMoves, known_stage, known_stage_at}
 use Rattle.tx_turns.specs.Driven.{IsWritten, is_closing}
 
 takes_open : (V : Type 0) (got ks : List ℕ) → is_closing {V = V} (takes_gates got ks) ≡ false
@@ -32,7 +33,8 @@ module _ {V : Type 0} where
   is_commit (Commits calls) = true
   is_commit p = false
 
-  pub is_one : (calls : List (Call V × Reply V)) (st : Stage V) → is_commit (known_stage_at calls st) ≡ true → known_stage_at calls st ≡ Commits calls
+  pub is_one : (calls : List (Call V × Reply V)) (st : Stage V) → is_commit (known_stage_at calls st) ≡ true
+      → known_stage_at calls st ≡ Commits calls
   unfolding is_commit
   is_one calls Locking c = refl
   is_one calls (Gating got ks tries) c = refl
@@ -52,7 +54,8 @@ module _ {V : Type 0} where
   writes_in None = true
 
   -- only a commit under way is one after the next step
-  pub was_commit : (p : KnownStage V) (b : Bool) (n : Notice V) (q : KnownStage V) → StepMoves p b n q → is_commit q ≡ true → is_commit p ≡ true
+  pub was_commit : (p : KnownStage V) (b : Bool) (n : Notice V) (q : KnownStage V) → StepMoves p b n q → is_commit q ≡ true
+      → is_commit p ≡ true
   unfolding is_commit
   was_commit (Commits calls) b n q h e = refl
   was_commit Rests false (Refused b cause) q h e = absurd (true≢false (sym e ∙ ap is_commit h))
@@ -130,7 +133,8 @@ module _ {V : Type 0} where
     closing_at st at c was = ap is_closing (sym at) ∙ was x.calls (ap (known_stage_at x.calls) at ∙ is_one x.calls st c)
 
     pub written_on : (st : Stage V) (e d : Option (Record V)) → w.seats a ≡ x → x.stage ≡ st
-        → StepMoves (known_stage_at x.calls st) (is_some (committed_by x st)) (step_at w a x st).1 (known_stage ((step_at w a x st).0.seats a))
+        → StepMoves (known_stage_at x.calls st) (is_some (committed_by x st)) (step_at w a x st).1
+        (known_stage ((step_at w a x st).0.seats a))
         → committed_by x st ≡ e → ((r : Record V) → e ≡ Some r → d ≡ None) → IsWritten from x d
         → IsWritten from ((step_at w a x st).0.seats a) (latest e d)
     unfolding is_commit

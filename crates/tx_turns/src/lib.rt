@@ -7,10 +7,10 @@
 //!
 //! - **Words.** The place at which the word actor stands says which load, store, compare_exchange or fetch_add is next (`next_step`). What
 //!   it makes of itself depends on the number that the step found, and on nothing else (`learn`).
-//! - **Gates.** While its actor holds a gate, a seat has the base of that collection out, and its thread has it in hand: one after the other,
-//!   in the order in which their gates were taken (`specs/Own.antt`). The try of a gate takes its base out; the store of the gate puts it
-//!   back, as it was or with the log of a commit folded in. What a call copies of a base in hand is one step with the store of its gate; of
-//!   a call on a key that is to read a location then, all but that copy is made after the store.
+//! - **Gates.** While its actor holds a gate, a seat has the base of that collection out, and its thread has it in hand: one after the
+//!   other, in the order in which their gates were taken (`specs/Own.antt`). The try of a gate takes its base out; the store of the gate
+//!   puts it back, as it was or with the log of a commit folded in. What a call copies of a base in hand is one step with the store of its
+//!   gate; of a call on a key that is to read a location then, all but that copy is made after the store.
 //! - **Requests.** A read of a word, a call whose gate is free, the loads of a call, a begin and a commit are straight code, one atomic
 //!   step on the table a function; the order of a commit's steps stands in `commits.rt`. All else, and what such code finds in its way, is
 //!   done by a loop over turns. Of the functions `.._on` most that take several turns return whether none of them answered, and else the

@@ -53,7 +53,8 @@ fn look_for<V: Value>(
     requires small { AreSmall (blocks_in table.now) }
     requires loading { is_loading (stage_of actor.old.stage) ≡ true }
     ensures actor { IfOk result (λ version. actor.new ≡ actor.old) }
-    ensures led { IfOk result (λ version. HasLed table.now seat.old seat.new (at_place actor.old (Fetch location version)) ActorNotice.Quiet bases.now) }
+    ensures led { IfOk result (λ version. HasLed table.now seat.old seat.new (at_place actor.old (Fetch location version))
+        ActorNotice.Quiet bases.now) }
     ensures moved { IfErr result (λ told. HasLed table.now seat.old seat.new actor.new told bases.now) }
 {
     steps_as_worlds::<V>();

@@ -49,7 +49,8 @@ fn seek_on<V: Value>(
     requires stage { is_locking actor.old.stage ≡ true }
     requires inside { i < length actor.old.words.writes.entries }
     ensures actor { IfOk result (λ e. actor.new ≡ actor.old) }
-    ensures led { IfOk result (λ e. HasLed table.now seat.old seat.new (at_place actor.old (Take e.0 e.1 (i + 1))) ActorNotice.Quiet bases.now) }
+    ensures led { IfOk result (λ e. HasLed table.now seat.old seat.new (at_place actor.old (Take e.0 e.1 (i + 1))) ActorNotice.Quiet
+        bases.now) }
     ensures busy { IfErr result (λ told. HasLed table.now seat.old seat.new actor.new told bases.now) }
 {
     steps_as_worlds::<V>();

@@ -60,7 +60,8 @@ fn look_on<V: Value>(
     requires small { AreSmall (blocks_in table.now) }
     requires stage { actor.old.stage ≡ Stage.Reading word }
     ensures actor { IfOk result (λ version. actor.new ≡ actor.old) }
-    ensures led { IfOk result (λ version. HasLed table.now seat.old seat.new (at_place actor.old (Fetch word version)) ActorNotice.Quiet bases.now) }
+    ensures led { IfOk result (λ version. HasLed table.now seat.old seat.new (at_place actor.old (Fetch word version)) ActorNotice.Quiet
+        bases.now) }
     ensures moved { IfErr result (λ told. HasLed table.now seat.old seat.new actor.new told bases.now) }
 {
     steps_as_worlds::<V>();

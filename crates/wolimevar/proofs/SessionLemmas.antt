@@ -122,7 +122,8 @@ module _ {V N O : Type 0} (t : TxTable V) (serves : N → O → List (ℕ × Rec
   one_served p q n o h is given =
       let at : serves n o (view h.finished.own.seat).receipts =
       subst (λ x. serves x o (view h.finished.own.seat).receipts) (some_same p.session h.session n h.waited is)
-      (subst (λ y. serves h.session y (view h.finished.own.seat).receipts) (some_same q.out h.finished.given o h.finished.out given) h.served) in
+      (subst (λ y. serves h.session y (view h.finished.own.seat).receipts) (some_same q.out h.finished.given o h.finished.out given)
+      h.served) in
       subst (λ (s : Option (TxSeat V)). serves n o (receipts_at s)) (sym h.finished.seat) at
 
   pub all_served : (ps qs : List (Task V N O)) (ns : List N) (os : List O) → AllZip (IsServed t serves) ps qs

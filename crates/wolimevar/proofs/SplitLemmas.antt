@@ -46,7 +46,8 @@ module _ {V : Type 0} where
       let zero = unused.last in
       record {
         shares = omega (arith, e, share);
-        receipts = sym (ap (λ (w : SeatKnowledge V). w.receipts) both ∙ ap (λ rs. (view s).receipts ++ rs) unused.none ∙ append-nil (view s).receipts);
+        receipts = sym (ap (λ (w : SeatKnowledge V). w.receipts) both ∙ ap (λ rs. (view s).receipts ++ rs) unused.none
+            ∙ append-nil (view s).receipts);
         last = omega (arith, last, zero);
         asked = sym asked;
       }

@@ -79,7 +79,8 @@ impl<V: Value> Layout<V> {
         ensures same { self.new.store ≡ self.old.store }
         ensures words { self.new.words ≡ self.old.words }
         ensures holds { IfOk result (λ number. slice_get (map (λ c. c.held) self.new.collections.items) number ≡ Some held) }
-        ensures added { OnOk result (map (λ c. c.held) self.new.collections.items ≡ map (λ c. c.held) self.old.collections.items ++ held ∷ []) }
+        ensures added { OnOk result (map (λ c. c.held) self.new.collections.items ≡ map (λ c. c.held) self.old.collections.items ++ held ∷
+            []) }
         ensures none { OnErr result (self.new.collections.items ≡ self.old.collections.items) }
     {
         let Ok(number) = u32::try_from(self.collections.len()) else {
@@ -125,9 +126,11 @@ impl<V: Value> Layout<V> {
         ensures same { self.new.store ≡ self.old.store }
         ensures store { IfOk result (λ handle. handle.store ≡ self.new.store) }
         ensures words { self.new.words ≡ self.old.words }
-        ensures holds { IfOk result (λ handle. slice_get (map (λ c. c.held) self.new.collections.items) handle.gates.first ≡ Some (held.Map entries)) }
+        ensures holds { IfOk result (λ handle. slice_get (map (λ c. c.held) self.new.collections.items) handle.gates.first ≡ Some
+            (held.Map entries)) }
         ensures lies { IfOk result (λ handle. LieOver held.Map handle.gates entries (map (λ c. c.held) self.new.collections.items)) }
-        ensures added { OnOk result (map (λ c. c.held) self.new.collections.items ≡ map (λ c. c.held) self.old.collections.items ++ held.Map entries ∷ []) }
+        ensures added { OnOk result (map (λ c. c.held) self.new.collections.items ≡ map (λ c. c.held) self.old.collections.items ++
+            held.Map entries ∷ []) }
         ensures none { OnErr result (self.new.collections.items ≡ self.old.collections.items) }
     {
         let number = self.add(stripes, Held::Map(entries))?;
@@ -146,9 +149,11 @@ impl<V: Value> Layout<V> {
         ensures same { self.new.store ≡ self.old.store }
         ensures store { IfOk result (λ handle. handle.store ≡ self.new.store) }
         ensures words { self.new.words ≡ self.old.words }
-        ensures holds { IfOk result (λ handle. slice_get (map (λ c. c.held) self.new.collections.items) handle.gates.first ≡ Some (held.Bag counts)) }
+        ensures holds { IfOk result (λ handle. slice_get (map (λ c. c.held) self.new.collections.items) handle.gates.first ≡ Some
+            (held.Bag counts)) }
         ensures lies { IfOk result (λ handle. LieOver held.Bag handle.gates counts (map (λ c. c.held) self.new.collections.items)) }
-        ensures added { OnOk result (map (λ c. c.held) self.new.collections.items ≡ map (λ c. c.held) self.old.collections.items ++ held.Bag counts ∷ []) }
+        ensures added { OnOk result (map (λ c. c.held) self.new.collections.items ≡ map (λ c. c.held) self.old.collections.items ++
+            held.Bag counts ∷ []) }
         ensures none { OnErr result (self.new.collections.items ≡ self.old.collections.items) }
     {
         let number = self.add(stripes, Held::Bag(counts))?;
@@ -169,8 +174,10 @@ impl<V: Value> Layout<V> {
         ensures same { self.new.store ≡ self.old.store }
         ensures store { IfOk result (λ handle. handle.store ≡ self.new.store) }
         ensures words { self.new.words ≡ self.old.words }
-        ensures holds { IfOk result (λ handle. slice_get (map (λ c. c.held) self.new.collections.items) handle.number ≡ Some (held.Pq counts)) }
-        ensures added { OnOk result (map (λ c. c.held) self.new.collections.items ≡ map (λ c. c.held) self.old.collections.items ++ held.Pq counts ∷ []) }
+        ensures holds { IfOk result (λ handle. slice_get (map (λ c. c.held) self.new.collections.items) handle.number ≡ Some
+            (held.Pq counts)) }
+        ensures added { OnOk result (map (λ c. c.held) self.new.collections.items ≡ map (λ c. c.held) self.old.collections.items ++
+            held.Pq counts ∷ []) }
         ensures none { OnErr result (self.new.collections.items ≡ self.old.collections.items) }
     {
         let number = self.add(stripes, Held::Pq(counts))?;
@@ -191,8 +198,10 @@ impl<V: Value> Layout<V> {
         ensures same { self.new.store ≡ self.old.store }
         ensures store { IfOk result (λ handle. handle.store ≡ self.new.store) }
         ensures words { self.new.words ≡ self.old.words }
-        ensures holds { IfOk result (λ handle. slice_get (map (λ c. c.held) self.new.collections.items) handle.number ≡ Some (held.Queue 0 items)) }
-        ensures added { OnOk result (map (λ c. c.held) self.new.collections.items ≡ map (λ c. c.held) self.old.collections.items ++ held.Queue 0 items ∷ []) }
+        ensures holds { IfOk result (λ handle. slice_get (map (λ c. c.held) self.new.collections.items) handle.number ≡ Some
+            (held.Queue 0 items)) }
+        ensures added { OnOk result (map (λ c. c.held) self.new.collections.items ≡ map (λ c. c.held) self.old.collections.items ++
+            held.Queue 0 items ∷ []) }
         ensures none { OnErr result (self.new.collections.items ≡ self.old.collections.items) }
     {
         let number = self.add(stripes, Held::Queue { head: 0, items })?;

@@ -44,7 +44,8 @@ impl<V: Value> Layout<V> {
         ensures store { IfOk result (λ handle. handle.store ≡ self.new.store) }
         ensures words { self.new.words ≡ self.old.words }
         ensures holds { IfOk result (λ handle. LieOver held.Map handle.gates entries (map (λ c. c.held) self.new.collections.items)) }
-        ensures rest { OnOk result ((more : _) × (map (λ c. c.held) self.new.collections.items ≡ map (λ c. c.held) self.old.collections.items ++ more)) }
+        ensures rest { OnOk result ((more : _) × (map (λ c. c.held) self.new.collections.items ≡ map (λ c. c.held)
+            self.old.collections.items ++ more)) }
         ensures none { OnErr result (self.new.collections.items ≡ self.old.collections.items) }
     {
         let gates = self.next_gates(gates)?;
@@ -64,7 +65,8 @@ impl<V: Value> Layout<V> {
         ensures store { IfOk result (λ handle. handle.store ≡ self.new.store) }
         ensures words { self.new.words ≡ self.old.words }
         ensures holds { IfOk result (λ handle. LieOver held.Bag handle.gates counts (map (λ c. c.held) self.new.collections.items)) }
-        ensures rest { OnOk result ((more : _) × (map (λ c. c.held) self.new.collections.items ≡ map (λ c. c.held) self.old.collections.items ++ more)) }
+        ensures rest { OnOk result ((more : _) × (map (λ c. c.held) self.new.collections.items ≡ map (λ c. c.held)
+            self.old.collections.items ++ more)) }
         ensures none { OnErr result (self.new.collections.items ≡ self.old.collections.items) }
     {
         let gates = self.next_gates(gates)?;
@@ -88,7 +90,8 @@ impl<V: Value> Layout<V> {
         ensures store { IfOk result (λ handle. handle.store ≡ self.new.store) }
         ensures words { self.new.words ≡ self.old.words }
         ensures holds { IfOk result (λ handle. AreLanes handle.gates (first_lane items) (map (λ c. c.held) self.new.collections.items)) }
-        ensures rest { OnOk result ((more : _) × (map (λ c. c.held) self.new.collections.items ≡ map (λ c. c.held) self.old.collections.items ++ more)) }
+        ensures rest { OnOk result ((more : _) × (map (λ c. c.held) self.new.collections.items ≡ map (λ c. c.held)
+            self.old.collections.items ++ more)) }
         ensures none { OnErr result (self.new.collections.items ≡ self.old.collections.items) }
     {
         let gates = self.next_gates(lanes)?;
@@ -124,7 +127,8 @@ impl<V: Value> Layout<V> {
     fn add_all(&mut self, stripes: u32, all: Vec<Held<V>>) -> Result<(), Memory>
         ensures same { self.new.store ≡ self.old.store }
         ensures words { self.new.words ≡ self.old.words }
-        ensures holds { OnOk result (map (λ c. c.held) self.new.collections.items ≡ map (λ c. c.held) self.old.collections.items ++ all.items) }
+        ensures holds { OnOk result (map (λ c. c.held) self.new.collections.items ≡ map (λ c. c.held) self.old.collections.items ++
+            all.items) }
         ensures none { OnErr result (self.new.collections.items ≡ self.old.collections.items) }
     {
         self.collections.reserve(all.len())?;

@@ -6,11 +6,11 @@
 //!    [`Queue`] or [`Lanes`]. Handles are `Copy`, so each thread has them. What several threads call at once is laid over several gates:
 //!    [`Layout::map_over`], [`Layout::bag_over`], [`Layout::lanes`].
 //! 2. [`Layout::open`] opens a [`Store`].
-//! 3. A [`Body`] is what runs as one transaction: straight code over the handles' calls. It is all done or nothing is, and it sees one state
-//!    of the store.
+//! 3. A [`Body`] is what runs as one transaction: straight code over the handles' calls. It is all done or nothing is, and it sees one
+//!    state of the store.
 //! 4. [`Store::run`] serves a list of [`Session`]s, each in a thread of its own with a [`Client`]. A client runs bodies:
-//!    [`Client::atomically`] attempts a body until it commits, and [`Client::look`] does so with one that only reads. Each commit returns its
-//!    [`Receipt`]: the transaction's number in commit order, and its calls with their replies ([`Call`], [`Op`], [`Reply`]). Outside of
+//!    [`Client::atomically`] attempts a body until it commits, and [`Client::look`] does so with one that only reads. Each commit returns
+//!    its [`Receipt`]: the transaction's number in commit order, and its calls with their replies ([`Call`], [`Op`], [`Reply`]). Outside of
 //!    `run`, the store runs bodies itself. For threads of one's own there is [`Store::lend`]: a [`Lender`] starts them one by one
 //!    ([`Lender::spawn`]), and hands out [`LentClient`]s, which are back once they are dropped.
 //! 5. [`Store::close`] returns the [`Contents`], read by the same handles; or, where memory is out, an [`Unread`], to be read later.
@@ -18,10 +18,10 @@
 //! Answers are typed: `map.get(tx, key)?` is an `Option` of a value, `queue.dequeue(tx)?` an `Option<u64>`. A change that may find its
 //! collection full returns `Result<(), Full>` inside ([`Full`]).
 //!
-//! What goes wrong is a [`Refusal`]. [`Refusal::is_conflict`] says whether another transaction stood in the way, so that another attempt may
-//! succeed; `atomically` and `look` make it. [`Refusal::explain`] says in a sentence what to do, and [`Transaction`] lists what a call may be
-//! refused as. A body aborts with an error of its own, which the caller gets apart from refusals ([`Failure`]). [`Tally`] counts how attempts
-//! ended.
+//! What goes wrong is a [`Refusal`]. [`Refusal::is_conflict`] says whether another transaction stood in the way, so that another attempt
+//! may succeed; `atomically` and `look` make it. [`Refusal::explain`] says in a sentence what to do, and [`Transaction`] lists what a call
+//! may be refused as. A body aborts with an error of its own, which the caller gets apart from refusals ([`Failure`]). [`Tally`] counts how
+//! attempts ended.
 //!
 //! A map holds values of any type that is a [`Value`]: numbers, `bool`, pairs, `Option`, [`Text`], [`Shared`], and structs of these by an
 //! `impl` of two functions.

@@ -1,8 +1,8 @@
 //! Sessions, each served in a thread of its own with a client of its own.
 //!
-//! Before the threads start, a share is split off the store's seat for each session; after they end, the shares are joined again. All memory
-//! is allocated before, so nothing fails in between; where an allocation fails, what was split off is joined again. A thread is handed a
-//! [`Task`] (the session, its seat, the place for its result) and makes the client itself.
+//! Before the threads start, a share is split off the store's seat for each session; after they end, the shares are joined again. All
+//! memory is allocated before, so nothing fails in between; where an allocation fails, what was split off is joined again. A thread is
+//! handed a [`Task`] (the session, its seat, the place for its result) and makes the client itself.
 ghost use Rattle.std.specs.Prelude.{◌≡◌, ℕ, ◌+◌, ◌<◌, ◌≤◌, ◌++◌, [], All, IfErr, IfOk, OnErr, OnOk, Some, length, map, slice_index_or};
 ghost use Rattle.std.specs.Vec.{vec_capacity};
 ghost use Rattle.shared_table.specs.Seated.{actor, view};
@@ -271,7 +271,8 @@ where
     ensures whole { (view seat.new.seat).shares ≡ SHARES }
     ensures asks { requests_of seat.new.seat ≡ requests_of seat.old.seat }
     ensures last { seat.old.seat.last ≤ seat.new.seat.last }
-    ensures all { IfOk result (λ outs. HaveServed N.serves sessions.items outs.items (view seat.old.seat).receipts (view seat.new.seat).receipts) }
+    ensures all { IfOk result (λ outs. HaveServed N.serves sessions.items outs.items (view seat.old.seat).receipts
+        (view seat.new.seat).receipts) }
     ensures none { OnErr result (HasLeft 0 seat.old.seat seat.new.seat) }
     ensures why { IfErr result (IsWhy (length sessions.items)) }
 {

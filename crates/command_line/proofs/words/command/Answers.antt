@@ -17,7 +17,8 @@ returns c =
     ∙ ap set c.new.ensures.app in
     let one : app_of c.in_ok-with_step.with_step ≡ with_subcommand bare_app step_app.top =
     c.in_ok-with_step.ensures.shape c.in_ok-step.ensures.local
-    ∙ ap₂ with_subcommand (c.in_ok-described.ensures ∙ c.explained.ensures.app ∙ bare_is) (ap (λ (a : App). a.top) c.in_ok-step.ensures.app) in
+    ∙ ap₂ with_subcommand (c.in_ok-described.ensures ∙ c.explained.ensures.app ∙ bare_is)
+    (ap (λ (a : App). a.top) c.in_ok-step.ensures.app) in
     let two : app_of c.in_ok-with_explore.with_explore ≡ with_subcommand (with_subcommand bare_app step_app.top) explore_app.top =
     c.in_ok-with_explore.ensures.shape c.in_ok-explore.ensures.local
     ∙ ap₂ with_subcommand one (ap (λ (a : App). a.top) c.in_ok-explore.ensures.app) in

@@ -29,7 +29,8 @@ pub returns-in-Ok-clause-ends : goal.returns-in-Ok-clause-ends
 returns-in-Ok-clause-ends g c =
     let o = opening_of c.args.table.now in
     let gave = c.run-seat.result.1.gave in
-    let keeps = subst (λ (s : TxSeat g.row.V.Denot). KeepsReceipts s.seat c.begin.new.seat.seat) c.get_mut.ensures.value c.begin.ensures.keeps in
+    let keeps = subst (λ (s : TxSeat g.row.V.Denot). KeepsReceipts s.seat c.begin.new.seat.seat) c.get_mut.ensures.value
+    c.begin.ensures.keeps in
     let ends =
     subst (λ (s : TxSeat g.row.V.Denot). EndsAs (λ out calls. (Ok out ≡ gave) × (calls ≡ calls_made o s.seat))
     (λ error calls. (Err error ≡ gave) × (calls ≡ calls_made o s.seat)) s.seat c.finish-ended.new.seat.seat c.finish-ended.result)

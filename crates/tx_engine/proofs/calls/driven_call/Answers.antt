@@ -18,6 +18,7 @@ reply_told-requires g c =
 pub returns-clause-driven : goal.returns-clause-driven
 returns-clause-driven g c = (
   c.drive_call-told.result.1,
-  subst (λ (n : ActorNotice _). Driven (opening_of c.args.table.now) c.args.seat.now c.drive_call-told.new.seat n c.drive_call-told.result.1)
+  subst (λ (n : ActorNotice _). Driven (opening_of c.args.table.now) c.args.seat.now c.drive_call-told.new.seat n
+      c.drive_call-told.result.1)
       c.reply_told.ensures c.drive_call-told.ensures.driven,
 )

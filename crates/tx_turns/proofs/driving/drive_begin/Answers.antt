@@ -7,7 +7,8 @@ use Rattle.tx_turns.proofs.driving.drive_begin.Goals as goal
 
 pub finish_after-requires-clause-own : goal.finish_after-requires-clause-own
 finish_after-requires-clause-own g c =
-    subst (λ (bs : List (Base _)). HasOwn c.args.table.now c.begin_next-quiet.new.seat c.begin_next-quiet.new.actor bs) c.as_slice.ensures.value
+    subst (λ (bs : List (Base _)). HasOwn c.args.table.now c.begin_next-quiet.new.seat c.begin_next-quiet.new.actor bs)
+    c.as_slice.ensures.value
     c.begin_next-quiet.ensures.own
 
 pub finish_after-requires-clause-come : goal.finish_after-requires-clause-come

@@ -99,7 +99,8 @@ returns-in-Ok-clause-turned g c =
     c.in-Ok-Some.taken _ c.blocks-blocks.result.now (laid_as c.args.table.now c.blocks-blocks.result.now c.blocks-blocks.ensures.words
     c.blocks-blocks.ensures.blocks) c.requires.due c.requires.ties c.requires.own c.front.ensures c.in-Ok-Some.field-0-is
     c.in-Ok-Some.ensures.ok
-    c.taken_parts_are_own.ensures c.put_gate.new.seat c.continue_or_wait.new.self c.in-Ok.told c.first-base.new.bases.items c.first-base.result
+    c.taken_parts_are_own.ensures c.put_gate.new.seat c.continue_or_wait.new.self c.in-Ok.told c.first-base.new.bases.items
+    c.first-base.result
     c.first-base.ensures c.put_gate.ensures c.in-Ok.ensures.ok c.continue_or_wait.ensures.keeps).1
 
 pub returns-in-Ok-clause-ties : goal.returns-in-Ok-clause-ties
@@ -115,7 +116,8 @@ returns-in-Ok-clause-ties g c =
     c.in-Ok-Some.taken _ c.blocks-blocks.result.now (laid_as c.args.table.now c.blocks-blocks.result.now c.blocks-blocks.ensures.words
     c.blocks-blocks.ensures.blocks) c.requires.due c.requires.ties c.requires.own c.front.ensures c.in-Ok-Some.field-0-is
     c.in-Ok-Some.ensures.ok
-    c.taken_parts_are_own.ensures c.put_gate.new.seat c.continue_or_wait.new.self c.in-Ok.told c.first-base.new.bases.items c.first-base.result
+    c.taken_parts_are_own.ensures c.put_gate.new.seat c.continue_or_wait.new.self c.in-Ok.told c.first-base.new.bases.items
+    c.first-base.result
     c.first-base.ensures c.put_gate.ensures c.in-Ok.ensures.ok c.continue_or_wait.ensures.keeps).0
 
 pub returns-in-Ok-clause-own : goal.returns-in-Ok-clause-own
@@ -131,7 +133,8 @@ returns-in-Ok-clause-own g c =
     c.in-Ok-Some.taken _ c.blocks-blocks.result.now (laid_as c.args.table.now c.blocks-blocks.result.now c.blocks-blocks.ensures.words
     c.blocks-blocks.ensures.blocks) c.requires.due c.requires.ties c.requires.own c.front.ensures c.in-Ok-Some.field-0-is
     c.in-Ok-Some.ensures.ok
-    c.taken_parts_are_own.ensures c.put_gate.new.seat c.continue_or_wait.new.self c.in-Ok.told c.first-base.new.bases.items c.first-base.result
+    c.taken_parts_are_own.ensures c.put_gate.new.seat c.continue_or_wait.new.self c.in-Ok.told c.first-base.new.bases.items
+    c.first-base.result
     c.first-base.ensures c.put_gate.ensures c.in-Ok.ensures.ok c.continue_or_wait.ensures.keeps).2
 
 pub returns-in-Err-continue_or_wait-clause-ties : goal.returns-in-Err-continue_or_wait-clause-ties

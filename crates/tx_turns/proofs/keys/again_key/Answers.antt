@@ -103,7 +103,8 @@ returns-in-Err g c =
       others = c.copies_by_stage.ensures.others;
       keep = c.loads_keep_running.ensures;
     }) c.args.table.now c.args.seat.now c.load_lock-found.new.seat
-    (at_place r (Again c.args.location c.args.version c.args.value)) c.on_load_step.new.self c.again.new.self (Err c.in-Err.cause) c.on_load_step.result
+    (at_place r (Again c.args.location c.args.version c.args.value)) c.on_load_step.new.self c.again.new.self (Err c.in-Err.cause)
+    c.on_load_step.result
     []
     refl c.requires.small c.requires.ties c.requires.own
     (again_steps (opening_of c.args.table.now) c.args.seat.now c.load_lock-found.new.seat c.args.actor.now.words c.again.new.self

@@ -51,7 +51,8 @@ returns-clause-turned g c =
     e.room e.fits in
     (load_tied c.steps_as_worlds.ensures c.loads_as_worlds.ensures.heard c.seats_as_actors.ensures c.loads_stay_own.ensures
     c.copies_by_stage.ensures.others t s u r c.on_load_step.new.self y told c.on_load_step.result c.args.bases.now c.requires.loading ties
-    c.requires.own e.steps c.on_load_step.ensures.does ((c.on_load_step.ensures.keeps (laid_in t)).running heard.1) c.on_load_step.ensures.goes).1
+    c.requires.own e.steps c.on_load_step.ensures.does ((c.on_load_step.ensures.keeps (laid_in t)).running heard.1)
+    c.on_load_step.ensures.goes).1
 
 pub returns-clause-ties : goal.returns-clause-ties
 returns-clause-ties g c =
@@ -67,7 +68,8 @@ returns-clause-ties g c =
     e.room e.fits in
     (load_tied c.steps_as_worlds.ensures c.loads_as_worlds.ensures.heard c.seats_as_actors.ensures c.loads_stay_own.ensures
     c.copies_by_stage.ensures.others t s u r c.on_load_step.new.self y told c.on_load_step.result c.args.bases.now c.requires.loading ties
-    c.requires.own e.steps c.on_load_step.ensures.does ((c.on_load_step.ensures.keeps (laid_in t)).running heard.1) c.on_load_step.ensures.goes).0
+    c.requires.own e.steps c.on_load_step.ensures.does ((c.on_load_step.ensures.keeps (laid_in t)).running heard.1)
+    c.on_load_step.ensures.goes).0
 
 pub returns-clause-own : goal.returns-clause-own
 returns-clause-own g c =
@@ -83,4 +85,5 @@ returns-clause-own g c =
     e.room e.fits in
     (load_tied c.steps_as_worlds.ensures c.loads_as_worlds.ensures.heard c.seats_as_actors.ensures c.loads_stay_own.ensures
     c.copies_by_stage.ensures.others t s u r c.on_load_step.new.self y told c.on_load_step.result c.args.bases.now c.requires.loading ties
-    c.requires.own e.steps c.on_load_step.ensures.does ((c.on_load_step.ensures.keeps (laid_in t)).running heard.1) c.on_load_step.ensures.goes).2
+    c.requires.own e.steps c.on_load_step.ensures.does ((c.on_load_step.ensures.keeps (laid_in t)).running heard.1)
+    c.on_load_step.ensures.goes).2

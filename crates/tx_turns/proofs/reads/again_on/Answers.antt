@@ -5,7 +5,8 @@ use Rattle.step_core.specs.declared.actor.Place.TheVariants.{Again}
 use Rattle.tx_actor.proofs.StepLemmas.{running_moved}
 use Rattle.tx_turns.specs.Ties.{laid_in}
 use Rattle.tx_turns.specs.Straight.{at_place}
-use Rattle.tx_turns.proofs.StraightLemmas.{again_due, again_last, leaves_reading, next_reading, number_heard, quiet_reading, room_reading, running_idle}
+use Rattle.tx_turns.proofs.StraightLemmas.{again_due, again_last, leaves_reading, next_reading}
+use Rattle.tx_turns.proofs.StraightLemmas.{number_heard, quiet_reading, room_reading, running_idle}
 use Rattle.tx_turns.proofs.reads.again_on.Goals as goal
 
 pub load_lock-found-requires-clause-own : goal.load_lock-found-requires-clause-own

@@ -96,7 +96,8 @@ returns-in-Loading-clause-leads g c =
     let loading = ap (λ (z : Stage _). is_loading (stage_of z)) c.in-Loading.is in
     let heard = load_hears c.steps_as_worlds.ensures c.loads_keep_running.ensures t s u r y m loading ties e.steps e.room e.fits in
     let h = load_tied c.steps_as_worlds.ensures c.loads_as_worlds.ensures.heard c.seats_as_actors.ensures c.loads_stay_own.ensures
-    c.copies_by_stage.ensures.others t s u r c.on_load_step.new.self y m c.on_load_step.result c.args.bases.now loading ties c.steps.invariant.1
+    c.copies_by_stage.ensures.others t s u r c.on_load_step.new.self y m c.on_load_step.result c.args.bases.now loading ties
+    c.steps.invariant.1
     e.steps c.on_load_step.ensures.does ((c.on_load_step.ensures.keeps (laid_in t)).running heard.1) c.on_load_step.ensures.goes in
     subst (λ (n : ActorNotice _). LeadsOn (opening_of t) c.args.seat.now u n) c.report.ensures.told
     (leads_on t c.args.seat.now s u r c.on_load_step.result c.steps.invariant.3 ties h.1
@@ -116,7 +117,8 @@ returns-in-Loading-clause-ties g c =
     let loading = ap (λ (z : Stage _). is_loading (stage_of z)) c.in-Loading.is in
     let heard = load_hears c.steps_as_worlds.ensures c.loads_keep_running.ensures t s u r y m loading ties e.steps e.room e.fits in
     let h = load_tied c.steps_as_worlds.ensures c.loads_as_worlds.ensures.heard c.seats_as_actors.ensures c.loads_stay_own.ensures
-    c.copies_by_stage.ensures.others t s u r c.on_load_step.new.self y m c.on_load_step.result c.args.bases.now loading ties c.steps.invariant.1
+    c.copies_by_stage.ensures.others t s u r c.on_load_step.new.self y m c.on_load_step.result c.args.bases.now loading ties
+    c.steps.invariant.1
     e.steps c.on_load_step.ensures.does ((c.on_load_step.ensures.keeps (laid_in t)).running heard.1) c.on_load_step.ensures.goes in
     h.0
 
@@ -133,7 +135,8 @@ returns-in-Loading-clause-own g c =
     let loading = ap (λ (z : Stage _). is_loading (stage_of z)) c.in-Loading.is in
     let heard = load_hears c.steps_as_worlds.ensures c.loads_keep_running.ensures t s u r y m loading ties e.steps e.room e.fits in
     let h = load_tied c.steps_as_worlds.ensures c.loads_as_worlds.ensures.heard c.seats_as_actors.ensures c.loads_stay_own.ensures
-    c.copies_by_stage.ensures.others t s u r c.on_load_step.new.self y m c.on_load_step.result c.args.bases.now loading ties c.steps.invariant.1
+    c.copies_by_stage.ensures.others t s u r c.on_load_step.new.self y m c.on_load_step.result c.args.bases.now loading ties
+    c.steps.invariant.1
     e.steps c.on_load_step.ensures.does ((c.on_load_step.ensures.keeps (laid_in t)).running heard.1) c.on_load_step.ensures.goes in
     h.2
 

@@ -15,7 +15,8 @@ load_clock-requires-clause-due g c =
 
 pub returns-in-LoadClock : goal.returns-in-LoadClock
 returns-in-LoadClock g c = subst
-    (λ (d : NextStep). Touches (opening_of c.args.table.now) c.args.seat.now d c.load_clock.result c.load_clock.new.seat) (sym c.in-LoadClock.is)
+    (λ (d : NextStep). Touches (opening_of c.args.table.now) c.args.seat.now d c.load_clock.result c.load_clock.new.seat)
+    (sym c.in-LoadClock.is)
     (record {
       clock = c.load_clock.result;
       found = c.load_clock.result;
@@ -31,7 +32,8 @@ stamp-requires-clause-due g c =
     (h.spot, h.becomes)
 
 pub returns-in-AddToClock : goal.returns-in-AddToClock
-returns-in-AddToClock g c = subst (λ (d : NextStep). Touches (opening_of c.args.table.now) c.args.seat.now d c.stamp.result c.stamp.new.seat)
+returns-in-AddToClock g c =
+    subst (λ (d : NextStep). Touches (opening_of c.args.table.now) c.args.seat.now d c.stamp.result c.stamp.new.seat)
     (sym c.in-AddToClock.is) (record {
       clock = c.stamp.result + 1;
       found = c.stamp.result;
@@ -47,11 +49,13 @@ load_lock-requires-clause-due g c =
     (h.spot, h.becomes)
 
 pub load_lock-requires-clause-location : goal.load_lock-requires-clause-location
-load_lock-requires-clause-location g c = subst (λ (d : NextStep). IsWithin (locations_in c.args.table.now) d) c.in-LoadLock.is c.requires.inside
+load_lock-requires-clause-location g c = subst (λ (d : NextStep). IsWithin (locations_in c.args.table.now) d) c.in-LoadLock.is
+    c.requires.inside
 
 pub returns-in-LoadLock : goal.returns-in-LoadLock
 returns-in-LoadLock g c = subst
-    (λ (d : NextStep). Touches (opening_of c.args.table.now) c.args.seat.now d c.load_lock.result c.load_lock.new.seat) (sym c.in-LoadLock.is)
+    (λ (d : NextStep). Touches (opening_of c.args.table.now) c.args.seat.now d c.load_lock.result c.load_lock.new.seat)
+    (sym c.in-LoadLock.is)
     (record {
       clock = (view c.args.seat.now).clock;
       found = c.load_lock.result;
@@ -72,7 +76,8 @@ load_value-requires-clause-location g c =
 
 pub returns-in-LoadValue : goal.returns-in-LoadValue
 returns-in-LoadValue g c = subst
-    (λ (d : NextStep). Touches (opening_of c.args.table.now) c.args.seat.now d c.load_value.result c.load_value.new.seat) (sym c.in-LoadValue.is)
+    (λ (d : NextStep). Touches (opening_of c.args.table.now) c.args.seat.now d c.load_value.result c.load_value.new.seat)
+    (sym c.in-LoadValue.is)
     (record {
       clock = (view c.args.seat.now).clock;
       found = c.load_value.result;
@@ -83,7 +88,8 @@ returns-in-LoadValue g c = subst
     })
 
 pub try_lock-requires-clause-due : goal.try_lock-requires-clause-due
-try_lock-requires-clause-due g c = subst (λ (d : NextStep). Awaits (opening_of c.args.table.now) c.args.seat.now d) c.in-Lock.is c.requires.due
+try_lock-requires-clause-due g c = subst (λ (d : NextStep). Awaits (opening_of c.args.table.now) c.args.seat.now d) c.in-Lock.is
+    c.requires.due
 
 pub try_lock-requires-clause-inside : goal.try_lock-requires-clause-inside
 try_lock-requires-clause-inside g c = subst (λ (d : NextStep). IsWithin (locations_in c.args.table.now) d) c.in-Lock.is c.requires.inside
@@ -128,7 +134,8 @@ store_lock-requires-clause-location g c =
 
 pub returns-in-StoreLock : goal.returns-in-StoreLock
 returns-in-StoreLock g c = subst
-    (λ (d : NextStep). Touches (opening_of c.args.table.now) c.args.seat.now d c.in-StoreLock.word c.store_lock.new.seat) (sym c.in-StoreLock.is)
+    (λ (d : NextStep). Touches (opening_of c.args.table.now) c.args.seat.now d c.in-StoreLock.word c.store_lock.new.seat)
+    (sym c.in-StoreLock.is)
     (record {
       clock = (view c.args.seat.now).clock;
       found = c.store_lock.ensures.0;

@@ -34,6 +34,7 @@ tasks-preserved g c =
       wait = All-tail (IsWaiting c.args.table.now) _ _ (subst (All (IsWaiting c.args.table.now)) next h.wait);
       count = 1 + h.count;
       all = omega (arith, all, n);
-      joined = then_left 1 h.count _ c.join_unserved.new.seat.seat c.tasks.seat.seat c.args.seat.now.seat c.join_unserved.ensures.joined h.joined
+      joined = then_left 1 h.count _ c.join_unserved.new.seat.seat c.tasks.seat.seat c.args.seat.now.seat c.join_unserved.ensures.joined
+          h.joined
           (omega arith);
     }

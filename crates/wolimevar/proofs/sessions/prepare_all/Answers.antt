@@ -27,7 +27,8 @@ sessions-preserved g c =
     let n = length_push c.sessions.yielded c.in-Some.session in
     let m = ap (λ qs. length qs) c.push_reserved.ensures.items ∙ length_push c.sessions.tasks.items _ in
     let l = c.sessions.invariant.count in
-    let prepared = prepared_more c.args.table.now c.sessions.tasks.items c.push_reserved.new.self.items c.sessions.yielded _ c.in-Some.session
+    let prepared = prepared_more c.args.table.now c.sessions.tasks.items c.push_reserved.new.self.items c.sessions.yielded _
+    c.in-Some.session
     c.push_reserved.ensures.items
     (record {
       own = c.in_ok-own.own;

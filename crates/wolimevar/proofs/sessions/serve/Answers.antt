@@ -64,7 +64,8 @@ returns-clause-all g c =
       each = all_served c.args.table.now g.N.Session.serves old left c.args.sessions.items c.join_all.new.outs.items
           (subst (AllZip Served old) (sym whole) zip) c.in-Ok-prepare_all.ensures.sessions c.join_all.ensures.outs;
       own = all_own c.args.table.now g.N.Session.serves old left (subst (AllZip Served old) (sym whole) zip);
-      gains = joined_behind {N = g.row.N.Denot} {O = g.row.N-Out.Denot} c.args.table.now (view c.args.seat.now.seat).receipts (view c.prepare_all.new.seat.seat).receipts
+      gains = joined_behind {N = g.row.N.Denot} {O =
+          g.row.N-Out.Denot} c.args.table.now (view c.args.seat.now.seat).receipts (view c.prepare_all.new.seat.seat).receipts
           (view c.join_all.new.seat.seat).receipts left c.join_all.ensures.receipts c.prepare_all.ensures.left.receipts;
     }
 

@@ -12,31 +12,36 @@ pub invariant_of-self : goal.invariant_of-self
 invariant_of-self g c =
     let is : c.self.inside.seat ≡ Some c.in-Some.seat = search rules in
     store_on c.self.inside.table c.self.inside.seat c.in-Some.seat c.retry-seat.result.0 c.self.invariant is c.retry-seat.ensures.ready
-    (ends_goes (g.B.Body.makes c.args.body.now) (g.B.Body.aborts c.args.body.now) c.in-Some.seat.seat c.retry-seat.result.0.seat c.retry-seat.result.2
+    (ends_goes (g.B.Body.makes c.args.body.now) (g.B.Body.aborts c.args.body.now) c.in-Some.seat.seat c.retry-seat.result.0.seat
+    c.retry-seat.result.2
     c.retry-seat.ensures.ends).shares
 
 pub returns-clause-opening : goal.returns-clause-opening
 returns-clause-opening g c =
     let is : c.self.inside.seat ≡ Some c.in-Some.seat = search rules in
-    ap (λ d. d.opening) (store_shows c.self.inside.number c.self.inside.table c.self.inside.seat c.in-Some.seat c.self.inside.tally c.args.self.now c.self.view_is is)
+    ap (λ d. d.opening) (store_shows c.self.inside.number c.self.inside.table c.self.inside.seat c.in-Some.seat c.self.inside.tally
+    c.args.self.now c.self.view_is is)
 
 pub returns-clause-one : goal.returns-clause-one
 returns-clause-one g c =
     let is : c.self.inside.seat ≡ Some c.in-Some.seat = search rules in
-    let v = store_shows c.self.inside.number c.self.inside.table c.self.inside.seat c.in-Some.seat c.self.inside.tally c.args.self.now c.self.view_is is in
+    let v = store_shows c.self.inside.number c.self.inside.table c.self.inside.seat c.in-Some.seat c.self.inside.tally c.args.self.now
+    c.self.view_is is in
     store_one (g.B.Body.makes c.args.body.now) (g.B.Body.aborts c.args.body.now) c.self.inside.number c.self.inside.table c.in-Some.seat
     c.retry-seat.result.0 c.self.inside.tally c.retry-seat.result.2
     c.args.self.now v c.retry-seat.ensures.ends
 
 pub returns-clause-made : goal.returns-clause-made
 returns-clause-made g c =
-    ends_made (g.B.Body.makes c.args.body.now) (g.B.Body.aborts c.args.body.now) c.in-Some.seat.seat c.retry-seat.result.0.seat c.retry-seat.result.2
+    ends_made (g.B.Body.makes c.args.body.now) (g.B.Body.aborts c.args.body.now) c.in-Some.seat.seat c.retry-seat.result.0.seat
+    c.retry-seat.result.2
     c.retry-seat.ensures.ends
 
 pub returns-clause-none : goal.returns-clause-none
 returns-clause-none g c =
     let is : c.self.inside.seat ≡ Some c.in-Some.seat = search rules in
-    let v = store_shows c.self.inside.number c.self.inside.table c.self.inside.seat c.in-Some.seat c.self.inside.tally c.args.self.now c.self.view_is is in
+    let v = store_shows c.self.inside.number c.self.inside.table c.self.inside.seat c.in-Some.seat c.self.inside.tally c.args.self.now
+    c.self.view_is is in
     store_none (g.B.Body.makes c.args.body.now) (g.B.Body.aborts c.args.body.now) c.self.inside.number c.self.inside.table c.in-Some.seat
     c.retry-seat.result.0 c.self.inside.tally c.retry-seat.result.2
     c.args.self.now v c.retry-seat.ensures.ends
@@ -44,7 +49,8 @@ returns-clause-none g c =
 pub returns-clause-last : goal.returns-clause-last
 returns-clause-last g c =
     let is : c.self.inside.seat ≡ Some c.in-Some.seat = search rules in
-    let v = store_shows c.self.inside.number c.self.inside.table c.self.inside.seat c.in-Some.seat c.self.inside.tally c.args.self.now c.self.view_is is in
+    let v = store_shows c.self.inside.number c.self.inside.table c.self.inside.seat c.in-Some.seat c.self.inside.tally c.args.self.now
+    c.self.view_is is in
     store_last (g.B.Body.makes c.args.body.now) (g.B.Body.aborts c.args.body.now) c.self.inside.number c.self.inside.table c.in-Some.seat
     c.retry-seat.result.0 c.self.inside.tally c.retry-seat.result.2
     c.args.self.now v c.retry-seat.ensures.ends
@@ -52,7 +58,8 @@ returns-clause-last g c =
 pub returns-clause-number : goal.returns-clause-number
 returns-clause-number g c =
     let is : c.self.inside.seat ≡ Some c.in-Some.seat = search rules in
-    let v = store_shows c.self.inside.number c.self.inside.table c.self.inside.seat c.in-Some.seat c.self.inside.tally c.args.self.now c.self.view_is is in
+    let v = store_shows c.self.inside.number c.self.inside.table c.self.inside.seat c.in-Some.seat c.self.inside.tally c.args.self.now
+    c.self.view_is is in
     ap (λ d. d.number) v
 
 pub returns-clause-aborts : goal.returns-clause-aborts
@@ -63,14 +70,16 @@ returns-clause-aborts g c =
 pub returns-clause-asks : goal.returns-clause-asks
 returns-clause-asks g c =
     let is : c.self.inside.seat ≡ Some c.in-Some.seat = search rules in
-    let v = store_shows c.self.inside.number c.self.inside.table c.self.inside.seat c.in-Some.seat c.self.inside.tally c.args.self.now c.self.view_is is in
+    let v = store_shows c.self.inside.number c.self.inside.table c.self.inside.seat c.in-Some.seat c.self.inside.tally c.args.self.now
+    c.self.view_is is in
     subst (λ (d : StoreShown g.row.V.Denot). HasAsked c.args.declared d.asked (requests_of c.retry-seat.result.0.seat)) v
     c.retry-seat.ensures.asks
 
 pub returns-clause-counted : goal.returns-clause-counted
 returns-clause-counted g c =
     let is : c.self.inside.seat ≡ Some c.in-Some.seat = search rules in
-    let v = store_shows c.self.inside.number c.self.inside.table c.self.inside.seat c.in-Some.seat c.self.inside.tally c.args.self.now c.self.view_is is in
+    let v = store_shows c.self.inside.number c.self.inside.table c.self.inside.seat c.in-Some.seat c.self.inside.tally c.args.self.now
+    c.self.view_is is in
     subst (λ (d : StoreShown g.row.V.Denot). AreCounted c.args.tries d.tally c.retry-seat.result.1 c.retry-seat.result.2) v
     c.retry-seat.ensures.counted
 
