@@ -1,8 +1,10 @@
 -- Calls of a transaction, by the frame that its scope knows.
 use Rattle.std.proofs.Common.{◌≡◌, ◌⊎◌, ℕ, Bool, true, List, [], ◌∷◌, ◌++◌, Option, Some}
-use Rattle.std.proofs.Common.{None, Ok, Err, inl, inr, refl, sym, ap, ◌∙◌, subst}
+use Rattle.std.proofs.Common.{None, Ok, Err, inl, inr, refl, sym, ap, ◌∙◌, subst, arith}
 use Rattle.std.specs.Prelude.{IfSome, Result}
-use Rattle.std.proofs.lemmas.List.Elements.{All-nil}
+use Rattle.std.proofs.lemmas.List.{append-nil, append_assoc}
+use Rattle.std.proofs.lemmas.List.Elements.{All-append, All-nil}
+use Rattle.std.proofs.lemmas.List.Prefix.{front_rest}
 use Rattle.seq_model.specs.declared.call.Call.{Call}
 use Rattle.seq_model.specs.declared.call.Op.{Op}
 use Rattle.seq_model.specs.declared.call.Reply.{Reply}
@@ -20,8 +22,8 @@ use Rattle.tx_engine.specs.declared.seats.TxSeat.{TxSeat}
 use Rattle.tx_engine.specs.Ready.{HasBegunSince, HasCalled, IsReady, standing}
 use Rattle.tx_engine.specs.Requests.{IsOpen, KeepsReceipts}
 use Rattle.tx_engine.proofs.RequestLemmas.{keeps_self, then_keeps}
-use Rattle.tx_client.specs.Frames.{AreBy, ComesBack, Frame, GoesOn, HasMadeCalls, IsClient}
-use Rattle.tx_client.specs.Frames.{IsIn, IsOfSeat, IsUnderWay, calls_made, calls_of, transaction_at}
+use Rattle.tx_client.specs.Frames.{AreBy, ComesBack, Frame, GoesOn, HasGrown, HasMadeCalls, IsClient}
+use Rattle.tx_client.specs.Frames.{IsIn, IsOfSeat, IsUnderWay, calls_made, calls_of, earlier, later, transaction_at}
 use Rattle.tx_handles.specs.MadeCall.{TransactionShown, with_call}
 use Rattle.tx_client.specs.RequestKinds.{HasAsked}
 use Rattle.tx_client.specs.Clients.{IsAtClient}
@@ -126,22 +128,67 @@ module _ {V : Type 0} where
         (record { table = refl; since = no_calls (opening_of t) s.seat });
   }
 
+  -- what comes after a client's receipts is the client's
+  later_more : (f : Option (Frame V)) (rs xs : List (ℕ × Record V)) → rs ≡ earlier f ++ later f rs → later f (rs ++ xs) ≡ later f rs ++ xs
+  later_more f rs xs h =
+      front_rest (rs ++ xs) (earlier f) (later f rs ++ xs) (ap (λ ys. ys ++ xs) h ∙ append_assoc (earlier f) (later f rs) xs)
+
+  pub more_later : (f : Option (Frame V)) (s u : Seat V) (xs : List (ℕ × Record V)) → HasGrown f s
+      → (view u).receipts ≡ (view s).receipts ++ xs → later f (view u).receipts ≡ later f (view s).receipts ++ xs
+  more_later f s u xs h e = ap (later f) e ∙ later_more f (view s).receipts xs h.gains
+
+  -- a seat that has gained receipts of its actor
+  pub grown_on : (f : Option (Frame V)) (s u : Seat V) (xs : List (ℕ × Record V)) → HasGrown f s → actor u ≡ actor s → AreBy (actor s) xs
+      → (view u).receipts ≡ (view s).receipts ++ xs → HasGrown f u
+  grown_on f s u xs h same own e =
+      let more = more_later f s u xs h e in
+      record {
+        gains = e ∙ ap (λ ys. ys ++ xs) h.gains ∙ append_assoc (earlier f) (later f (view s).receipts) xs
+            ∙ ap (λ ys. earlier f ++ ys) (sym more);
+        own = subst (λ a. AreBy a (later f (view u).receipts)) (sym same)
+            (subst (AreBy (actor s)) (sym more) (All-append (λ (r : ℕ × Record V). r.0 ≡ actor s) (later f (view s).receipts) xs h.own
+            own));
+      }
+
+  -- one that begins
+  pub none_later : (f : Option (Frame V)) (t : TxTable V) (s : TxSeat V) → f ≡ Some (record { table = t; begun = Some s })
+      → later f (view s.seat).receipts ≡ []
+  none_later f t s is =
+      let rs = (view s.seat).receipts in
+      ap (λ (g : Option (Frame V)). later g rs) is ∙ front_rest rs rs [] (sym (append-nil rs))
+
+  grown_new : (f : Option (Frame V)) (t : TxTable V) (s : TxSeat V) → f ≡ Some (record { table = t; begun = Some s }) → HasGrown f s.seat
+  grown_new f t s is =
+      let rs = (view s.seat).receipts in
+      let none = none_later f t s is in
+      record {
+        gains = sym (ap (λ ys. earlier f ++ ys) none ∙ append-nil (earlier f) ∙ ap earlier is);
+        own = subst (AreBy (actor s.seat)) (sym none) (All-nil (λ (r : ℕ × Record V). r.0 ≡ actor s.seat));
+      }
+
   -- a client by its seat
-  pub at_client : (f : Option (Frame V)) (t : TxTable V) (s : TxSeat V) → IsReady t s → IfSome f (IsOfSeat t s)
-      → AreBy (actor s.seat) (view s.seat).receipts → IsAtClient f t (Some s)
-  at_client f t s ready framed own = record { own = s; is = refl; client = record { ready = ready; framed = framed; own = own } }
+  pub at_client : (f : Option (Frame V)) (t : TxTable V) (s : TxSeat V) → IsReady t s → IfSome f (IsOfSeat t s) → HasGrown f s.seat
+      → IsAtClient f t (Some s)
+  at_client f t s ready framed grown =
+      record { own = s; is = refl; client = record { ready = ready; framed = framed; grown = grown } }
 
   pub new_client : (f : Option (Frame V)) (t : TxTable V) (s : TxSeat V) → f ≡ Some (record { table = t; begun = Some s }) → IsReady t s
-      → (view s.seat).receipts ≡ [] → IsAtClient f t (Some s)
-  new_client f t s is ready none =
+      → IsAtClient f t (Some s)
+  new_client f t s is ready =
       at_client f t s ready
       (subst (λ (g : Option (Frame V)). IfSome g (IsOfSeat t s)) (sym is)
-      (record { table = refl; since = record { same = refl; shares = refl } }))
-      (subst (AreBy (actor s.seat)) (sym none) (All-nil (λ (r : ℕ × Record V). r.0 ≡ actor s.seat)))
+      (record { table = refl; since = record { same = refl; shares = refl; last = omega arith } }))
+      (grown_new f t s is)
+
+  pub goes_then : (m s u : Seat V) → GoesOn m s → GoesOn s u → GoesOn m u
+  goes_then m s u h k =
+      let before = h.last in
+      let after = k.last in
+      record { same = k.same ∙ h.same; shares = k.shares ∙ h.shares; last = omega (arith, before, after) }
 
   goes_on : (m : Option (TxSeat V)) (s u : Seat V) → IfSome m (λ b. GoesOn b.seat s) → GoesOn s u → IfSome m (λ b. GoesOn b.seat u)
   goes_on None s u h k = h
-  goes_on (Some m) s u h k = record { same = k.same ∙ h.same; shares = k.shares ∙ h.shares }
+  goes_on (Some m) s u h k = goes_then m.seat s u h k
 
   pub of_seat_on : (f : Option (Frame V)) (t : TxTable V) (s u : TxSeat V) → IfSome f (IsOfSeat t s) → GoesOn s.seat u.seat
       → IfSome f (IsOfSeat t u)
@@ -152,11 +199,10 @@ module _ {V : Type 0} where
   pub own_is : (o : Option (TxSeat V)) (a s : TxSeat V) → o ≡ Some a → o ≡ Some s → a ≡ s
   own_is o a s p q = subst (λ (x : Option (TxSeat V)). IfSome x (λ y. a ≡ y)) (sym p ∙ q) refl
 
-  -- its receipts are its own
-  pub own_back : (f : Option (Frame V)) (t : TxTable V) (seat : Option (TxSeat V)) (s : TxSeat V) → IsAtClient f t seat → seat ≡ Some s
-      → AreBy (actor s.seat) (view s.seat).receipts
-  own_back f t seat s h e =
-      subst (λ (x : TxSeat V). AreBy (actor x.seat) (view x.seat).receipts) (own_is seat h.own s h.is e) h.client.own
+  -- its receipts are those that it had, and its own
+  pub grown_back : (f : Option (Frame V)) (t : TxTable V) (seat : Option (TxSeat V)) (s : TxSeat V) → IsAtClient f t seat → seat ≡ Some s
+      → HasGrown f s.seat
+  grown_back f t seat s h e = subst (λ (x : TxSeat V). HasGrown f x.seat) (own_is seat h.own s h.is e) h.client.grown
 
   come_back : (f : Option (Frame V)) (t : TxTable V) (s : TxSeat V) → IsClient f t s → IfSome f (ComesBack s)
   come_back None t s h = tt

@@ -1,5 +1,5 @@
 -- What is known of a transaction, or of a client, by its scope: its table, and the seat as it was when it began.
-use Rattle.std.specs.Prelude.{◌≡◌, ℕ, All, Bool, true, List, [], Option, IfSome}
+use Rattle.std.specs.Prelude.{◌≡◌, ℕ, ◌≤◌, All, Bool, true, List, [], ◌++◌, Option, Some, None, IfSome, drop, length}
 use Rattle.seq_model.specs.declared.call.Call.{Call}
 use Rattle.seq_model.specs.declared.call.Reply.{Reply}
 use Rattle.seq_model.specs.declared.record.Record.{Record}
@@ -23,6 +23,20 @@ module _ (V : Type 0) where
     pub begun : Option (TxSeat V)
 
 module _ {V : Type 0} where
+  -- the receipts of a seat
+  abbrev pub receipts_at : Option (TxSeat V) → List (ℕ × Record V)
+  receipts_at (Some s) = (view s.seat).receipts
+  receipts_at None = []
+
+  -- those that the seat of a client had when the client began; where nothing is known of that, none
+  abbrev pub earlier : Option (Frame V) → List (ℕ × Record V)
+  earlier (Some f) = receipts_at f.begun
+  earlier None = []
+
+  -- those that have come since, which are the client's
+  abbrev pub later : Option (Frame V) → List (ℕ × Record V) → List (ℕ × Record V)
+  later f rs = drop (length (earlier f)) rs
+
   -- the calls of a transaction that stands so; where there is none, none
   abbrev pub calls_of : KnownStage V → List (Call V × Reply V)
   calls_of (Stands calls) = calls
@@ -58,10 +72,11 @@ module _ {V : Type 0} where
     pub since : HasBegunSince t s
     pub framed : IfSome f (IsIn t s)
 
-  -- a seat of the same actor, with as many shares
+  -- a seat of the same actor, with as many shares, which knows no lower number
   pub record GoesOn (m s : Seat V) : Type 0 where
     pub same : actor s ≡ actor m
     pub shares : (view s).shares ≡ (view m).shares
+    pub last : m.last ≤ s.last
 
   -- at the table of the frame, by the seat that it began with
   pub record IsOfSeat (t : TxTable V) (s : TxSeat V) (f : Frame V) : Type 0 where
@@ -72,11 +87,16 @@ module _ {V : Type 0} where
   abbrev pub AreBy : ℕ → List (ℕ × Record V) → Type 0
   AreBy a rs = All (λ (r : ℕ × Record V). r.0 ≡ a) rs
 
-  -- a client, between two of its transactions; its receipts are its own
+  -- a seat that has the receipts that it had when its client began, and then those of the client, which are its own actor's
+  pub record HasGrown (f : Option (Frame V)) (s : Seat V) : Type 0 where
+    pub gains : (view s).receipts ≡ earlier f ++ later f (view s).receipts
+    pub own : AreBy (actor s) (later f (view s).receipts)
+
+  -- a client, between two of its transactions
   pub record IsClient (f : Option (Frame V)) (t : TxTable V) (s : TxSeat V) : Type 0 where
     pub ready : IsReady t s
     pub framed : IfSome f (IsOfSeat t s)
-    pub own : AreBy (actor s.seat) (view s.seat).receipts
+    pub grown : HasGrown f s.seat
 
   -- what a client gives back is the seat that it began with, ready at its table
   pub record ComesBack (s : TxSeat V) (f : Frame V) : Type 0 where

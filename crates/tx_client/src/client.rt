@@ -1,11 +1,11 @@
 //! A client of a store.
 ghost use Rattle.std.specs.Prelude.{◌≡◌, ◌<◌, ◌≤◌, ◌∷◌, ◌++◌, [], IfErr, IfOk, IfSome, OnErr, OnOk, Some, false, max, true};
 ghost use Rattle.seq_model.specs.declared.refusal.Refusal.TheVariants.{Ahead};
-ghost use Rattle.shared_table.specs.Seated.{actor, view};
+ghost use Rattle.shared_table.specs.Seated.{view};
 ghost use Rattle.tx_engine.specs.Ready.{IsReady};
 ghost use Rattle.tx_client.specs.RequestKinds.{HasAsked};
 ghost use Rattle.tx_client.specs.Ends.{IsAbortBy};
-ghost use Rattle.tx_client.specs.Frames.{AreBy, ComesBack};
+ghost use Rattle.tx_client.specs.Frames.{ComesBack, HasGrown, later};
 ghost use Rattle.tx_client.specs.Runners.{HasRun};
 ghost use Rattle.tx_client.specs.Tallies.{AreCounted};
 
@@ -47,7 +47,7 @@ impl<'t, V, S: Scope<V>> Model for Client<'t, V, S> {
 
     ghost use Rattle.tx_client.specs.Clients.{IsAtClient, shown_at};
 
-    ghost view = { λ a. shown_at a.runner.seat a.runner.tally };
+    ghost view = { λ a. shown_at S.frame a.runner.seat a.runner.tally };
 
     ghost invariant = { λ a. IsAtClient S.frame a.table.now a.runner.seat };
 }
@@ -56,8 +56,8 @@ impl<'t, V: Value, S: Scope<V>> Client<'t, V, S> {
     /// The seat, with the client's receipts.
     fn into_seat(self) -> Boxed<TxSeat<V>>
         ensures back { IfSome S.frame (ComesBack result) }
-        ensures receipts { self.entry.receipts ≡ (view result.seat).receipts }
-        ensures own { AreBy (actor result.seat) (view result.seat).receipts }
+        ensures receipts { self.entry.receipts ≡ later S.frame (view result.seat).receipts }
+        ensures grown { HasGrown S.frame result.seat }
     {
         let Client {
             table: _,
@@ -186,7 +186,8 @@ impl<'t, V: Value, S: Scope<V>> Client<'t, V, S> {
     }
 }
 
-/// A client with this seat, for what gives clients to sessions. A service has no seat, and gets its clients ready made.
+/// A client with this seat, for what gives clients to sessions. It has none of the receipts that the seat has already. A service has no
+/// seat, and gets its clients ready made.
 pub fn client_of<'t, V: Value, S: Scope<V>>(
     table: &'t TxTable<V>,
     caller: Caller,
@@ -194,8 +195,7 @@ pub fn client_of<'t, V: Value, S: Scope<V>>(
 ) -> Client<'t, V, S>
     requires ready { IsReady table.now seat }
     requires frame { S.frame ≡ Some (record { table = table.now; begun = Some seat }) }
-    requires none { (view seat.seat).receipts ≡ [] }
-    ensures { result.receipts ≡ (view seat.seat).receipts }
+    ensures new { result.receipts ≡ [] }
 {
     Client {
         table,
@@ -211,8 +211,8 @@ pub fn client_of<'t, V: Value, S: Scope<V>>(
 /// The seat of a client that has served, with its receipts, for what gave it the seat.
 pub fn seat_of<'t, V: Value, S: Scope<V>>(client: Client<'t, V, S>) -> Boxed<TxSeat<V>>
     ensures back { IfSome S.frame (ComesBack result) }
-    ensures receipts { client.entry.receipts ≡ (view result.seat).receipts }
-    ensures own { AreBy (actor result.seat) (view result.seat).receipts }
+    ensures receipts { client.entry.receipts ≡ later S.frame (view result.seat).receipts }
+    ensures grown { HasGrown S.frame result.seat }
 {
     client.into_seat()
 }

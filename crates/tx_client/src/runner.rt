@@ -1,7 +1,7 @@
 //! What all kinds of clients run bodies by: a seat, and the counts of its attempts.
 ghost use Rattle.std.specs.Prelude.{◌≡◌, IsSome, Some};
 ghost use Rattle.tx_client.specs.Backs.{shares_at};
-ghost use Rattle.tx_client.specs.Clients.{IsAtClient, shown_at};
+ghost use Rattle.tx_client.specs.Clients.{IsAtClient, last_at, shown_at};
 ghost use Rattle.tx_client.specs.Runners.{HasLearnt, HasRun};
 
 use crate::attempts::retry;
@@ -36,7 +36,7 @@ impl<V: Value> Runner<V> {
         ensures at { IsAtClient S.frame table.now self.new.seat }
         ensures shares { shares_at self.new.seat ≡ shares_at self.old.seat }
         ensures ran { HasRun (B.makes body.now) (B.aborts body.now) declared tries
-            (shown_at self.old.seat self.old.tally) (shown_at self.new.seat self.new.tally) result }
+            (shown_at S.frame self.old.seat self.old.tally) (shown_at S.frame self.new.seat self.new.tally) result }
     {
         match self.seat.take() {
             Some(seat) => {
@@ -59,7 +59,7 @@ impl<V: Value> Runner<V> {
 
     pub fn last_number(&self) -> u64
         requires there { IsSome self.now.seat }
-        ensures { result ≡ (shown_at self.now.seat self.now.tally).last }
+        ensures { result ≡ last_at self.now.seat }
     {
         match &self.seat {
             Some(seat) => seat.get().last_number(),
@@ -71,7 +71,8 @@ impl<V: Value> Runner<V> {
         requires at { IsAtClient S.frame table.now self.old.seat }
         ensures at { IsAtClient S.frame table.now self.new.seat }
         ensures shares { shares_at self.new.seat ≡ shares_at self.old.seat }
-        ensures learnt { HasLearnt number (shown_at self.old.seat self.old.tally) (shown_at self.new.seat self.new.tally) result }
+        ensures learnt { HasLearnt number (shown_at S.frame self.old.seat self.old.tally) (shown_at S.frame self.new.seat self.new.tally)
+            result }
     {
         match self.seat.take() {
             Some(seat) => {

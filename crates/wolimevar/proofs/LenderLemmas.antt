@@ -17,14 +17,14 @@ use Rattle.tx_engine.specs.Ready.{IsReady}
 use Rattle.wolimevar.specs.declared.homes.Home.{Home}
 use Rattle.tx_client.specs.declared.tally.Tally.{Tally}
 use Rattle.tx_client.specs.Backs.{IsBack, IsLent, shares_at}
-use Rattle.tx_client.specs.Frames.{AreBy}
+use Rattle.tx_client.specs.Frames.{AreBy, receipts_at}
 use Rattle.wolimevar.specs.Homes.{IsHomeOf}
 use Rattle.wolimevar.specs.Lenders.{HasBack, HasTakenBack, IsAtLender, LenderShown, lender_at}
-use Rattle.wolimevar.specs.Sessions.{IsOfOne, joined, receipts_at}
+use Rattle.wolimevar.specs.Sessions.{IsOfOne, joined}
 use Rattle.wolimevar.specs.Splits.{HasLeft}
 use Rattle.wolimevar.specs.StoreSeats.{IsAtStore, store_at}
 use Rattle.wolimevar.proofs.StoreLemmas.{store_same}
-use Rattle.tx_client.proofs.FrameLemmas.{at_client, own_back, own_is}
+use Rattle.tx_client.proofs.FrameLemmas.{at_client, grown_back, own_is}
 
 joined_append : {A : Type 0} (xs ys : List (List A)) → joined (xs ++ ys) ≡ joined xs ++ joined ys
 joined_append [] ys = refl
@@ -37,14 +37,15 @@ module _ {V : Type 0} where
     ready = subst (λ (x : TxTable V). IsReady x s) (sym same)
         (subst (λ (x : TxSeat V). IsReady t x) (own_is seat lent.client.own s lent.client.is is) lent.client.client.ready);
     share = subst (λ (x : Option (TxSeat V)). shares_at x ≡ 1) is lent.share;
-    own = own_back None t seat s lent.client is;
+    own = (grown_back None t seat s lent.client is).own;
   }
 
   -- a client that is lent
   pub lent_client : (t : TxTable V) (s : TxSeat V) → IsReady t s → (view s.seat).shares ≡ 1 → (view s.seat).receipts ≡ []
       → IsLent t (Some s)
   lent_client t s ready share none = record {
-    client = at_client None t s ready tt (subst (AreBy (actor s.seat)) (sym none) (All-nil (λ (r : ℕ × Record V). r.0 ≡ actor s.seat)));
+    client = at_client None t s ready tt
+        (record { gains = refl; own = subst (AreBy (actor s.seat)) (sym none) (All-nil (λ (r : ℕ × Record V). r.0 ≡ actor s.seat)) });
     share = share;
   }
 
@@ -52,7 +53,7 @@ module _ {V : Type 0} where
   pub served_client : (t : TxTable V) (seat : Option (TxSeat V)) (s u : TxSeat V) → IsLent t seat → seat ≡ Some s → IsReady t u
       → (view u.seat).shares ≡ (view s.seat).shares → AreBy (actor u.seat) (view u.seat).receipts → IsLent t (Some u)
   served_client t seat s u lent is ready shares own = record {
-    client = at_client None t u ready tt own;
+    client = at_client None t u ready tt (record { gains = refl; own = own });
     share = shares ∙ subst (λ (x : Option (TxSeat V)). shares_at x ≡ 1) is lent.share;
   }
 

@@ -1,20 +1,21 @@
 -- How sessions end, each with a seat of its own.
-use Rattle.std.specs.Prelude.{◌≡◌, ◌⊎◌, ℕ, All, ◌≤◌, List, [], ◌∷◌, ◌++◌, Option, Some, None}
+use Rattle.std.specs.Prelude.{◌≡◌, ◌⊎◌, ℕ, All, ◌<◌, List, [], ◌∷◌, ◌++◌, Some}
 use Rattle.seq_model.specs.declared.record.Record.{Record}
 use Rattle.seq_model.specs.declared.refusal.Refusal.{Refusal}
 use Rattle.seq_model.specs.declared.refusal.Refusal.TheVariants.{Memory as OutOfMemory, TooLong}
+use Rattle.shared_table.specs.declared.seat.Seat.{Seat}
 use Rattle.shared_table.specs.declared.table.TxTable.{TxTable}
 use Rattle.shared_table.specs.declared.view.TheConstants.{SHARES}
 use Rattle.shared_table.specs.Seated.{actor, view}
 use Rattle.tx_engine.specs.declared.seats.TxSeat.{TxSeat}
 use Rattle.tx_engine.specs.Ready.{IsReady}
 use Rattle.wolimevar.specs.declared.sessions.Task.{Task}
-use Rattle.tx_client.specs.Frames.{AreBy}
+use Rattle.tx_client.specs.Frames.{AreBy, GoesOn}
 use Rattle.wolimevar.specs.Splits.{IsUnused}
 
 -- Why sessions are not served: they are too many, or an allocation fails.
 abbrev pub IsWhy : ℕ → Refusal → Type 0
-IsWhy count cause = ((cause ≡ TooLong) × (SHARES ≤ count)) ⊎ (cause ≡ OutOfMemory)
+IsWhy count cause = ((cause ≡ TooLong) × (SHARES < count)) ⊎ (cause ≡ OutOfMemory)
 
 -- lists, one after another
 abbrev pub joined : {A : Type 0} → List (List A) → List A
@@ -22,11 +23,6 @@ joined [] = []
 joined (xs ∷ xss) = xs ++ joined xss
 
 module _ {V : Type 0} where
-  -- the receipts of a seat
-  abbrev pub receipts_at : Option (TxSeat V) → List (ℕ × Record V)
-  receipts_at (Some s) = (view s.seat).receipts
-  receipts_at None = []
-
   -- receipts of one actor
   abbrev pub IsOfOne : List (ℕ × Record V) → Type 0
   IsOfOne rs = (a : ℕ) × AreBy a rs
@@ -48,7 +44,37 @@ module _ {V : Type 0} where
       pub own : All IsOfOne lists
       pub gains : after ≡ before ++ joined lists
 
+    -- A session has returned this, and its seat has these receipts more, which are its own actor's.
+    pub record Serves (n : N) (o : O) (m s : Seat V) : Type 0 where
+      pub made : List (ℕ × Record V)
+      pub gains : (view s).receipts ≡ (view m).receipts ++ made
+      pub served : serves n o made
+      pub own : AreBy (actor s) made
+
   module _ {N O : Type 0} (t : TxTable V) where
+    -- A session that is to be served: its seat is ready.
+    pub record IsDue (p : Task V N O) : Type 0 where
+      pub own : TxSeat V
+      pub seat : p.seat ≡ Some own
+      pub ready : IsReady t own
+      pub waiting : N
+      pub session : p.session ≡ Some waiting
+
+    -- One that has ended: its seat is ready, and it returned this.
+    pub record IsEnded (q : Task V N O) : Type 0 where
+      pub own : TxSeat V
+      pub seat : q.seat ≡ Some own
+      pub ready : IsReady t own
+      pub given : O
+      pub out : q.out ≡ Some given
+
+    -- It was served at that seat.
+    pub record IsDone (serves : N → O → List (ℕ × Record V) → Type 0) (p q : Task V N O) : Type 0 where
+      pub due : IsDue p
+      pub ended : IsEnded q
+      pub goes : GoesOn due.own.seat ended.own.seat
+      pub served : Serves serves due.waiting ended.given due.own.seat ended.own.seat
+
     -- A session that waits: its seat is not used yet.
     pub record IsWaiting (p : Task V N O) : Type 0 where
       pub own : TxSeat V

@@ -12,7 +12,7 @@ ghost use Rattle.tx_engine.specs.Ready.{IsReady};
 ghost use Rattle.tx_client.specs.Backs.{IsBack, shares_at};
 ghost use Rattle.wolimevar.specs.Homes.{IsHomeOf};
 ghost use Rattle.wolimevar.specs.Lenders.{HasBack, HasTakenBack};
-ghost use Rattle.wolimevar.specs.Sessions.{receipts_at};
+ghost use Rattle.tx_client.specs.Frames.{receipts_at};
 ghost use Rattle.wolimevar.specs.Splits.{HasLeft, IsUnused};
 
 use crate::homes::{Home, Own, home_for};

@@ -34,9 +34,10 @@ impl<V> Model for LentClient<V> {
     ghost Value = { ClientShown V };
 
     ghost use Rattle.tx_client.specs.Backs.{IsLent};
+    ghost use Rattle.std.specs.Prelude.{None};
     ghost use Rattle.tx_client.specs.Clients.{shown_at};
 
-    ghost view = { λ a. shown_at a.runner.seat a.runner.tally };
+    ghost view = { λ a. shown_at None a.runner.seat a.runner.tally };
 
     ghost invariant = { λ a. IsLent (arc_value a.own.table) a.runner.seat };
 }

@@ -208,7 +208,8 @@ impl<V: Value> Store<V> {
     /// Serves each session in a thread of its own where one can be started, with a client of its own, and returns what they returned, in
     /// order, once all have ended. The receipts of the sessions are added to the store's, those of one session after those of another.
     ///
-    /// `TooLong` beyond 63 sessions, and `Memory` where an allocation fails: then no session was served, and the store is unchanged.
+    /// `TooLong` beyond 64 sessions, and `Memory` where an allocation fails: then no session was served, and the store is unchanged. Of 64
+    /// the first one's client is the store's own actor, with its own counts.
     ///
     /// Where a thread can't be started, its session is served after others; so a session that waits for another one to do something may
     /// wait forever.
@@ -229,20 +230,19 @@ impl<V: Value> Store<V> {
         ensures opening { self.new.opening ≡ self.old.opening }
         ensures all { IfOk result (λ outs. HaveServed N.serves sessions.items outs.items self.old.receipts self.new.receipts) }
         ensures last { self.old.last ≤ self.new.last }
-        ensures asks { self.new.asked ≡ self.old.asked }
+        ensures asks { length sessions.items < SHARES → self.new.asked ≡ self.old.asked }
         ensures counts { self.new.tally ≡ self.old.tally }
         ensures none { OnErr result (self.new ≡ self.old) }
         ensures why { IfErr result (IsWhy (length sessions.items)) }
     {
         match self.seat.take() {
             Some(seat) => {
-                let mut seat = seat;
-                let served = serve(
+                let (seat, served) = serve(
                     rt,
                     self.alloc,
                     &self.table,
                     self.number,
-                    seat.get_mut(),
+                    seat,
                     sessions,
                 );
                 self.seat = Some(seat);

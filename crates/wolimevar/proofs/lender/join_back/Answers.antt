@@ -2,7 +2,7 @@ use Rattle.std.proofs.Common.{Option, ap, sym, ◌∙◌, ◌++◌}
 use Rattle.shared_table.specs.declared.view.SeatKnowledge.{SeatKnowledge}
 use Rattle.shared_table.specs.Seated.{view}
 use Rattle.tx_engine.specs.declared.seats.TxSeat.{TxSeat}
-use Rattle.wolimevar.specs.Sessions.{receipts_at}
+use Rattle.tx_client.specs.Frames.{receipts_at}
 use Rattle.wolimevar.proofs.lender.join_back.Goals as goal
 
 pub returns-in-Some-clause-receipts : goal.returns-in-Some-clause-receipts

@@ -1,18 +1,17 @@
 use Rattle.std.proofs.Common.{rules, ◌≡◌, ◌+◌, ◌∷◌, ◌++◌, ◌∙◌, Some, ap, arith, length, map, refl, sym, subst}
 use Rattle.std.specs.Prelude.{All}
-use Rattle.std.specs.Vec.{vec_len}
-use Rattle.std.specs.Vec.Iter.{into_iter_items}
+use Rattle.std.specs.Vec.Iter.{into_iter_items, into_iter_len}
+use Rattle.std.proofs.lemmas.List.{append-nil, nil_from_length}
 use Rattle.std.proofs.lemmas.List.Elements.{All-head, All-tail}
 use Rattle.shared_table.specs.Seated.{view}
-use Rattle.wolimevar.specs.Sessions.{IsFinished, joined, receipts_at}
+use Rattle.wolimevar.specs.Sessions.{IsFinished, joined}
+use Rattle.tx_client.specs.Frames.{receipts_at}
 use Rattle.wolimevar.proofs.SessionLemmas.{given_first, joined_first}
 use Rattle.wolimevar.proofs.sessions.join_all.Goals as goal
 
 pub tasks-init : goal.tasks-init
 tasks-init g c =
     let all : into_iter_items c.into_iter-task-iterator.result ≡ c.args.tasks.items = search rules in
-    let empty = c.requires.empty in
-    let none : vec_len c.args.outs.now ≡ 0 = search rules in
     let room = c.requires.room in
     let n = ap (λ ps. length ps) all in
     record {
@@ -22,8 +21,8 @@ tasks-init g c =
       receipts = ap (λ ps. (view c.args.seat.now.seat).receipts ++ joined (map (λ p. receipts_at p.seat) ps)) all;
       asks = refl;
       last = omega arith;
-      given = rw (empty, all) refl;
-      room = omega (arith, none, room, n);
+      given = ap (λ ps. map Some c.args.outs.now.items ++ map (λ p. p.out) ps) all;
+      room = omega (arith, room, n);
     }
 
 pub join_one-out-requires-clause-finished : goal.join_one-out-requires-clause-finished
@@ -53,7 +52,15 @@ tasks-preserved g c =
       asks = c.join_one-out.ensures.asks ∙ h.asks;
       last = omega (arith, before, after);
       given = given_first c.args.table.now c.tasks.outs.items c.push_reserved.new.self.items c.join_one-out.result c.in-Some.task
-          (into_iter_items c.next.new.self) c.args.tasks.items c.push_reserved.ensures.items c.join_one-out.ensures.given
+          (into_iter_items c.next.new.self) _ c.push_reserved.ensures.items c.join_one-out.ensures.given
           (ap (λ ps. map Some c.tasks.outs.items ++ map (λ p. p.out) ps) (sym next) ∙ h.given);
       room = omega (arith, room, n, len, capacity);
     }
+
+pub returns-clause-outs : goal.returns-clause-outs
+returns-clause-outs g c =
+    let len : length (into_iter_items c.tasks.task-iterator) ≡ into_iter_len c.tasks.task-iterator = search rules in
+    let none = nil_from_length (into_iter_items c.tasks.task-iterator) (len ∙ c.in-None.ensures.steps.0) in
+    sym (append-nil (map Some c.tasks.outs.items))
+    ∙ ap (λ ps. map Some c.tasks.outs.items ++ map (λ p. p.out) ps) (sym none)
+    ∙ c.tasks.invariant.given

@@ -1,7 +1,7 @@
 use Rattle.std.proofs.Common.{rules, ◌≡◌, ◌++◌, ◌∙◌, Some, ap, arith, sym}
 use Rattle.shared_table.specs.Seated.{view}
 use Rattle.tx_engine.specs.declared.seats.TxSeat.{TxSeat}
-use Rattle.wolimevar.specs.Sessions.{receipts_at}
+use Rattle.tx_client.specs.Frames.{receipts_at}
 use Rattle.wolimevar.proofs.sessions.join_one.Goals as goal
 
 pub returns-clause-receipts : goal.returns-clause-receipts

@@ -1,5 +1,5 @@
 use Rattle.std.proofs.Common.{Some}
-use Rattle.wolimevar.proofs.sessions.serve_one.Given as goal
+use Rattle.wolimevar.proofs.sessions.serve_at.Given as goal
 
 -- the client is the one of this seat
 abbrev pub ghosts-serve_as : goal.ghosts-serve_as
