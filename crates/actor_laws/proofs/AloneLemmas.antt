@@ -99,7 +99,8 @@ module _ {V : Type 0} where
       answers_no t a x (with_piece x asked.collection (piece_at w.blocks asked)) (sized_by t a asked (outcome_at t a asked))
       (outcome_at t a asked) t.boosted.editions (sized_room t a (weights x.calls) asked now small few)
 
-  pub calls_on_no : (w : World V) (a : ℕ) (x : Seat V) (asked : CollectionCall V) → IsFew (weights x.calls) (actor_of w a) → IsSmall asked.op
+  pub calls_on_no : (w : World V) (a : ℕ) (x : Seat V) (asked : CollectionCall V) → IsFew (weights x.calls) (actor_of w a)
+      → IsSmall asked.op
       → weights x.calls + weight asked.op ≤ 4096 → NoRefusal (calls_on w a x asked)
   calls_on_no w a x asked h small few =
       let c = content w.words w.blocks in

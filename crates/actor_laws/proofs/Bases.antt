@@ -29,7 +29,8 @@ use Rattle.tx_machine.proofs.BoostedInvariant.{ShadowOk}
 use Rattle.replay_log.specs.declared.base.Base.{Base}
 use Rattle.replay_log.specs.Base.{Shown, OfMap, OfBag, OfPq, OfQueue, after, changes_of, editions_of, shown_of, writes_of}
 use Rattle.replay_log.specs.Parts.{Kind, MapKind, BagKind, PqKind, QueueKind, kind_of, part, whole}
-use Rattle.replay_log.specs.Contents.{Block, CallWithOutcome, HaveStripes, block_of, end_of, first_of, home_of, is_plain, content, size, shifted}
+use Rattle.replay_log.specs.Contents.{Block, CallWithOutcome, HaveStripes, block_of, end_of, first_of}
+use Rattle.replay_log.specs.Contents.{home_of, is_plain, content, size, shifted}
 use Rattle.replay_log.specs.Contents.{blank, seen, changed, writes_in}
 use Rattle.replay_log.specs.Seats.{World, actor_of}
 use Rattle.replay_log.specs.Worlds.{happens, opened, run}
@@ -177,7 +178,8 @@ module _ {V : Type 0} where
         ∙ sym (ap (part b.stripes i) (after_both cs (log_changes k b os) s))
 
     -- ---- locations
-    writes_are : (o : CallWithOutcome V) → o.asked.collection ≡ k → (content n bs).writes o ≡ shifted (first_of n bs k) (writes_on b o.outcome)
+    writes_are : (o : CallWithOutcome V) → o.asked.collection ≡ k
+        → (content n bs).writes o ≡ shifted (first_of n bs k) (writes_on b o.outcome)
     writes_are o e = (λ z. writes_in ((ap (block_of bs) e ∙ is) z) (first_of n bs (e z)) o.outcome) ∙ by o.outcome
       where
         by : (r : Option (Outcome V)) → writes_in (Some b) (first_of n bs k) r ≡ shifted (first_of n bs k) (writes_on b r)

@@ -20,7 +20,8 @@ use Rattle.seq_model.specs.declared.event.Event.{Event}
 use Rattle.seq_model.specs.declared.event.Event.TheVariants.{Ask, Step}
 use Rattle.seq_model.specs.declared.event.Request.TheVariants as request
 use Rattle.seq_model.specs.declared.event.Request.{Request}
-use Rattle.replay_log.specs.Worlds.{World, Seat, Stage, Idle, Open, After, actor_of, ask_at, ask_op, cancels, commits, happens, run, starve_at}
+use Rattle.replay_log.specs.Worlds.{World, Seat, Stage, Idle, Open, After, actor_of}
+use Rattle.replay_log.specs.Worlds.{ask_at, ask_op, cancels, commits, happens, run, starve_at}
 use Rattle.replay_log.specs.Worlds.{step_at}
 use Rattle.replay_log.proofs.ActionLemmas.{does_learns, exchanges, learns}
 use Rattle.actor_laws.proofs.PassLemmas.{IsPlainAsk, cancels_keep, op_keeps, starve_keeps, step_keeps}

@@ -1,6 +1,6 @@
--- What a request results in. Where a transaction stands, and what is answered, say where it stands next (`KnownStageLemmas`). Besides, a commit
--- answers the number of its record, which remains its seat's until its last release; and a transaction that is aborted has noted its cause,
--- and answers it last.
+-- What a request results in. Where a transaction stands, and what is answered, say where it stands next (`KnownStageLemmas`). Besides, a
+-- commit answers the number of its record, which remains its seat's until its last release; and a transaction that is aborted has noted its
+-- cause, and answers it last.
 use Rattle.std.proofs.Common.{◌≡◌, ◌⊎◌, ℕ, Bool, true, false, true≢false, ◌||◌, List, [], ◌∷◌, Option, Some, None, inl, inr, refl, sym, ◌∙◌}
 use Rattle.std.proofs.Common.{ap, subst}
 use Rattle.std.specs.Prelude.{is_some}
@@ -28,7 +28,8 @@ use Rattle.replay_log.specs.WorldReplies.{IsKept, call_at, number_at}
 use Rattle.replay_log.specs.WorldTraces.{committed_by}
 use Rattle.actor_laws.proofs.KnownStageLemmas.{steps_move}
 use Rattle.actor_laws.specs.Courses.{ComesTo, EndsFrom, IsGivenUp, IsRecordOf, IsUnderWayFrom, StepsComeTo, latest}
-use Rattle.actor_laws.specs.KnownStages.{KnownStage, Rests, Begins, Stands, Calls, Commits, Committed, Ends, StepMoves, known_stage, known_stage_at}
+use Rattle.actor_laws.specs.KnownStages.{KnownStage, Rests, Begins, Stands, Calls, Commits}
+use Rattle.actor_laws.specs.KnownStages.{Committed, Ends, StepMoves, known_stage, known_stage_at}
 
 module _ {V : Type 0} where
   -- ---- what a phase says of its stage
@@ -66,7 +67,8 @@ module _ {V : Type 0} where
   unfolding is_end
   ends_at x e = sym (ends_as x.calls x.stage) ∙ ap is_end e
 
-  pub on_call : (x : Seat V) (calls : List (Call V × Reply V)) (call : Call V) → known_stage x ≡ Calls calls call → is_ending x.stage ≡ false
+  pub on_call : (x : Seat V) (calls : List (Call V × Reply V)) (call : Call V) → known_stage x ≡ Calls calls call
+      → is_ending x.stage ≡ false
   unfolding is_end
   on_call x calls call e = sym (ends_as x.calls x.stage) ∙ ap is_end e
 
@@ -149,8 +151,10 @@ module _ {V : Type 0} where
     tells : is_end (known_stage_at x.calls st) ≡ true → (n ≡ Quiet) ⊎ (n ≡ why a x.cause)
 
   -- a begin
-  begins_on : (a : ℕ) (s x : Seat V) (st : Stage V) (n : Notice V) (y : Seat V) (o d : Option (Record V)) → known_stage_at x.calls st ≡ Begins
-      → IsKept a st x y n → d ≡ None → StepMoves Begins (is_some o) n (known_stage y) → known_stage s ≡ Begins → ComesTo a s n y (latest o d)
+  begins_on : (a : ℕ) (s x : Seat V) (st : Stage V) (n : Notice V) (y : Seat V) (o d : Option (Record V))
+      → known_stage_at x.calls st ≡ Begins
+      → IsKept a st x y n → d ≡ None → StepMoves Begins (is_some o) n (known_stage y) → known_stage s ≡ Begins
+      → ComesTo a s n y (latest o d)
   begins_on a s x st Quiet y None d at kept none h on = subst (λ p. IsUnderWayFrom s p y d) (sym on) (h, none)
   begins_on a s x st (Answered b (answer.Begun rv)) y None d at kept none h on =
       subst (λ p. EndsFrom a s p (Answered b (answer.Begun rv)) y d) (sym on) (h, kept.2, none)
@@ -161,7 +165,8 @@ module _ {V : Type 0} where
 
   -- a call
   call_on : (a : ℕ) (s : Seat V) (calls : List (Call V × Reply V)) (call : Call V) (n : Notice V) (y : Seat V) (o d : Option (Record V))
-      → (known_stage y ≡ Ends → IsGivenUp y) → d ≡ None → StepMoves (Calls calls call) (is_some o) n (known_stage y) → known_stage s ≡ Calls calls call
+      → (known_stage y ≡ Ends → IsGivenUp y) → d ≡ None → StepMoves (Calls calls call) (is_some o) n (known_stage y)
+      → known_stage s ≡ Calls calls call
       → ComesTo a s n y (latest o d)
   call_on a s calls call Quiet y None d noted none (inl same) on = subst (λ p. IsUnderWayFrom s p y d) (sym on) (inl same, none)
   call_on a s calls call Quiet y None d noted none (inr ends) on = subst (λ p. IsUnderWayFrom s p y d) (sym on) (inr (noted ends), none)
@@ -200,7 +205,8 @@ module _ {V : Type 0} where
   up_commits a s calls x n y (Some r) d cause is keeps tells none h on = absurd h
 
   up_ends : (a : ℕ) (s x : Seat V) (n : Notice V) (y : Seat V) (o d : Option (Record V)) → x.cause ≡ s.cause
-      → (known_stage y ≡ Ends → y.cause ≡ x.cause) → (n ≡ Quiet) ⊎ (n ≡ why a x.cause) → d ≡ None → StepMoves Ends (is_some o) n (known_stage y)
+      → (known_stage y ≡ Ends → y.cause ≡ x.cause) → (n ≡ Quiet) ⊎ (n ≡ why a x.cause) → d ≡ None
+      → StepMoves Ends (is_some o) n (known_stage y)
       → known_stage s ≡ Ends → ComesTo a s n y (latest o d)
   up_ends a s x Quiet y None d is keeps tells none h on =
       subst (λ p. IsUnderWayFrom s p y d) (sym on) (h, keeps h ∙ is, none)
@@ -248,7 +254,8 @@ module _ {V : Type 0} where
   same_record calls k n (Some r) e h = (h.0, h.1 ∙ e)
 
   done_on : (a : ℕ) (s : Seat V) (calls : List (Call V × Reply V)) (x : Seat V) (st : Stage V) (n : Notice V) (y : Seat V)
-      (o d : Option (Record V)) → known_stage_at x.calls st ≡ Committed → IsKept a st x y n → (n ≡ Quiet → y.wv ≡ x.wv) → IsRecordOf calls x.wv d
+      (o d : Option (Record V)) → known_stage_at x.calls st ≡ Committed → IsKept a st x y n → (n ≡ Quiet → y.wv ≡ x.wv)
+      → IsRecordOf calls x.wv d
       → StepMoves Committed (is_some o) n (known_stage y) → known_stage s ≡ Commits calls → ComesTo a s n y (latest o d)
   unfolding is_done
   done_on a s calls x st Quiet y None d at kept wv has h on =
@@ -264,9 +271,11 @@ module _ {V : Type 0} where
       → known_stage s ≡ p → IsUnderWayFrom s p x d → ComesTo a s n y (latest o d)
   unfolding is_call is_done is_end
   goes_on a s x n y o d Begins f on h =
-      begins_on a s x x.stage n y o d h.0 (f.kept (ap is_call h.0)) h.1 (subst (λ p. StepMoves p (is_some o) n (known_stage y)) h.0 f.moves) on
+      begins_on a s x x.stage n y o d h.0 (f.kept (ap is_call h.0)) h.1
+      (subst (λ p. StepMoves p (is_some o) n (known_stage y)) h.0 f.moves) on
   goes_on a s x n y o d (Calls calls call) f on (inl same, none) =
-      call_on a s calls call n y o d (f.noted (ap is_end same)) none (subst (λ p. StepMoves p (is_some o) n (known_stage y)) same f.moves) on
+      call_on a s calls call n y o d (f.noted (ap is_end same)) none (subst (λ p. StepMoves p (is_some o) n (known_stage y)) same f.moves)
+      on
   goes_on a s x n y o d (Calls calls call) f on (inr up, none) =
       up_calls a s calls call x n y o d up.1.0 up.1.1 (f.keeps (ap is_end up.0)) (f.tells (ap is_end up.0)) none
       (subst (λ p. StepMoves p (is_some o) n (known_stage y)) up.0 f.moves) on

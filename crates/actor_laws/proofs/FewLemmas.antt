@@ -392,7 +392,8 @@ module _ {V : Type 0} (P : ℕ → Type 0) (a : ℕ) where
       judges_sized u x o d es (loads u a x o es) (lookup (actor_of u a).reads d.0) h
       (loads_sized es u x o (record { reads = omega (arith, reads); writes = h.writes; small = h.small }))
 
-  answers_sized : (u : World V) (before x : Seat V) (sized : CallWithOutcome V) (v : ℕ → Shown V) (asked : CollectionCall V) (editions : ℕ → ℕ)
+  answers_sized : (u : World V) (before x : Seat V) (sized : CallWithOutcome V) (v : ℕ → Shown V) (asked : CollectionCall V) (editions : ℕ
+      → ℕ)
       → IsFew (weights before.calls) (actor_of u a) → before.calls ≡ x.calls → IsSmall asked.op
       → SizedIn (answers u a before x sized ((content u.words u.blocks).outcome v asked) editions)
   answers_sized u before x sized v asked editions h same small =
@@ -480,7 +481,8 @@ module _ {V : Type 0} (P : ℕ → Type 0) (a : ℕ) where
       let reads = h.reads in
       let grown : Grows 1 y (actor_of t a) =
       cond_both (c.plain l) (record s { words = world.now s.words a z }) s
-      (λ (t : Boosted (Shown V) (CallWithOutcome V)). Grows 1 y (t.words.actors a)) (λ _. asked_grows s.words a l v) (λ _. (refl, omega arith)) in
+      (λ (t : Boosted (Shown V) (CallWithOutcome V)). Grows 1 y (t.words.actors a)) (λ _. asked_grows s.words a l v)
+      (λ _. (refl, omega arith)) in
       sits t (with_call x call reply.Done)
       (joins_few x call reply.Done (actor_of t a)
       (few_grown (weights x.calls) 1 y (actor_of t a) grown (omega (arith, reads)) h.writes))

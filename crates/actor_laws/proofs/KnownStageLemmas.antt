@@ -46,10 +46,12 @@ module _ {V : Type 0} where
   abbrev Turns : (Notice V → KnownStage V → Type 0) → ℕ → After V → Type 0
   Turns M a r = M r.1 (known_stage (r.0.seats a))
 
-  sits : (M : Notice V → KnownStage V → Type 0) (u : World V) (a : ℕ) (x : Seat V) (n : Notice V) → M n (known_stage x) → Turns M a (seated u a x, n)
+  sits : (M : Notice V → KnownStage V → Type 0) (u : World V) (a : ℕ) (x : Seat V) (n : Notice V) → M n (known_stage x)
+      → Turns M a (seated u a x, n)
   sits M u a x n h = subst (λ (y : Seat V). M n (known_stage y)) (sym (put-same u.seats a x)) h
 
-  stays : (M : Notice V → KnownStage V → Type 0) (u : World V) (a : ℕ) (x : Seat V) (st : Stage V) (n : Notice V) → u.seats a ≡ x → x.stage ≡ st
+  stays : (M : Notice V → KnownStage V → Type 0) (u : World V) (a : ℕ) (x : Seat V) (st : Stage V) (n : Notice V) → u.seats a ≡ x
+      → x.stage ≡ st
       → M n (known_stage_at x.calls st) → Turns M a (u, n)
   stays M u a x st n seat at h =
       subst (λ (y : Seat V). M n (known_stage y)) (sym seat) (subst (λ s. M n (known_stage_at x.calls s)) (sym at) h)

@@ -66,7 +66,8 @@ module _ {V : Type 0} where
   on_requested s true a q = refl
   on_requested s false a q = refl
 
-  ask_leaves : (c : Content (Shown V) (CollectionCall V) (CallWithOutcome V)) (s : State V) (a : ℕ) (q : Request) → (on_ask c s a q).parts ≡ s.parts
+  ask_leaves : (c : Content (Shown V) (CollectionCall V) (CallWithOutcome V)) (s : State V) (a : ℕ) (q : Request)
+      → (on_ask c s a q).parts ≡ s.parts
   ask_leaves c s a (AskWrite l v) = on_requested s (c.plain l) a (AskWrite l v)
   ask_leaves c s a AskStore = on_requested s (every (is_held c s a) _) a AskStore
   ask_leaves c s a AskRelease = on_requested s (every (is_given c s a) _) a AskRelease
@@ -218,7 +219,8 @@ module _ {V : Type 0} where
           | inr isnt ↦ subst (λ (u : State V). Limited n bs u.parts) (sym (cond-false b (homed c s a k) s isnt)) h
         ]
 
-    all_limited : (es : List (Action (CollectionCall V))) (s : State V) → IsOpened s → Limited n bs s.parts → Limited n bs (act_all c es s).parts
+    all_limited : (es : List (Action (CollectionCall V))) (s : State V) → IsOpened s → Limited n bs s.parts
+        → Limited n bs (act_all c es s).parts
     all_limited [] s o h = h
     all_limited (e ∷ es) s o h = all_limited es (acts c s e) (opened_on s e o) (step_limited s e o h)
 

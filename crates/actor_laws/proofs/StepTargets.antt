@@ -155,7 +155,8 @@ module _ {V : Type 0} (a : ℕ) where
   noted_keeps spot v t x Leaving e = record { cells = e.cells; gates = e.gates; parts = e.parts; editions = e.editions }
   noted_keeps spot v t x p e = e
 
-  by_action : (v u : World V) (x : Seat V) (p : Stage V) (d : Option (Action (CollectionCall V))) → Does a v x p d u → Keeps (spot_by a v d) v u
+  by_action : (v u : World V) (x : Seat V) (p : Stage V) (d : Option (Action (CollectionCall V))) → Does a v x p d u
+      → Keeps (spot_by a v d) v u
   by_action v u x p None g = calm_keeps Nowhere v u g
   by_action v u x p (Some d) (h, g) = then_calm _ v (ended_at a x p (acted v (d ∷ []))) u (noted_keeps _ v _ x p (action_keeps v d h)) g
 

@@ -49,7 +49,8 @@ module _ {V : Type 0} where
   EndsFrom a s Begins (Answered b (answer.Begun rv)) x d = (known_stage x ≡ Stands []) × (x.rv ≡ rv) × (d ≡ None)
   EndsFrom a s Begins (Refused b cause) x d = (known_stage x ≡ Rests) × (d ≡ None)
   EndsFrom a s (Calls calls call) (Answered b (answer.Replied r)) x d = (known_stage x ≡ Stands (calls ++ (call, r) ∷ [])) × (d ≡ None)
-  EndsFrom a s (Calls calls call) (Refused b cause) x d = (((known_stage x ≡ Stands calls) × IsMistaken cause) ⊎ (known_stage x ≡ Rests)) × (d ≡ None)
+  EndsFrom a s (Calls calls call) (Refused b cause) x d =
+      (((known_stage x ≡ Stands calls) × IsMistaken cause) ⊎ (known_stage x ≡ Rests)) × (d ≡ None)
   EndsFrom a s (Commits calls) (Answered b (answer.Committed n)) x d = (known_stage x ≡ Rests) × IsRecordOf calls n d
   EndsFrom a s (Commits calls) (Refused b cause) x d = (known_stage x ≡ Rests) × (d ≡ None)
   EndsFrom a s Ends n x d = (known_stage x ≡ Rests) × (n ≡ why a s.cause) × (d ≡ None)

@@ -65,7 +65,8 @@ use Rattle.actor_parts.specs.PrivateCopy.{HasEditions, IsCopied, IsFound, IsLear
 use Rattle.actor_parts.specs.PrivateCopy.{is_copied_whole, answered_on}
 use Rattle.actor_parts.specs.Footprints.{known_edition, reads_in, with_known, writes_in}
 use Rattle.actor_parts.specs.CopyInWorld.{IsOwnCopy, Knows}
-use Rattle.actor_parts.proofs.CopyAtGateLemmas.{IsWholeOf, blank_editions, blank_holds, blank_knows, contains_in, has_pieces, known_at, mixed}
+use Rattle.actor_parts.proofs.CopyAtGateLemmas.{IsWholeOf, blank_editions, blank_holds, blank_knows}
+use Rattle.actor_parts.proofs.CopyAtGateLemmas.{contains_in, has_pieces, known_at, mixed}
 use Rattle.actor_parts.proofs.CopyAtGateLemmas.{now_dated, now_has, now_knows, now_of, now_read, touched_facts, whole_editions, whole_knows}
 use Rattle.actor_parts.proofs.CopyAtGateLemmas.{whole_parts, in_list}
 use Rattle.actor_parts.proofs.PrivateCopyLemmas.{same_log}
@@ -232,7 +233,8 @@ module _ {V : Type 0} where
   same_op_reads n op (OfPq m) h pos e o q same = absurd (none-some h (sym (nothing_pq n pos op m) ∙ e))
   same_op_reads n op (OfQueue m) h pos e o q same = absurd (none-some h (sym (nothing_queue n pos op m) ∙ e))
 
-  all_known : (c : PrivateCopy V) (f : ℕ) (editions : ℕ → ℕ) (ls : List ℕ) → ((i : ℕ) → Contains ls i → known_edition c i ≡ editions (f + i))
+  all_known : (c : PrivateCopy V) (f : ℕ) (editions : ℕ → ℕ) (ls : List ℕ)
+      → ((i : ℕ) → Contains ls i → known_edition c i ≡ editions (f + i))
       → with_editions editions (shifted f ls) ≡ with_known c f ls
   all_known c f editions [] each = refl
   all_known c f editions (l ∷ ls) each =
@@ -706,7 +708,8 @@ module _ {V : Type 0} (w : World V) (a : ℕ) (b : Block) (asked : CollectionCal
     }
 
   -- ---- by what there was
-  from_some : (c d : PrivateCopy V) (found : BaseExcerpt V) (is : IsOwnCopy w a home b f c) → IsReadBy read f c → holds_call c asked.op ≡ false
+  from_some : (c d : PrivateCopy V) (found : BaseExcerpt V) (is : IsOwnCopy w a home b f c) → IsReadBy read f c
+      → holds_call c asked.op ≡ false
       → IsFound base asked.op found → IsTaken b.stripes found (Some c) d → IsCopyFor w a b asked d
   from_some (Whole s) d q is was_read unheld here now = absurd (true≢false unheld)
   from_some (Keys m es) d (found.Keys t) is was_read unheld here now =

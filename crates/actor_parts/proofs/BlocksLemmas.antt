@@ -95,7 +95,8 @@ no_home_word l w ps lt =
     sym (ap (λ (b : Bool). cond (b || not (ltb l (end_of w bs))) None (Some (home_of w bs l))) (is_below l w lt))
 
 pub no_home_beyond : (l w : ℕ) (ps : List BlockSpan) → AreEnds w ps → w ≤ l
-    → ((j : ℕ) (d : BlockSpan) → j < length ps → (get_or ps j d).end ≤ l) → None ≡ home_in (record { words = w; blocks = map block_of ps }) l
+    → ((j : ℕ) (d : BlockSpan) → j < length ps → (get_or ps j d).end ≤ l)
+    → None ≡ home_in (record { words = w; blocks = map block_of ps }) l
 no_home_beyond l w ps e le low =
     let bs = map block_of ps in
     sym (ap (λ (b : Bool). cond (b || not (ltb l (end_of w bs))) None (Some (home_of w bs l))) (is_not_below l w le)

@@ -15,7 +15,8 @@ use Rattle.conflict.specs.declared.outcome.Outcome.{Outcome}
 use Rattle.tx_machine.specs.Content.{IsIn}
 use Rattle.tx_machine.specs.Boosted.{Accept, changes, is_edition, is_open, is_sound}
 use Rattle.replay_log.specs.Base.{Shown}
-use Rattle.replay_log.specs.Contents.{CollectionCall, Block, HaveStripes, answer, blank, block_of, content, first_of, is_plain, seen, shifted}
+use Rattle.replay_log.specs.Contents.{CollectionCall, Block, HaveStripes, answer, blank, block_of}
+use Rattle.replay_log.specs.Contents.{content, first_of, is_plain, seen, shifted}
 use Rattle.replay_log.specs.Contents.{writes_in}
 use Rattle.replay_log.specs.Guards.{Allows}
 use Rattle.replay_log.specs.Worlds.{World, Stage, Open, actor_of, is_change, opened, outcome_at, run, with_editions}

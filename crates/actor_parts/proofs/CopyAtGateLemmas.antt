@@ -327,7 +327,8 @@ module _ {V : Type 0} where
           dated_at fs i (inr other) c lt = absurd (other.0 (contains_in places i c))
 
           -- what is touched was copied with the editions that there are now
-          pub now_dated : (d : PrivateCopy V) → IsLearnt t (Keys m es) d → (i : ℕ) → Contains places i → known_edition d i ≡ editions (f + i)
+          pub now_dated : (d : PrivateCopy V) → IsLearnt t (Keys m es) d → (i : ℕ) → Contains places i
+              → known_edition d i ≡ editions (f + i)
           now_dated (Keys n fs) is i c = dated_at fs i (learnt_at n fs i is) c (cover i c).0
           now_dated (Whole w) is i c = absurd is
 

@@ -11,7 +11,8 @@ use Rattle.conflict.specs.declared.change.Change.{Change}
 use Rattle.conflict.specs.declared.outcome.Outcome.{Outcome}
 use Rattle.tx_machine.specs.Boosted.{Shadow}
 use Rattle.replay_log.specs.Base.{Shown, editions_of, reads_of, shown_of, writes_of}
-use Rattle.replay_log.specs.Contents.{CallWithOutcome, Block, blank, content, first_of, reads_in as reads_at, writes_in as writes_at, shifted}
+use Rattle.replay_log.specs.Contents.{CallWithOutcome, Block, blank, content}
+use Rattle.replay_log.specs.Contents.{first_of, reads_in as reads_at, writes_in as writes_at, shifted}
 use Rattle.replay_log.specs.Contents.{size}
 use Rattle.replay_log.proofs.ContentLemmas.{positive_at}
 use Rattle.replay_log.specs.Pieces.{piece_at}
@@ -54,7 +55,8 @@ module _ {V : Type 0} where
   known_as (Keys m es) i e is = ap (λ (z : Option ℕ). unwrap_or z 0) is
   known_as (Whole t) i e is = get_or_from_slice_get (editions_of t.base) i e 0 is
 
-  pub known_at : (b : Block) (f : ℕ) (x : Shadow (Shown V) (CallWithOutcome V)) (c : PrivateCopy V) (i : ℕ) → HasEditions b f x c → i < size b
+  pub known_at : (b : Block) (f : ℕ) (x : Shadow (Shown V) (CallWithOutcome V)) (c : PrivateCopy V) (i : ℕ) → HasEditions b f x c
+      → i < size b
       → (e : ℕ) × (edition_at c i ≡ Some e) → x.editions (f + i) ≡ known_edition c i
   known_at b f x c i has below known = (has i known.0 below known.1).1 ∙ sym (known_as c i known.0 known.1)
 

@@ -43,7 +43,8 @@ module _ {V : Type 0} where
       by true rest e = let h : ⊥ = cc in absurd h
       by false rest e = rest e
 
-  pub none_here : (cs : List (CopyOfCollection V)) (i k : ℕ) (c : CopyOfCollection V) → i < length cs → c ≡ get_or cs i c → (get_or cs i c).collection ≢ k
+  pub none_here : (cs : List (CopyOfCollection V)) (i k : ℕ) (c : CopyOfCollection V) → i < length cs → c ≡ get_or cs i c
+      → (get_or cs i c).collection ≢ k
       → copy_of (take i cs) k ≡ None → copy_of (take (suc i) cs) k ≡ None
   none_here cs i k c lt is other none =
       none_more cs i k c (slice_get_read cs (length cs) i c refl lt is)
@@ -55,7 +56,8 @@ module _ {V : Type 0} where
   first_at [] i k c at same none = let h : ⊥ = cc in absurd h
   first_at (d ∷ cs) zero k c at same none =
       let e : d ≡ c = cc in
-      cond-true (k == d.collection) (Some d.copied) (copy_of cs k) (ap (λ (z : CopyOfCollection V). k == z.collection) e ∙ eq-eqb k c.collection same)
+      cond-true (k == d.collection) (Some d.copied) (copy_of cs k) (ap (λ (z : CopyOfCollection V). k == z.collection) e
+      ∙ eq-eqb k c.collection same)
       ∙ ap (λ (z : CopyOfCollection V). Some z.copied) e
   first_at (d ∷ cs) (suc i) k c at same none = by (k == d.collection) (first_at cs i k c at same) none
     where
@@ -65,7 +67,8 @@ module _ {V : Type 0} where
       by false rest e = rest e
 
   -- with another in place of one, of the same collection and with the same pieces
-  pub same_pieces : (cs : List (CopyOfCollection V)) (i : ℕ) (c d : CopyOfCollection V) → slice_get cs i ≡ Some c → d.collection ≡ c.collection
+  pub same_pieces : (cs : List (CopyOfCollection V)) (i : ℕ) (c d : CopyOfCollection V) → slice_get cs i ≡ Some c
+      → d.collection ≡ c.collection
       → ((q : Piece) → copies.has_piece d.copied q ≡ copies.has_piece c.copied q) → (k : ℕ) (q : Piece)
       → has_piece (copy_of (set cs i d) k) q ≡ has_piece (copy_of cs k) q
   same_pieces [] i c d at same pieces k q = let h : ⊥ = cc in absurd h

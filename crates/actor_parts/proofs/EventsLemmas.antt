@@ -58,7 +58,8 @@ module _ {V : Type 0} where
     stays_of : SameIn w.words a w f.0 → Stays w f.0 a
     stays_of h = (reads_of w refl refl h.0, h.1)
 
-    either_of : (u : World V) (o : CallWithOutcome V) → u.words ≡ w.words → u.blocks ≡ w.blocks → Either w.words a u o f → StaysOrJoins u a o f
+    either_of : (u : World V) (o : CallWithOutcome V) → u.words ≡ w.words → u.blocks ≡ w.blocks → Either w.words a u o f
+        → StaysOrJoins u a o f
     either_of u o eu ebs (inl h) = inl ((reads_of u eu ebs h.0.0, h.0.1), h.1)
     either_of u o eu ebs (inr h) = inr ((reads_of u eu ebs h.0.0, h.0.1), h.1)
 
@@ -67,7 +68,8 @@ module _ {V : Type 0} where
     asked_of (Some asked) h = either_of w (outcome_at w a asked) refl refl h
 
     -- what a load leaves of another collection
-    other_unread : (o : CallWithOutcome V) (l k : ℕ) (c : Option (PrivateCopy V)) → LoadBy w a o l f → home_of w.words w.blocks l ≡ o.asked.collection
+    other_unread : (o : CallWithOutcome V) (l k : ℕ) (c : Option (PrivateCopy V)) → LoadBy w a o l f
+        → home_of w.words w.blocks l ≡ o.asked.collection
         → k ≢ o.asked.collection → IsReadOf w a k c → IsReadOf (acted w (moves a ∷ [])) a k c
     other_unread o l k (Some c) h home other is = reads_more w (acted w (moves a ∷ [])) a k c refl refl h.reads.0 is
     other_unread o l k None h home other is =

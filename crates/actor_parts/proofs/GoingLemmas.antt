@@ -122,7 +122,8 @@ module _ {V : Type 0} where
       accepts = λ fits all.
           let is : judged y.reads es ≡ All = ap (λ (q : Actor). judged q.reads es) (sym now) ∙ all in (
             allowed u a x o (left_after y.reads es) (linked All fits is tt) ok.2.0
-                (subst (λ (os : List (CallWithOutcome V)). Told (on_held x.calls) os) (sym (put_outcomes w a asked.collection _)) ok.1.tx.1.held),
+                (subst (λ (os : List (CallWithOutcome V)). Told (on_held x.calls) os) (sym (put_outcomes w a asked.collection _))
+                ok.1.tx.1.held),
             subst (λ (q : Actor). AreRead q.calls es) (sym now) (all_read w.words w.blocks y es ok.1.kept plain is),
           );
       reads = λ l fits next.

@@ -81,7 +81,8 @@ module _ {V : Type 0} where
       elim m [ inl e ↦ ap (is_plain n bs) e ∙ left.0 | inr rest ↦ left_plain n bs y z es left.3 l rest ]
 
   -- ---- the load
-  module _ (w : World V) (a : ℕ) (o : CallWithOutcome V) (d : ℕ × ℕ) (es : Entries) (k : Linked w) (st : (w.seats a).stage ≡ Loading o (d ∷ es))
+  module _ (w : World V) (a : ℕ) (o : CallWithOutcome V) (d : ℕ × ℕ) (es : Entries) (k : Linked w)
+      (st : (w.seats a).stage ≡ Loading o (d ∷ es))
       (n : word_notice w a ≡ told.Number d.1) where
     abbrev y : Actor
     y = actor_of w a

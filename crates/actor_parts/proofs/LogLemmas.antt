@@ -41,7 +41,8 @@ module _ {V : Type 0} where
   log_is b s changes locations (Whole t) is = (is.2, is.3)
 
   -- each location is in the collection
-  pub log_below : (k : ℕ) (b : Block) (os : List (CallWithOutcome V)) → 0 < b.stripes → (i : ℕ) → Contains (log_locations k b os) i → i < size b
+  pub log_below : (k : ℕ) (b : Block) (os : List (CallWithOutcome V)) → 0 < b.stripes → (i : ℕ) → Contains (log_locations k b os) i
+      → i < size b
   log_below k b [] pos i (j, lt, e) = absurd (omega (arith, lt))
   log_below k b (o ∷ os) pos i h =
       ⊎_elim
@@ -100,7 +101,8 @@ module _ {V : Type 0} where
       ∙ ap (λ (x : Option (PrivateCopy V)). cond (eqb j d.collection) (Some d.copied) x) (others_stand cs i k c at same j other)
 
   -- what stands at its place
-  pub found_at : (cs : List (CopyOfCollection V)) (i k : ℕ) (c : CopyOfCollection V) (p : Option ℕ) → p ≡ Some i → IsPositionOf cs k p → c ≡ get_or cs i c
+  pub found_at : (cs : List (CopyOfCollection V)) (i k : ℕ) (c : CopyOfCollection V) (p : Option ℕ) → p ≡ Some i → IsPositionOf cs k p
+      → c ≡ get_or cs i c
       → (slice_get cs i ≡ Some c) × (c.collection ≡ k) × (copy_of cs k ≡ Some c.copied)
   found_at cs i k c p is at e =
       let h : IsPositionOf cs k (Some i) = subst (IsPositionOf cs k) is at in

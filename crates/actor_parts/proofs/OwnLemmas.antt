@@ -49,7 +49,8 @@ module _ {V : Type 0} where
     locations = refl;
   }
 
-  copied_alike : (b : Block) (f k : ℕ) (x z : Part (Shown V) (CallWithOutcome V)) (c : PrivateCopy V) → AlikeAt b f k x z → IsCopied b f k x c
+  copied_alike : (b : Block) (f k : ℕ) (x z : Part (Shown V) (CallWithOutcome V)) (c : PrivateCopy V) → AlikeAt b f k x z
+      → IsCopied b f k x c
       → IsCopied b f k z c
   copied_alike b f k x z c same is = (
     (
@@ -61,7 +62,8 @@ module _ {V : Type 0} where
     λ i e lt there. (let q = is.1 i e lt there in (same.copied i lt ∙ q.0, same.editions i lt ∙ q.1)),
   )
 
-  uncalled_alike : (b : Block) (f k : ℕ) (x z : Part (Shown V) (CallWithOutcome V)) → AlikeAt b f k x z → IsUncalled b f k x → IsUncalled b f k z
+  uncalled_alike : (b : Block) (f k : ℕ) (x z : Part (Shown V) (CallWithOutcome V)) → AlikeAt b f k x z → IsUncalled b f k x
+      → IsUncalled b f k z
   uncalled_alike b f k x z same is = (
     (is.0.0, (is.0.1.0, λ i lt. same.parts i lt ∙ is.0.1.1 i lt)),
     same.changes ∙ is.1,

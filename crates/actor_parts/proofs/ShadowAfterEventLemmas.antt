@@ -43,7 +43,8 @@ use Rattle.actor_parts.specs.CopiesAfterEvent.{IsUnanswered, call_in, call_on_he
 use Rattle.actor_parts.specs.CopyInWorld.{call_on}
 use Rattle.actor_parts.proofs.CallingLemmas.{not_read}
 use Rattle.actor_parts.proofs.ComesLemmas.{allowed, unwritten}
-use Rattle.actor_parts.proofs.ShadowAfterActionLemmas.{IsOnWords, Same, SameReads, ask_same, asked_same, asked_to, same, same_calls, same_then}
+use Rattle.actor_parts.proofs.ShadowAfterActionLemmas.{IsOnWords, Same, SameReads, ask_same, asked_same}
+use Rattle.actor_parts.proofs.ShadowAfterActionLemmas.{asked_to, same, same_calls, same_then}
 
 written_same : (n : ℕ) (y : Actor) (editions : ℕ → ℕ) (ls : List ℕ) → SameReads n y (written y editions ls)
 written_same n y editions [] = λ l m. refl

@@ -28,7 +28,8 @@ use Rattle.replay_log.proofs.StageLemmas.{at_move, first_stored}
 use Rattle.actor_parts.specs.Shows.{put_back}
 use Rattle.actor_parts.proofs.GoingLemmas.{put_outcomes}
 use Rattle.actor_parts.proofs.ShadowAfterEventLemmas.{Either, SameIn, answers_come, ask_stays, gives_up_either, gives_up_stays, loads_come}
-use Rattle.actor_parts.proofs.ShadowAfterActionLemmas.{IsNoBegin, IsStill, back_same, home_same, is_other, moved_same, moved_to, same, same_calls}
+use Rattle.actor_parts.proofs.ShadowAfterActionLemmas.{IsNoBegin, IsStill, back_same, home_same, is_other}
+use Rattle.actor_parts.proofs.ShadowAfterActionLemmas.{moved_same, moved_to, same, same_calls}
 use Rattle.actor_parts.proofs.ShadowAfterActionLemmas.{taken_same}
 
 -- ---- places
@@ -163,11 +164,13 @@ module _ {V : Type 0} where
           now,
           answers_come n u a (with_piece x asked.collection (piece_at w.blocks asked)) (outcome_at u a asked)
               (ap (λ (q : Actor). q.place) now ∙ ok.0) ok.2.0
-              (subst (λ (os : List (CallWithOutcome V)). Told (on_held x.calls) os) (sym (put_outcomes w a asked.collection which)) ok.1.tx.1.held)
+              (subst (λ (os : List (CallWithOutcome V)). Told (on_held x.calls) os) (sym (put_outcomes w a asked.collection which))
+              ok.1.tx.1.held)
               refl x (sized_by u a asked (outcome_at u a asked)) u.boosted.editions next,
         )
 
-    loading : (o : CallWithOutcome V) (d : ℕ × ℕ) (es : Entries) → StageIn (Loading o (d ∷ es)) → Linked (step_at w a x (Loading o (d ∷ es))).0
+    loading : (o : CallWithOutcome V) (d : ℕ × ℕ) (es : Entries) → StageIn (Loading o (d ∷ es))
+        → Linked (step_at w a x (Loading o (d ∷ es))).0
         → StepBy w a (Loading o (d ∷ es)) (step_at w a x (Loading o (d ∷ es)))
     loading o d es ok next =
         record {

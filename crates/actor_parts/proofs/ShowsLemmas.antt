@@ -76,7 +76,8 @@ module _ {V : Type 0} where
       let o = outcome_at u a asked in
       let k : actor_of u a ≡ y = ap (λ (t : machine.World). t.actors a) (same_words w.boosted _ _ _) ∙ s.1 in
       let e : u.boosted.editions ≡ w.boosted.editions = same_editions w.boosted _ _ _ in
-      let sized : Actor → (ℕ → ℕ) → CallWithOutcome V = λ q f. cond (is_stale q.reads (with_editions f (c.reads o))) (outcome_now u asked) o in
+      let sized : Actor → (ℕ → ℕ) → CallWithOutcome V =
+      λ q f. cond (is_stale q.reads (with_editions f (c.reads o))) (outcome_now u asked) o in
       let now = sized (actor_of u a) u.boosted.editions in
       let p = with_piece x asked.collection (piece_at w.blocks asked) in (
         (

@@ -39,7 +39,8 @@ not_both j k l other e f = true≢false (sym (eq-eqb k l (sym (eqb-true j k f) �
 
 module _ {V : Type 0} where
   -- ---- after the others
-  kept_front : (cs : List (CopyOfCollection V)) (c : CopyOfCollection V) (es : List (CopyOfCollection V)) → AreKept (cs ++ c ∷ []) es → AreKept cs (take (length cs) es)
+  kept_front : (cs : List (CopyOfCollection V)) (c : CopyOfCollection V) (es : List (CopyOfCollection V)) → AreKept (cs ++ c ∷ []) es
+      → AreKept cs (take (length cs) es)
   kept_front [] c es h = tt
   kept_front (x ∷ cs) c (e ∷ es) h = (h.0, h.1, kept_front cs c es h.2)
   kept_front (x ∷ cs) c [] h = absurd h
@@ -56,7 +57,8 @@ module _ {V : Type 0} where
   pub some_kept : (c d : PrivateCopy V) (q : Piece) → IsKept c d → copies.has_piece d q ≡ copies.has_piece c q
   some_kept c d q h = kept_has (Some c) (Some d) q h
 
-  set_same : (cs : List (CopyOfCollection V)) (i j k : ℕ) (c : CopyOfCollection V) (d g : PrivateCopy V) (es : List (CopyOfCollection V)) → slice_get cs i ≡ Some c
+  set_same : (cs : List (CopyOfCollection V)) (i j k : ℕ) (c : CopyOfCollection V) (d g : PrivateCopy V) (es : List (CopyOfCollection V))
+      → slice_get cs i ≡ Some c
       → c.collection ≡ k → j ≡ k → ((q : Piece) → copies.has_piece g q ≡ copies.has_piece c.copied q)
       → AreKept (set cs i (copy_with k d)) es → HaveSame cs (set es i (copy_with j g))
   set_same [] i j k c d g es at of same_place each kept l q = let h : ⊥ = cc in absurd h
@@ -75,7 +77,8 @@ module _ {V : Type 0} where
   set_same (x ∷ cs) zero j k c d g [] at of same_place each kept l q = absurd kept
   set_same (x ∷ cs) (suc i) j k c d g [] at of same_place each kept l q = absurd kept
 
-  pub set_there : (cs : List (CopyOfCollection V)) (i : ℕ) (c d : CopyOfCollection V) → slice_get cs i ≡ Some c → slice_get (set cs i d) i ≡ Some d
+  pub set_there : (cs : List (CopyOfCollection V)) (i : ℕ) (c d : CopyOfCollection V) → slice_get cs i ≡ Some c
+      → slice_get (set cs i d) i ≡ Some d
   set_there [] i c d at = let h : ⊥ = cc in absurd h
   set_there (x ∷ cs) zero c d at = refl
   set_there (x ∷ cs) (suc i) c d at = set_there cs i c d at
@@ -86,7 +89,8 @@ module _ {V : Type 0} where
   at_place (x ∷ cs) (suc i) lt = at_place cs i (omega (arith, lt))
 
   -- ---- what is taken
-  pub learnt_at : (n k i : ℕ) (x : BaseExcerpt V) (cs : List (CopyOfCollection V)) (here : CopyOfCollection V) (d : PrivateCopy V) → IsPositionOf cs k (Some i)
+  pub learnt_at : (n k i : ℕ) (x : BaseExcerpt V) (cs : List (CopyOfCollection V)) (here : CopyOfCollection V) (d : PrivateCopy V)
+      → IsPositionOf cs k (Some i)
       → slice_get cs i ≡ Some here → IsAdded x here.copied d → IsTakenAt n k x i cs (set cs i (copy_with here.collection d))
   learnt_at n k i x cs here d place at added =
       let of : here.collection ≡ k = place.2 here at in
@@ -132,7 +136,8 @@ module _ {V : Type 0} where
       whole_back op c e g q (ap is_copied_whole kind ∙ is.3) unheld (subst (λ z. IsKept z e) taken kept) forgot
 
   -- ---- both
-  back_from : (n k i : ℕ) (op : Op V) (base : Base V) (x : BaseExcerpt V) (before now ready after : List (CopyOfCollection V)) (copy : PrivateCopy V)
+  back_from : (n k i : ℕ) (op : Op V) (base : Base V) (x : BaseExcerpt V) (before now ready after : List (CopyOfCollection V))
+      (copy : PrivateCopy V)
       (o : Option (PrivateCopy V)) → copy_of before k ≡ o → IsFound base op x
       → ((c : PrivateCopy V) → o ≡ Some c → kind_of (shown_of (base_in c)) ≡ kind_of (shown_of base)) → holds_of o op ≡ false
       → IsTaken n x o copy → IsPutAt k copy i before now o → AreKept now ready → TakesBack (length before) i op ready after
@@ -187,7 +192,8 @@ module _ {V : Type 0} where
   twice true c d o = refl
   twice false c d o = refl
 
-  in_place : (k : ℕ) (c : PrivateCopy V) (cs : List (CopyOfCollection V)) (i j : ℕ) (d : CopyOfCollection V) → slice_get cs i ≡ Some d → d.collection ≡ k
+  in_place : (k : ℕ) (c : PrivateCopy V) (cs : List (CopyOfCollection V)) (i j : ℕ) (d : CopyOfCollection V) → slice_get cs i ≡ Some d
+      → d.collection ≡ k
       → copy_of (take i cs) k ≡ None → copy_of (set cs i (copy_with k c)) j ≡ cond (j == k) (Some c) (copy_of cs j)
   in_place k c [] i j d at of none = let h : ⊥ = cc in absurd h
   in_place k c (x ∷ cs) zero j d at of none =
@@ -199,7 +205,8 @@ module _ {V : Type 0} where
       beside (j == x.collection) (j == k) c x.copied (copy_of cs j) (copy_of (set cs i (copy_with k c)) j)
       (not_both j k x.collection other.0) (in_place k c cs i j d at of other.1)
 
-  put_copy : (k : ℕ) (c : PrivateCopy V) (i : ℕ) (before now : List (CopyOfCollection V)) (o : Option (PrivateCopy V)) → copy_of before k ≡ o
+  put_copy : (k : ℕ) (c : PrivateCopy V) (i : ℕ) (before now : List (CopyOfCollection V)) (o : Option (PrivateCopy V))
+      → copy_of before k ≡ o
       → IsPutAt k c i before now o → (j : ℕ) → copy_of now j ≡ cond (j == k) (Some c) (copy_of before j)
   put_copy k c i before now None is put j = ap (λ cs. copy_of cs j) put.1 ∙ behind k c before j is
   put_copy k c i before now (Some d) is put j =
@@ -220,7 +227,8 @@ module _ {V : Type 0} where
   push_length [] c = omega (arith)
   push_length (x ∷ cs) c = let rest = push_length cs c in omega (arith, rest)
 
-  put_at : (k : ℕ) (c : PrivateCopy V) (i : ℕ) (before now : List (CopyOfCollection V)) (o : Option (PrivateCopy V)) → IsPutAt k c i before now o
+  put_at : (k : ℕ) (c : PrivateCopy V) (i : ℕ) (before now : List (CopyOfCollection V)) (o : Option (PrivateCopy V))
+      → IsPutAt k c i before now o
       → (i < length now) × (slice_get now i ≡ Some (copy_with k c))
   put_at k c i before now None put = (
     subst (λ cs. i < length cs) (sym put.1)
@@ -247,14 +255,16 @@ module _ {V : Type 0} where
   of_block b s (Keys m es) h = (h.0, h.1)
   of_block b s (Whole t) h = (h.0, h.1)
 
-  learnt_of : (b : Block) (t : Touch V) (c d : PrivateCopy V) → (kind_of (shown_of (base_in c)) ≡ b.kind) × (stripes_of (base_in c) ≡ b.stripes)
+  learnt_of : (b : Block) (t : Touch V) (c d : PrivateCopy V)
+      → (kind_of (shown_of (base_in c)) ≡ b.kind) × (stripes_of (base_in c) ≡ b.stripes)
       → IsLearnt t c d → (kind_of (shown_of (base_in d)) ≡ b.kind) × (stripes_of (base_in d) ≡ b.stripes)
   learnt_of b t (Keys m es) (Keys n fs) of h = (ap (λ z. kind_of (shown_of z)) h.0 ∙ of.0, ap stripes_of h.0 ∙ of.1)
   learnt_of b t (Whole s) d of h =
       subst (λ z. (kind_of (shown_of (base_in z)) ≡ b.kind) × (stripes_of (base_in z) ≡ b.stripes)) (sym h) of
   learnt_of b t (Keys m es) (Whole s) of h = absurd h
 
-  pub taken_in_block : (b : Block) (base : Base V) (op : Op V) (x : BaseExcerpt V) (o : Option (PrivateCopy V)) (d : PrivateCopy V) → 0 < b.stripes
+  pub taken_in_block : (b : Block) (base : Base V) (op : Op V) (x : BaseExcerpt V) (o : Option (PrivateCopy V)) (d : PrivateCopy V)
+      → 0 < b.stripes
       → IsBaseOf b base → IsFound base op x
       → ((c : PrivateCopy V) → o ≡ Some c → (kind_of (shown_of (base_in c)) ≡ b.kind) × (stripes_of (base_in c) ≡ b.stripes))
       → IsTaken b.stripes x o d → (kind_of (shown_of (base_in d)) ≡ b.kind) × (stripes_of (base_in d) ≡ b.stripes)
@@ -265,7 +275,8 @@ module _ {V : Type 0} where
       subst (λ z. (kind_of (shown_of (base_in z)) ≡ b.kind) × (stripes_of (base_in z) ≡ b.stripes)) (sym taken) (of c refl)
 
   -- ---- its pieces
-  copy_pieces : (b : Block) (base : Base V) (op : Op V) (x : BaseExcerpt V) (o : Option (PrivateCopy V)) (d : PrivateCopy V) (q : Piece) → IsBaseOf b base
+  copy_pieces : (b : Block) (base : Base V) (op : Op V) (x : BaseExcerpt V) (o : Option (PrivateCopy V)) (d : PrivateCopy V) (q : Piece)
+      → IsBaseOf b base
       → IsFound base op x → ((c : PrivateCopy V) → o ≡ Some c → kind_of (shown_of (base_in c)) ≡ b.kind) → holds_of o op ≡ false
       → holds_call d op ≡ true → IsTaken b.stripes x o d
       → copies.has_piece d q ≡ cond (is_piece (piece_of (kind_of (shown_of base)) op) q) true (has_piece o q)
@@ -283,7 +294,8 @@ module _ {V : Type 0} where
   by_place true p c o q e = e refl
   by_place false p c o q e = refl
 
-  pub taken_pieces : (b : Block) (base : Base V) (op : Op V) (x : BaseExcerpt V) (k i : ℕ) (before now : List (CopyOfCollection V)) → IsBaseOf b base
+  pub taken_pieces : (b : Block) (base : Base V) (op : Op V) (x : BaseExcerpt V) (k i : ℕ) (before now : List (CopyOfCollection V))
+      → IsBaseOf b base
       → IsFound base op x → ((c : PrivateCopy V) → copy_of before k ≡ Some c → kind_of (shown_of (base_in c)) ≡ b.kind)
       → holds_of (copy_of before k) op ≡ false → (t : IsTakenAt b.stripes k x i before now) → holds_call t.copy op ≡ true
       → (j : ℕ) (q : Piece)

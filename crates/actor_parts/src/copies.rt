@@ -4,7 +4,8 @@ ghost use Rattle.seq_model.specs.Calls.{IsRefusal};
 ghost use Rattle.seq_model.specs.Entries.{inserts};
 ghost use Rattle.replay_log.specs.Base.{IsPreparedFor, StaysPrepared, after, editions_of, locations_of, shown_of, stripes_of};
 ghost use Rattle.replay_log.specs.Log.{AreRaised};
-ghost use Rattle.actor_parts.specs.PrivateCopy.{IsAccepted, IsForgotten, IsFound, IsKept, IsLearnt, IsReady, answer_of, changes_in, holds_call};
+ghost use Rattle.actor_parts.specs.PrivateCopy.{IsAccepted, IsForgotten, IsFound, IsKept, IsLearnt};
+ghost use Rattle.actor_parts.specs.PrivateCopy.{IsReady, answer_of, changes_in, holds_call};
 ghost use Rattle.actor_parts.specs.PrivateCopy.{locations_in};
 ghost use Rattle.actor_parts.specs.Taking.{key_touch};
 

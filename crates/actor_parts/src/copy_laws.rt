@@ -19,7 +19,8 @@ ghost use Rattle.shadow.specs.Memo.{IsAlike, MemoView, holds};
 ghost use Rattle.replay_log.specs.Contents.{CallWithOutcome, Block, HaveStripes, block_of, content, first_of};
 ghost use Rattle.actor_parts.specs.declared.copies.PrivateCopy.{PrivateCopy};
 ghost use Rattle.actor_parts.specs.declared.copies.PrivateCopy.TheVariants.{Keys};
-ghost use Rattle.actor_parts.specs.PrivateCopy.{IsAccepted, IsCopied, IsLearnt, IsOf, ShowParts, answer_of, answered_on, changes_in, has_piece};
+ghost use Rattle.actor_parts.specs.PrivateCopy.{IsAccepted, IsCopied, IsLearnt, IsOf, ShowParts};
+ghost use Rattle.actor_parts.specs.PrivateCopy.{answer_of, answered_on, changes_in, has_piece};
 ghost use Rattle.actor_parts.specs.PrivateCopy.{holds_call, locations_in};
 ghost use Rattle.actor_parts.specs.Accepts.{PutsBack};
 ghost use Rattle.seq_model.specs.declared.event.Event.{Event};
@@ -61,7 +62,8 @@ pub fn copies_follow<V: Value>()
     ensures accepted { (b : Block) (f k : ℕ) (x : Shadow (Shown V) (CallWithOutcome V)) (c d : PrivateCopy V) (o : Outcome V) →
         IsCopied b f k x c → holds_call c o.op ≡ true → answer_of c o.op ≡ Some o → IsAccepted o c d →
         IsCopied b f k (longer x (answered_on k o.op o)) d }
-    ensures learnt { (b : Block) (s : Shown V) (changes : List (Change V)) (locations : List ℕ) (c d : PrivateCopy V) (op : Op V) (t : Touch V) →
+    ensures learnt { (b : Block) (s : Shown V) (changes : List (Change V)) (locations : List ℕ) (c d : PrivateCopy V) (op : Op V)
+        (t : Touch V) →
         0 < b.stripes → IsOf b s changes locations c → summed_by b.stripes op s ≡ Some t.held → IsLearnt t c d →
         IsOf b s changes locations d }
     ensures pieces { (m : MemoView V) (es : Room ℕ) (op : Op V) (o : Outcome V) → outcome_of op (shown_of m.blank) ≡ Some o →
@@ -82,7 +84,8 @@ pub fn logs_as_worlds<V: Value>()
     ensures within { (k : ℕ) (b : Block) (outcomes : List (CallWithOutcome V)) (base : Base V) → 0 < b.stripes → IsBaseOf b base →
         All (λ i. i < locations_of (stripes_of base) (shown_of base)) (log_locations k b outcomes) }
     ensures editions { (blocks : List Block) (clock : ℕ) (values : List ℕ) (held : List (Held V)) (events : List (Event V)) (k : ℕ)
-        (b : Block) (outcomes : List (CallWithOutcome V)) (base : Base V) → HaveStripes blocks → Suit blocks held → block_of blocks k ≡ Some b →
+        (b : Block) (outcomes : List (CallWithOutcome V)) (base : Base V) → HaveStripes blocks → Suit blocks held
+        → block_of blocks k ≡ Some b →
         let w = run (opened blocks clock values held) events in
         ShowsBase (length values) blocks w k base →
         All (λ i. slice_index (editions_of base) i ≤ w.boosted.words.clock) (log_locations k b outcomes) }

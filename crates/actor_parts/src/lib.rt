@@ -5,9 +5,9 @@
 //! - Of each collection that its calls touched the transaction has a *copy*, with the changes of its accepted calls. A call on a copy is
 //!   *weighed* before anything is read for it: its outcome, the locations that are to be judged, the writes of its acceptance
 //!   ([`copy_laws`]). A large value that goes from function to function moves as a pointer ([`Boxed`]).
-//! - The [`Table`] of a world on one thread has its words, the gates of its collections, and their bases. An actor's step is a load, a store,
-//!   a compare_exchange or a fetch_add of one word of it, or an exchange of one gate with its base. The contracts say so of every world of
-//!   the definitions that has this table.
+//! - The [`Table`] of a world on one thread has its words, the gates of its collections, and their bases. An actor's step is a load, a
+//!   store, a compare_exchange or a fetch_add of one word of it, or an exchange of one gate with its base. The contracts say so of every
+//!   world of the definitions that has this table.
 #![tactic(auto)]
 
 mod auditing;

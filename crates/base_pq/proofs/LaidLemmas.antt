@@ -3,7 +3,8 @@ use Rattle.std.proofs.Common.{◌≡◌, ◌≢◌, ℕ, Bool, zero, suc, ◌-�
 use Rattle.std.proofs.Common.{Option, Some, None, unwrap_or, refl, sym, ap, subst, ◌∙◌, arith}
 use Rattle.std.specs.Cmp.{nat_cmp_total}
 use Rattle.std.specs.Ordering.{nat_cmp, eq_by_cmp}
-use Rattle.std.specs.FinMap.{find, entries, entries_sorted, from_sorted, get, insert, remove, empty, get-empty, get-entries, get-insert, get-remove}
+use Rattle.std.specs.FinMap.{find, entries, entries_sorted, from_sorted, get, insert}
+use Rattle.std.specs.FinMap.{remove, empty, get-empty, get-entries, get-insert, get-remove}
 use Rattle.std.specs.FinMap.{same_entries_map, same_map, nat_cmp-IsAntisymmetric}
 use Rattle.std.proofs.lemmas.Bool.Decides.{nat_tests}
 use Rattle.seq_model.specs.Counts.{Multiset, HasNoZero, copies, with_copies, least}

@@ -4,7 +4,8 @@
 -- there are together no less than what was free, and all that is free and all that has been taken fit into the list. So where there was
 -- room for all changes, a place is free for the next one. Then each gives its place back, and as many are free in a stripe as were left
 -- there and have been given back: as many as changes fall on it, at least.
-use Rattle.std.proofs.Common.{◌≡◌, ◌≢◌, ℕ, zero, suc, ◌+◌, ◌-◌, ◌<◌, ◌≤◌, true, false, cond, nat_eq, List, [], ◌∷◌, length, get_or, set, sum, sum_by}
+use Rattle.std.proofs.Common.{◌≡◌, ◌≢◌, ℕ, zero, suc, ◌+◌, ◌-◌, ◌<◌, ◌≤◌, true, false}
+use Rattle.std.proofs.Common.{cond, nat_eq, List, [], ◌∷◌, length, get_or, set, sum, sum_by}
 use Rattle.std.proofs.Common.{drop, take, is_err, IsOk, OnOk, Result, Ok, Err, Option, Some, None, refl, sym, ap, subst, ◌∙◌, arith}
 use Rattle.std.proofs.lemmas.Bool.Decides.{nat_tests}
 use Rattle.std.proofs.lemmas.List.{get_or-set_same, get_or-set_other}

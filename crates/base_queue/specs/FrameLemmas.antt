@@ -29,7 +29,8 @@ use Rattle.conflict.specs.Rules.{ReadsLocations, ViewsDecide}
 use Rattle.conflict.specs.Commute.{commute}
 use Rattle.conflict.specs.Places.{in_single, first_of_two, second_of_two, of_none, of_single, of_two, mod_below, same_key, key_itself}
 use Rattle.conflict.specs.Footprints.{queue_reads, queue_writes, cell_location}
-use Rattle.base_queue.specs.Conflicts.{Shown, outcome_of, reads_of, changes_by, changes_of, look, point_location, cells_from, queue_view, view_of}
+use Rattle.base_queue.specs.Conflicts.{Shown, outcome_of, reads_of, changes_by, changes_of}
+use Rattle.base_queue.specs.Conflicts.{look, point_location, cells_from, queue_view, view_of}
 use Rattle.base_queue.specs.Conflicts.{rules}
 
 -- ---- cells
@@ -132,7 +133,8 @@ other_cell n k q x un =
 enqueued : (n l t x : ℕ) (s : Shown) → ¬ Contains (1 ∷ cell_location n t ∷ []) l
     → Same n l s (record { cells = insert s.cells t x; head = s.head; tail = t + 1 })
 enqueued n l t x s un zero on = refl
-enqueued n l t x s un (suc zero) on = absurd (un (subst (λ y. Contains (1 ∷ cell_location n t ∷ []) y) on (first_of_two 1 (cell_location n t))))
+enqueued n l t x s un (suc zero) on = absurd (un (subst (λ y. Contains (1 ∷ cell_location n t ∷ []) y) on
+    (first_of_two 1 (cell_location n t))))
 enqueued n l t x s un (suc (suc q)) on =
     let other = other_cell n t q 1 (subst (λ y. ¬ Contains (1 ∷ cell_location n t ∷ []) y) (sym on) un) in
     sym (get-insert nat_cmp_total s.cells t x q ∙ ap (λ b. cond b (Some x) (get s.cells q)) other)

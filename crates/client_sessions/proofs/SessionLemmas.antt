@@ -53,7 +53,8 @@ use Rattle.client_sessions.specs.Sessions as ask
 use Rattle.client_sessions.specs.Laws.{EndsAsAction, NeverGivesUp, AsksLegalCalls}
 use Rattle.seq_model.proofs.ProgramLemmas.{followed_run}
 use Rattle.client_sessions.proofs.HoldingLemmas.{run_get_item, run_put_item, run_remove_item, run_get_customer, run_put_customer}
-use Rattle.client_sessions.proofs.HoldingLemmas.{run_remove_customer, got_ticket, run_remove_ticket, got_first, run_dequeue, run_give_ticket}
+use Rattle.client_sessions.proofs.HoldingLemmas.{run_remove_customer, got_ticket, run_remove_ticket}
+use Rattle.client_sessions.proofs.HoldingLemmas.{got_first, run_dequeue, run_give_ticket}
 
 -- ---- sound entries pass the session's tests
 
@@ -411,7 +412,8 @@ both_ways : {A B : Type 0} (c : Bool) {a1 a2 : A} {b1 b2 : B} (E : A → B → T
 both_ways c {a1} {a2} {b1} {b2} E then other = elim c as (λ t. c ≡ t → E (cond t a1 a2) (cond t b1 b2)) [ true ↦ then | false ↦ other ] refl
 
 -- the program does the same
-decided_run : (c units : ℕ) (k : Kind) (o : Option (ℕ × Item)) (who : Customer) (next : KindReply → Customer → ask.SessionProgram) (t : Holdings)
+decided_run : (c units : ℕ) (k : Kind) (o : Option (ℕ × Item)) (who : Customer) (next : KindReply → Customer
+    → ask.SessionProgram) (t : Holdings)
     → (queue k t).head + length (queue k t).tickets ≤ t.next → t.next ≤ TICKET_LIMIT
     → run (ask.decide c units k o who next) (state_of t)
     ≡ run (next (part_of who units t.next k o) (after_of units k o (part_of who units t.next k o) who))

@@ -264,7 +264,8 @@ module _ {V : Type 0} (P : Refusal → Type 0) (a : ℕ) where
   )
   judges_fine u x o d es next (Some v) now e h = fresh_fine u x d v next (e v refl) h
 
-  loads_fine : (es : Entries) (u : World V) (x : Seat V) (o : CallWithOutcome V) → AllNow u.boosted.editions es → ArePlain u.words u.blocks es
+  loads_fine : (es : Entries) (u : World V) (x : Seat V) (o : CallWithOutcome V) → AllNow u.boosted.editions es
+      → ArePlain u.words u.blocks es
       → SetsNow u
       → Fine (loads u a x o es)
   loads_fine [] u x o now pl sets = (seated_fine (acted u (Accept a o.asked ∷ [])) (with_call x (call_of o) (reply_of o)) tt, tt)
@@ -282,7 +283,8 @@ module _ {V : Type 0} (P : Refusal → Type 0) (a : ℕ) where
       (λ _. loads_fine (with_editions editions (c.reads o)) u x o now pl sets)
       (λ _. (seated_fine u (at_stage before Open) tt, λ h. absurd h))
 
-  calls_on_fine : (u : World V) (x : Seat V) (asked : CollectionCall V) → Linked u → AloneIn u.boosted a → (actor_of u a).place ≡ machine.Open
+  calls_on_fine : (u : World V) (x : Seat V) (asked : CollectionCall V) → Linked u → AloneIn u.boosted a
+      → (actor_of u a).place ≡ machine.Open
       → Live u.words u.blocks x (actor_of u a) (u.boosted.shadows a) → KnownAsk u.blocks (actor_of u a) asked → Fine (calls_on u a x asked)
   calls_on_fine u x asked k h e live known =
       let c = content u.words u.blocks in
@@ -575,7 +577,8 @@ module _ {V : Type 0} (P : Refusal → Type 0) (a : ℕ) where
         subst (λ (y : Actor). AloneOk t.words.locks y) (sym same) (subst (λ f. AloneOk f (s.words.actors a)) (sym g.locks) h.words);
     gates = subst (OnlyOf a) (sym g.gates) h.gates;
     copied = λ m.
-        subst (λ (z : Shadow (Shown V) (CallWithOutcome V)). (l : ℕ) → z.copied l ≡ true → z.editions l ≡ t.editions l) (sym (g.shadows a ne))
+        subst (λ (z : Shadow (Shown V) (CallWithOutcome V)). (l : ℕ) → z.copied l ≡ true
+        → z.editions l ≡ t.editions l) (sym (g.shadows a ne))
         (subst (λ (f : ℕ → ℕ). (l : ℕ) → (s.shadows a).copied l ≡ true → (s.shadows a).editions l ≡ f l) (sym g.editions)
         (h.copied (subst (λ (y : Actor). MakesCalls y.place) same m)));
   }

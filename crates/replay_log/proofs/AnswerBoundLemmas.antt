@@ -1,7 +1,8 @@
 -- A request that is under way is answered within 1,000,000 steps of its actor. What a step or a failed allocation answers leaves its actor
 -- idle, where nothing is left; what answers nothing is bounded, as a request is asked, and from then on by what it was before. So no
 -- request is ever further off than that, and each own step that answers nothing brings it nearer.
-use Rattle.std.proofs.Common.{◌≡◌, ℕ, zero, suc, ◌+◌, ◌<◌, ◌≤◌, Bool, true, false, cond, ◌&&◌, List, [], ◌∷◌, ◌++◌, length, Option, Some, None}
+use Rattle.std.proofs.Common.{◌≡◌, ℕ, zero, suc, ◌+◌, ◌<◌, ◌≤◌, Bool, true, false}
+use Rattle.std.proofs.Common.{cond, ◌&&◌, List, [], ◌∷◌, ◌++◌, length, Option, Some, None}
 use Rattle.std.proofs.Common.{◌⊎◌, inl, inr, refl, sym, subst, arith, eqb, eq-eqb, ne_eqb}
 use Rattle.std.specs.Prelude.{nat_lt}
 use Rattle.std.proofs.lemmas.Bool.{cond-true, cond-false, cases_eq}
@@ -29,7 +30,8 @@ use Rattle.replay_log.specs.Pieces.{piece_at, covers_at}
 use Rattle.replay_log.specs.Worlds.{World, Seat, Stage, Idle, Beginning, Open, Locking, Releasing, Closing, Cancelling, Leaving, Reading}
 use Rattle.replay_log.specs.Worlds.{Trying, Copying, Loading, Gating, Ready, Storing, Homing, Returning, After, has_room, with_editions}
 use Rattle.replay_log.specs.Worlds.{at_stage, because, no_one, acted, asks, moves, actor_of, word_notice, gives_up, with_call, call_of}
-use Rattle.replay_log.specs.Worlds.{reply_of, reads, outcome_at, is_fresh, judges, loads, answers, calls_on, if_allowed, ask_op, commits, ask_at}
+use Rattle.replay_log.specs.Worlds.{reply_of, reads, outcome_at, is_fresh, judges, loads}
+use Rattle.replay_log.specs.Worlds.{answers, calls_on, if_allowed, ask_op, commits, ask_at}
 use Rattle.replay_log.specs.Worlds.{recorded, has_begun, has_read, has_tried, with_piece, sized_by, has_loaded, takes_gates, has_locked}
 use Rattle.replay_log.specs.Worlds.{goes_home, has_stored, has_released, has_cancelled, step_at, starve_at, happens, run, opened}
 use Rattle.replay_log.specs.WorldProgress as measure

@@ -93,7 +93,8 @@ module _ {V : Type 0} where
   loads_no [] u a x o = λ q. q
   loads_no (d ∷ es) u a x o = judges_no u a x o d es (loads u a x o es) (lookup (actor_of u a).reads d.0) (loads_no es u a x o)
 
-  calls_on_keeps : (w : World V) (a : ℕ) (x : Seat V) (asked : CollectionCall V) → w.seats a ≡ x → x.stage ≡ Open → Keeps w (calls_on w a x asked)
+  calls_on_keeps : (w : World V) (a : ℕ) (x : Seat V) (asked : CollectionCall V) → w.seats a ≡ x → x.stage ≡ Open
+      → Keeps w (calls_on w a x asked)
   calls_on_keeps w a x asked seat at =
       let c = content w.words w.blocks in
       let o = outcome_at w a asked in

@@ -39,7 +39,8 @@ use Rattle.tx_machine.specs.Boosted.{Boosted, PutGate, Accept, is_open, is_commi
 use Rattle.tx_machine.specs.Boosted.{is_copied, may_write, copied, gated, longer, accepted, changes, acts}
 use Rattle.replay_log.specs.Base.{Shown, OfMap, outcome_of, reads_of, writes_of}
 use Rattle.replay_log.specs.Parts.{Kind, MapKind, BagKind, PqKind, QueueKind, whole}
-use Rattle.replay_log.specs.Contents.{Block, CollectionCall, CallWithOutcome, block_of, first_of, end_of, home_of, is_plain, HaveStripes, shifted, blank}
+use Rattle.replay_log.specs.Contents.{Block, CollectionCall, CallWithOutcome, block_of, first_of, end_of}
+use Rattle.replay_log.specs.Contents.{home_of, is_plain, HaveStripes, shifted, blank}
 use Rattle.replay_log.specs.Contents.{seen, answer, reads_in, writes_in, content}
 use Rattle.replay_log.specs.Pieces.{Piece, Entry, Counts, Whole, is_piece, piece_of, piece_in, covers, covers_in, piece_at, covers_at}
 use Rattle.replay_log.specs.Worlds.{World, Seat, Open, Trying, Loading, After, has_room, is_change, with_editions, at_stage, because}
@@ -348,7 +349,8 @@ module _ {V : Type 0} where
       choose (eqb d.1 v) next _ (λ q. h (eqb-true d.1 v q)) (λ _. cancels_linked u a (because x (refusal.Stale d.0 d.1 v)) y z g k none
       (subst CanLeave (sym e) tt) tx)
 
-  judges_linked : (u : World V) (a : ℕ) (x : Seat V) (y : Actor) (z : Copy V) (g : ℕ → Bool) (o : CallWithOutcome V) (d : ℕ × ℕ) (es : Entries)
+  judges_linked : (u : World V) (a : ℕ) (x : Seat V) (y : Actor) (z : Copy V) (g : ℕ
+      → Bool) (o : CallWithOutcome V) (d : ℕ × ℕ) (es : Entries)
       (next : After V)
       (r : Option ℕ) → At u a y z g → ((k : ℕ) → g k ≡ false)
       → y.place ≡ machine.Open → Live u.words u.blocks x y z → LoadOk u.words u.blocks y z o (d ∷ es) → lookup y.reads d.0 ≡ r
@@ -419,7 +421,8 @@ module _ {V : Type 0} where
     left_read n bs y z l v es h.3,
   )
 
-  load_read : (n : ℕ) (bs : List Block) (y : Actor) (z : Copy V) (o : CallWithOutcome V) (d : ℕ × ℕ) (es : Entries) (v : ℕ) → touched y.calls d.0
+  load_read : (n : ℕ) (bs : List Block) (y : Actor) (z : Copy V) (o : CallWithOutcome V) (d : ℕ × ℕ) (es : Entries) (v : ℕ)
+      → touched y.calls d.0
       ≡ false → LoadOk n bs y z o (d ∷ es) → LoadOk n bs (machine.has_read y d.0 v) z o es
   load_read n bs y z o d es v un h = record {
     is = h.is;

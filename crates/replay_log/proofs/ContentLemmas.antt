@@ -16,7 +16,8 @@ use Rattle.tx_machine.specs.Content.{Frame, IsIn, has}
 use Rattle.tx_machine.proofs.Parts.{in_has, out_has}
 use Rattle.replay_log.specs.Base.{Shown, after, changes_of, outcome_of, reads_of, writes_of}
 use Rattle.replay_log.specs.Parts.{Kind, MapKind, BagKind, PqKind, QueueKind, part, whole}
-use Rattle.replay_log.specs.Contents.{Block, size_by, size, block_of, first_of, end_of, home_of, is_plain, HaveStripes, shifted, CallWithOutcome}
+use Rattle.replay_log.specs.Contents.{Block, size_by, size, block_of, first_of, end_of}
+use Rattle.replay_log.specs.Contents.{home_of, is_plain, HaveStripes, shifted, CallWithOutcome}
 use Rattle.replay_log.specs.Contents.{blank, seen, answer, reads_in, writes_in, changed, content}
 use Rattle.replay_log.proofs.PartLemmas.{answers_by_parts, knows_its_calls, parts_by_part}
 

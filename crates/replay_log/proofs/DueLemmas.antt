@@ -61,7 +61,8 @@ module _ {V : Type 0} where
   fresh_on : (u : World V) (a : ℕ) (x : Seat V) (d : ℕ × ℕ) (v : ℕ) (next : After V) → GoesOn a next → GoesOn a (is_fresh u a x d v next)
   fresh_on u a x d v next h = choose_on a (eqb d.1 v) next _ h (gives_up_on u a (because x (refusal.Stale d.0 d.1 v)) [])
 
-  judges_on : (u : World V) (a : ℕ) (x : Seat V) (o : CallWithOutcome V) (d : ℕ × ℕ) (es : Entries) (next : After V) (r : Option ℕ) → GoesOn a next
+  judges_on : (u : World V) (a : ℕ) (x : Seat V) (o : CallWithOutcome V) (d : ℕ × ℕ) (es : Entries) (next : After V) (r : Option ℕ)
+      → GoesOn a next
       → GoesOn a (judges u a x o d es next r)
   judges_on u a x o d es next None h = λ _. seated_busy (acted u (asks a (word.AskRead d.0) ∷ [])) a (at_stage x (Loading o (d ∷ es)))
       (λ g. g)

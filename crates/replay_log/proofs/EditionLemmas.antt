@@ -37,7 +37,8 @@ use Rattle.tx_machine.proofs.BoostedQuiet.{saw_open}
 use Rattle.tx_machine.proofs.BoostedSchedules.{all_keeps, all_ok, all_saw, all-opening, edition_read, legal_parts, opens_ok}
 use Rattle.tx_machine.proofs.SequentialRuns as stated
 use Rattle.replay_log.specs.Base.{Shown, OfMap, OfBag, OfPq, OfQueue, outcome_of}
-use Rattle.replay_log.specs.Contents.{Block, CollectionCall, CallWithOutcome, HaveStripes, answer, block_of, content, first_of, is_plain, reads_in, writes_in}
+use Rattle.replay_log.specs.Contents.{Block, CollectionCall, CallWithOutcome, HaveStripes, answer, block_of}
+use Rattle.replay_log.specs.Contents.{content, first_of, is_plain, reads_in, writes_in}
 use Rattle.replay_log.specs.Collections.{Suit, shown_at}
 use Rattle.replay_log.specs.Worlds.{World, Seat, Stage, Open, Locking, Closing, Cancelling, Leaving, Reading}
 use Rattle.replay_log.specs.Worlds.{Trying, Copying, Loading, Gating, Ready, Returning, run, opened}
@@ -115,7 +116,8 @@ module _ {V : Type 0} where
   word_stays op t s h = absurd (true≢false (sym h))
 
   -- ---- a transaction, along its calls and along the machine's outcomes
-  record Along (n : ℕ) (bs : List Block) (l : ℕ) (done : List (Call V × Reply V)) (os : List (CallWithOutcome V)) (s : Contents V) : Type 0 where
+  record Along (n : ℕ) (bs : List Block) (l : ℕ) (done : List (Call V × Reply V)) (os : List (CallWithOutcome V)) (s : Contents V) : Type
+      0 where
     writes : is_written_by n bs l done s ≡ does_write (content n bs) l os
     reads : IsReadBy n bs l done s → IsRead (content n bs) l os
     held : (after_calls done s).held ≡ runs_on.after_calls s.held os
@@ -137,10 +139,12 @@ module _ {V : Type 0} where
     shows_same v hs gs e h l = h l ∙ ap (λ (fs : List (Held V)). shown_at n bs fs l) (sym e)
 
     abbrev Goes : ℕ → List (Call V × Reply V) → Type 0
-    Goes l done = (os : List (CallWithOutcome V)) (s : Contents V) (v : ℕ → Shown V) → Told (on_held done) os → Suit bs s.held → Shows v s.held
+    Goes l done = (os : List (CallWithOutcome V)) (s : Contents V) (v : ℕ → Shown V) → Told (on_held done) os → Suit bs s.held
+        → Shows v s.held
         → AreLegal c v os → Along n bs l done os s
 
-    on_word : (l : ℕ) (d : Call V × Reply V) (done : List (Call V × Reply V)) (os : List (CallWithOutcome V)) (s : Contents V) (v : ℕ → Shown V)
+    on_word : (l : ℕ) (d : Call V × Reply V) (done : List (Call V × Reply V)) (os : List (CallWithOutcome V)) (s : Contents V) (v : ℕ
+        → Shown V)
         → Goes l done → is_on_word d ≡ true → Told (on_held done) os → Suit bs s.held → Shows v s.held → AreLegal c v os
         → Along n bs l (d ∷ done) os s
     on_word l d done os s v go is t fit h g =
@@ -154,7 +158,8 @@ module _ {V : Type 0} where
           held = rest.held ∙ ap (λ (hs : List (Held V)). runs_on.after_calls hs os) stays;
         }
 
-    on_one : (l : ℕ) (d : Call V × Reply V) (done : List (Call V × Reply V)) (os : List (CallWithOutcome V)) (s : Contents V) (v : ℕ → Shown V)
+    on_one : (l : ℕ) (d : Call V × Reply V) (done : List (Call V × Reply V)) (os : List (CallWithOutcome V)) (s : Contents V) (v : ℕ
+        → Shown V)
         → Goes l done → is_on_word d ≡ false → Told (d ∷ on_held done) os → Suit bs s.held → Shows v s.held → AreLegal c v os
         → Along n bs l (d ∷ done) os s
     on_one l d done [] s v go isnt t fit h g = absurd t

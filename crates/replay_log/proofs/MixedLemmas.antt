@@ -178,7 +178,8 @@ module _ {V : Type 0} where
   Told (c ∷ cs) (o ∷ os) = (c.0 ≡ worlds.call_of o) × (option_map (λ r. r.reply) o.outcome ≡ Some c.1) × Told cs os
   Told cs os = ⊥
 
-  pub Told-push : (cs : List (Call V × Reply V)) (os : List (CallWithOutcome V)) (c : Call V × Reply V) (o : CallWithOutcome V) → Told cs os → c.0
+  pub Told-push : (cs : List (Call V × Reply V)) (os : List (CallWithOutcome V)) (c : Call V × Reply V) (o : CallWithOutcome V)
+      → Told cs os → c.0
       ≡ worlds.call_of o
       → option_map (λ r. r.reply) o.outcome ≡ Some c.1 → Told (cs ++ c ∷ []) (os ++ o ∷ [])
   Told-push [] [] c o h e g = (e, g, tt)
@@ -362,7 +363,8 @@ module _ {V : Type 0} where
       (record s { words = set s.words l v }) Done
       (write_answers n hs m s l v a w.0)).0
 
-  mixed_after : (n : ℕ) (done : List (Call V × Reply V)) (vs : List machine.Call) (os : List (CallWithOutcome V)) (hs : List (Held V)) (m : Memory)
+  mixed_after : (n : ℕ) (done : List (Call V × Reply V)) (vs : List machine.Call) (os : List (CallWithOutcome V)) (hs : List (Held V))
+      (m : Memory)
       (s : Contents V) → Agrees n hs m s → Within n vs
       → on_words done ≡ map pair_of vs → Told (on_held done) os → Agrees n (collections.after_calls hs os) (after m vs) (after_calls done s)
   unfolding after
@@ -383,7 +385,8 @@ module _ {V : Type 0} where
             (held_after n hs m s c.0 o a isnt is_c).1 w e2 t2)
       ]
 
-  mixed_legal : (n : ℕ) (done : List (Call V × Reply V)) (vs : List machine.Call) (os : List (CallWithOutcome V)) (hs : List (Held V)) (m : Memory)
+  mixed_legal : (n : ℕ) (done : List (Call V × Reply V)) (vs : List machine.Call) (os : List (CallWithOutcome V)) (hs : List (Held V))
+      (m : Memory)
       (s : Contents V) → Agrees n hs m s → Within n vs
       → on_words done ≡ map pair_of vs → Told (on_held done) os → IsLegal m vs → AreReplies hs os → AreLegal done s
   mixed_legal n [] vs os hs m s a w e t g r = tt
@@ -451,7 +454,8 @@ module _ {V : Type 0} where
       place : (i j : ℕ) (b d : Bool) (a e : ℕ) → Bool
       place i j b d a e = cond (nat_lt i j) true (cond (nat_lt j i) false (cond b true (cond d false (nat_lt a e))))
 
-  pub insert_same : (n : ℕ) (r : ℕ × Record V) (q : Committed (CallWithOutcome V)) (rs : List (ℕ × Record V)) (qs : List (Committed (CallWithOutcome V)))
+  pub insert_same : (n : ℕ) (r : ℕ × Record V) (q : Committed (CallWithOutcome V)) (rs : List (ℕ × Record V))
+      (qs : List (Committed (CallWithOutcome V)))
       → SameRecord n r q → SameRecords n rs qs
       → SameRecords n (insert_record r rs) (insert_commit q qs)
   unfolding insert_commit
@@ -467,7 +471,8 @@ module _ {V : Type 0} where
         | false ↦ (g.0, insert_same n r q rs qs h g.1)
       ])
 
-  pub written_too : (n k : ℕ) (rs : List (ℕ × Record V)) (qs : List (Committed (CallWithOutcome V))) → SameRecords n rs qs → HasNumber k (words qs)
+  pub written_too : (n k : ℕ) (rs : List (ℕ × Record V)) (qs : List (Committed (CallWithOutcome V))) → SameRecords n rs qs
+      → HasNumber k (words qs)
       → HasWritten k rs
   written_too n k [] [] g h = absurd h
   written_too n k [] (q ∷ qs) g h = absurd g
@@ -506,7 +511,8 @@ module _ {V : Type 0} where
             ]
           ]
 
-  none_before : (n : ℕ) (r : ℕ × Record V) (q : Committed (CallWithOutcome V)) (rs : List (ℕ × Record V)) (qs : List (Committed (CallWithOutcome V)))
+  none_before : (n : ℕ) (r : ℕ × Record V) (q : Committed (CallWithOutcome V)) (rs : List (ℕ × Record V))
+      (qs : List (Committed (CallWithOutcome V)))
       → SameRecord n r q
       → SameRecords n rs qs
       → AllFrom q.word (words qs) → NoneComesBefore r rs
@@ -514,7 +520,8 @@ module _ {V : Type 0} where
   none_before n r q (x ∷ rs) [] h g o = absurd g
   none_before n r q (x ∷ rs) (y ∷ qs) h g o = (late n r x q y h g.0 o.0, none_before n r q rs qs h g.1 o.1)
 
-  pub order_too : (n : ℕ) (rs : List (ℕ × Record V)) (qs : List (Committed (CallWithOutcome V))) → SameRecords n rs qs → IsInOrder (words qs)
+  pub order_too : (n : ℕ) (rs : List (ℕ × Record V)) (qs : List (Committed (CallWithOutcome V))) → SameRecords n rs qs
+      → IsInOrder (words qs)
       → IsInCommitOrder rs
   order_too n [] qs g o = tt
   order_too n (r ∷ rs) [] g o = absurd g
@@ -533,7 +540,8 @@ module _ {V : Type 0} where
       runs_agree n rs qs (collections.after_calls hs q.outcomes) (after m q.word.calls) (after_calls x.1.calls s)
       (both_after n x.1.calls q.word.calls q.outcomes hs m s a g.0.parts) g.1
 
-  pub run_too : (n : ℕ) (rs : List (ℕ × Record V)) (qs : List (Committed (CallWithOutcome V))) (hs : List (Held V)) (m : Memory) (s : Contents V)
+  pub run_too : (n : ℕ) (rs : List (ℕ × Record V)) (qs : List (Committed (CallWithOutcome V))) (hs : List (Held V)) (m : Memory)
+      (s : Contents V)
       → Agrees n hs m s
       → SameRecords n rs qs
       → IsRun m (words qs) → IsRunOn hs qs → IsRunOf rs s

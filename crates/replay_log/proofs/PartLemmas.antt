@@ -27,7 +27,8 @@ use Rattle.base_queue.specs.Conflicts as queue
 use Rattle.base_queue.specs.FrameLemmas as queue_laws
 use Rattle.replay_log.specs.Base.{Shown, OfMap, OfBag, OfPq, OfQueue}
 use Rattle.replay_log.specs.Parts.{kept, joined, MapKind, BagKind, PqKind, QueueKind, Kind, as_map, as_bag, as_pq, as_queue, whole, IsWhole}
-use Rattle.replay_log.specs.Parts.{AnswersByParts, KnowsItsCalls, LeavesOtherParts, ChangesByPart, DisjointChangesCommute, ChangesAreWithinWrites}
+use Rattle.replay_log.specs.Parts.{AnswersByParts, KnowsItsCalls, LeavesOtherParts}
+use Rattle.replay_log.specs.Parts.{ChangesByPart, DisjointChangesCommute, ChangesAreWithinWrites}
 use Rattle.replay_log.specs.Contents.{size_by}
 use Rattle.replay_log.proofs.JoinLemmas.{get_kept, get_joined}
 
@@ -140,7 +141,8 @@ queue_none zero = Some 0
 queue_none (suc zero) = Some 0
 queue_none (suc (suc index)) = None
 
-queue_look_one : (n l : ℕ) (s : queue.Shown) (q : ℕ) → queue.look (queue_one n l s) q ≡ cond (eqb (queue.point_location n q) l) (queue.look s q)
+queue_look_one : (n l : ℕ) (s : queue.Shown) (q : ℕ)
+    → queue.look (queue_one n l s) q ≡ cond (eqb (queue.point_location n q) l) (queue.look s q)
     (queue_none q)
 queue_look_one n l s zero = some_if (eqb head_location l) s.head 0
 queue_look_one n l s (suc zero) = some_if (eqb tail_location l) s.tail 0

@@ -248,7 +248,8 @@ module _ {V : Type 0} where
       choose_near a m (eqb d.1 v) next _ (λ _. near)
       (λ _ q. cancels_near u a (because x (refusal.Stale d.0 d.1 v)) y z g m k (subst CanLeave (sym e) tt) h)
 
-  judges_nears : (u : World V) (a : ℕ) (x : Seat V) (y : Actor) (z : Copy V) (g : ℕ → Bool) (o : CallWithOutcome V) (d : ℕ × ℕ) (es : Entries)
+  judges_nears : (u : World V) (a : ℕ) (x : Seat V) (y : Actor) (z : Copy V) (g : ℕ
+      → Bool) (o : CallWithOutcome V) (d : ℕ × ℕ) (es : Entries)
       (m : ℕ)
       (next : After V) (r : Option ℕ) → At u a y z g → y.place ≡ machine.Open
       → length y.held + 1 < m → 3 * length (new_in y.reads (locations (d ∷ es))) + 1 < m → lookup y.reads d.0 ≡ r
@@ -591,7 +592,8 @@ module _ {V : Type 0} where
       (λ _. choose_near a 1000000 (nat_lt (length x.calls) CALL_LIMIT && room) next _ (λ _. h) (λ _ q. absurd q))
       (λ _ q. absurd q)
 
-  calls_few : (w : World V) (a : ℕ) (x : Seat V) (asked : CollectionCall V) → AreSmall w.blocks → (w.boosted.words.actors a).place ≡ machine.Open
+  calls_few : (w : World V) (a : ℕ) (x : Seat V) (asked : CollectionCall V) → AreSmall w.blocks
+      → (w.boosted.words.actors a).place ≡ machine.Open
       → Linked w → IsFew w a (calls_on w a x asked)
   calls_few w a x asked small e k =
       let y = w.boosted.words.actors a in

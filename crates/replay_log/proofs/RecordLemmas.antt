@@ -226,7 +226,8 @@ module _ {V : Type 0} where
   has_read_begins u a x l (told.Moved i found) e h = gives_up_begins u a (because x (refusal.Moved i found)) []
   has_read_begins u a x l n e h = stays u a AtAhead x e h
 
-  has_loaded_begins : (u : World V) (a : ℕ) (x : Seat V) (o : CallWithOutcome V) (d : ℕ × ℕ) (es : Entries) (n : told.Notice) → u.seats a ≡ x
+  has_loaded_begins : (u : World V) (a : ℕ) (x : Seat V) (o : CallWithOutcome V) (d : ℕ × ℕ) (es : Entries) (n : told.Notice)
+      → u.seats a ≡ x
       → IsAhead x.stage
       → Begins a u (has_loaded u a x o d es n)
   has_loaded_begins u a x o d es (told.Number v) e h = fresh_begins u a x d v (loads u a x o es) (loads_begins es u a x o)

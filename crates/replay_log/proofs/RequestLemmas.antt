@@ -159,7 +159,8 @@ all_other : {X Op Out : Type 0} → (c : Content X Op Out) (a b : ℕ) → (b �
 all_other c a b ne [] s own = refl
 all_other c a b ne (e ∷ es) s own = all_other c a b ne es (acts c s e) own.1 ∙ own_other c a b ne s e own.0
 
-act_all-append : {V : Type 0} → (w : ℕ) (bs : List Block) (es fs : List (Action (CollectionCall V))) (s : Boosted (Shown V) (CallWithOutcome V))
+act_all-append : {V : Type 0} → (w : ℕ) (bs : List Block) (es fs : List (Action (CollectionCall V)))
+    (s : Boosted (Shown V) (CallWithOutcome V))
     → act_all (content w bs) (es ++ fs) s ≡ act_all (content w bs) fs (act_all (content w bs) es s)
 act_all-append w bs [] fs s = refl
 act_all-append w bs (e ∷ es) fs s = act_all-append w bs es fs (acts (content w bs) s e)
@@ -226,7 +227,8 @@ module _ {V : Type 0} where
   judges_by v u a x o d es next None g h = one_by v u a _ (asks a (word.AskRead d.0)) refl g
   judges_by v u a x o d es next (Some i) g h = fresh_by v u a x d i next g h
 
-  loads_by : (v u : World V) (a : ℕ) (x : Seat V) (o : CallWithOutcome V) (es : Entries) → ReachedBy a v u → ReachedBy a v (loads u a x o es).0
+  loads_by : (v u : World V) (a : ℕ) (x : Seat V) (o : CallWithOutcome V) (es : Entries) → ReachedBy a v u
+      → ReachedBy a v (loads u a x o es).0
   loads_by v u a x o [] g = one_by v u a _ (Accept a o.asked) refl g
   loads_by v u a x o (d ∷ es) g = judges_by v u a x o d es (loads u a x o es) (lookup (actor_of u a).reads d.0) g (loads_by v u a x o es g)
 

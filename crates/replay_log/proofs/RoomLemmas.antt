@@ -83,7 +83,8 @@ module _ {V : Type 0} where
       u.boosted.editions in
       subst (λ (st : Stage V). IsTooLongUnless a (has_room (actor_of w a) (c.reads o) (c.writes o)) (step_at w a x st).1) (sym at)
       (subst (λ (y : Actor). IsTooLongUnless a (has_room y (c.reads o) (c.writes o)) (has_copied u a x asked).1) same
-      (subst (λ (s : CallWithOutcome V). IsTooLongUnless a (has_room (actor_of u a) (c.reads s) (c.writes s)) (has_copied u a x asked).1) is room))
+      (subst (λ (s : CallWithOutcome V). IsTooLongUnless a (has_room (actor_of u a) (c.reads s) (c.writes s)) (has_copied u a x asked).1)
+      is room))
 
   -- what is found in the world in which the gate is put back
   put_finds : (w : World V) (a : ℕ) (asked : CollectionCall V) (b : Bool)

@@ -252,7 +252,8 @@ module _ {V : Type 0} where
   SameEnded n (e ∷ es) (f ∷ fs) = (e.rv ≡ f.word.rv) × Parts n e.calls f.word.calls f.outcomes × SameEnded n es fs
   SameEnded n es fs = ⊥
 
-  pub SameEnded-push : (n : ℕ) (es : List (Ended V)) (fs : List (Aborted (CallWithOutcome V))) (e : Ended V) (f : Aborted (CallWithOutcome V))
+  pub SameEnded-push : (n : ℕ) (es : List (Ended V)) (fs : List (Aborted (CallWithOutcome V))) (e : Ended V)
+      (f : Aborted (CallWithOutcome V))
       → SameEnded n es fs
       → e.rv ≡ f.word.rv
       → Parts n e.calls f.word.calls f.outcomes → SameEnded n (es ++ e ∷ []) (fs ++ f ∷ [])

@@ -422,7 +422,8 @@ module _ {V : Type 0} where
         }
 
     -- ---- what began later has a number that is at least each one before
-    up_to : (k : ℕ) (rs : List (ℕ × Record V)) (qs : List (Committed (CallWithOutcome V))) → SameRecords n rs qs → AllRecords (λ r. r.number ≤ k)
+    up_to : (k : ℕ) (rs : List (ℕ × Record V)) (qs : List (Committed (CallWithOutcome V))) → SameRecords n rs qs
+        → AllRecords (λ r. r.number ≤ k)
         (serial.words qs) → AreUpTo k rs
     up_to k [] qs g h = tt
     up_to k (r ∷ rs) [] g h = absurd g

@@ -290,7 +290,8 @@ module _ {V : Type 0} where
   abbrev FitsOrEnds : Content (Shown V) (CollectionCall V) (CallWithOutcome V) → Actor → CallWithOutcome V → (ℕ → ℕ) → Type 0
   FitsOrEnds c y o editions = Fit y (c.reads o) (c.writes o) ⊎ (is_stale y.reads (with_editions editions (c.reads o)) ≡ true)
 
-  sized_fits : (c : Content (Shown V) (CollectionCall V) (CallWithOutcome V)) (y : Actor) (now o : CallWithOutcome V) (editions : ℕ → ℕ) (b : Bool)
+  sized_fits : (c : Content (Shown V) (CollectionCall V) (CallWithOutcome V)) (y : Actor) (now o : CallWithOutcome V) (editions : ℕ
+      → ℕ) (b : Bool)
       → is_stale y.reads (with_editions editions (c.reads o)) ≡ b
       → let sized = if b then now else o in has_room y (c.reads sized) (c.writes sized) ≡ true → FitsOrEnds c y o editions
   sized_fits c y now o editions true e room = inr e
@@ -315,7 +316,8 @@ module _ {V : Type 0} where
       ])
       (λ _. seated_sized u a (at_stage before Open) h)
 
-  calls_on_sized : (u : World V) (a : ℕ) (x : Seat V) (asked : CollectionCall V) → (u.boosted.words.actors a).place ≡ machine.Open → SmallAt u a
+  calls_on_sized : (u : World V) (a : ℕ) (x : Seat V) (asked : CollectionCall V) → (u.boosted.words.actors a).place ≡ machine.Open
+      → SmallAt u a
       → SizedAt (calls_on u a x asked).0 a
   calls_on_sized u a x asked e h =
       choose_sized a (x.copied asked.collection (piece_at u.blocks asked)) _ _

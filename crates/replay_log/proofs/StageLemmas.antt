@@ -175,7 +175,8 @@ module _ {V : Type 0} where
   same_in_tx n x y y2 z s t = (t.0 ∙ sym s.rv, subst (λ (cs : List machine.Call). Parts n x.calls cs z.outcomes) (sym s.calls) t.1)
 
   -- ---- begin
-  begun_linked : (u : World V) (s : Boosted (Shown V) (CallWithOutcome V)) (a : ℕ) (x : Seat V) (y : Actor) (g : ℕ → Bool) (clock : ℕ) (b : Bool)
+  begun_linked : (u : World V) (s : Boosted (Shown V) (CallWithOutcome V)) (a : ℕ) (x : Seat V) (y : Actor) (g : ℕ
+      → Bool) (clock : ℕ) (b : Bool)
       → ((k : ℕ) → g k ≡ false)
       → At u a (cond b (machine.opened y.declared clock) (goes y machine.Idle)) (cond b (fresh s) (s.shadows a)) g
       → Linked (has_begun u a x (cond b (told.Begun clock) (told.Exhausted clock))).0

@@ -5,7 +5,8 @@ use Rattle.tx_machine.proofs.Invariant.{PlaceOk}
 use Rattle.seq_model.specs.declared.refusal.Refusal.TheVariants as refusal
 use Rattle.seq_model.specs.declared.event.Event.TheVariants.{Starve}
 use Rattle.replay_log.specs.Worlds.{World, Seat, Stage, Idle, Beginning, Open, Locking, Releasing, Closing, Cancelling, Leaving, Reading}
-use Rattle.replay_log.specs.Worlds.{Trying, Copying, Loading, Gating, Ready, Storing, Homing, Returning, because, gives_up, starve_at, happens}
+use Rattle.replay_log.specs.Worlds.{Trying, Copying, Loading, Gating, Ready, Storing}
+use Rattle.replay_log.specs.Worlds.{Homing, Returning, because, gives_up, starve_at, happens}
 use Rattle.replay_log.specs.WorldProgress as measure
 use Rattle.replay_log.specs.WorldProgress.{IsQuiet, left_of, Nears}
 use Rattle.replay_log.proofs.ActionLemmas.{mine}

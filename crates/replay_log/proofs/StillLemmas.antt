@@ -134,7 +134,8 @@ module _ {V : Type 0} where
   judges_still v u a x o d es next None h n = ask_still v u a (word.AskRead d.0) h
   judges_still v u a x o d es next (Some i) h n = fresh_still v u a x d i next h n
 
-  pub loads_still : (es : Entries) (v u : World V) (a : ℕ) (x : Seat V) (o : CallWithOutcome V) → StillIn a v u → StillIn a v (loads u a x o es).0
+  pub loads_still : (es : Entries) (v u : World V) (a : ℕ) (x : Seat V) (o : CallWithOutcome V) → StillIn a v u
+      → StillIn a v (loads u a x o es).0
   loads_still [] v u a x o h =
       let c = content u.words u.blocks in
       still_then a v.boosted u.boosted _ h (accepted_still c u.boosted a (outcome_at u a o.asked))

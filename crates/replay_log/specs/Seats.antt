@@ -22,7 +22,8 @@ pub data Stage (V : Type 0) : Type 0 where
   Reading : (l : ℕ) → Stage V  -- a word is being read
   Trying : (asked : CollectionCall V) → (tries : ℕ) → Stage V  -- the gate of a call is tried; so many tries are left after this one
   Copying : (asked : CollectionCall V) → Stage V  -- the gate is held: what the call touches is copied, and the gate put back
-  Loading : (outcome : contents.CallWithOutcome V) → (left : Entries) → Stage V  -- the first of these is read; the editions are those copied
+  Loading : (outcome : contents.CallWithOutcome V) → (left : Entries)
+      → Stage V  -- the first of these is read; the editions are those copied
   Gating : (got ks : List ℕ) → (tries : ℕ) → Stage V  -- the gate of the first of ks is tried
   Ready : (ks : List ℕ) → Stage V  -- all is locked, checked and held: the first value store, which commits
   Storing : (ks : List ℕ) → Stage V  -- the next value store

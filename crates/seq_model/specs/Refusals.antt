@@ -1,6 +1,7 @@
 -- Why what was asked is refused, where more than one cause is known to the caller.
 use Rattle.seq_model.specs.declared.refusal.Refusal.{Refusal}
-use Rattle.seq_model.specs.declared.refusal.Refusal.TheVariants.{Moved, Busy, Stale, GateBusy, Invalid, NoSuch, TooLong, Memory as OutOfMemory}
+use Rattle.seq_model.specs.declared.refusal.Refusal.TheVariants.{Moved, Busy, Stale, GateBusy}
+use Rattle.seq_model.specs.declared.refusal.Refusal.TheVariants.{Invalid, NoSuch, TooLong, Memory as OutOfMemory}
 
 -- it is TooLong exactly where what was asked does not fit, and else an allocation failed
 abbrev pub IsTooLong : Refusal → Type 0 → Type 0

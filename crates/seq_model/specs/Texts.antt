@@ -4,7 +4,8 @@ use Rattle.std.specs.Fmt.{decimal}
 use Rattle.seq_model.specs.declared.auditing.AuditFault.{AuditFault}
 use Rattle.seq_model.specs.declared.auditing.AuditFault.TheVariants as fault
 use Rattle.seq_model.specs.declared.refusal.Refusal.{Refusal}
-use Rattle.seq_model.specs.declared.refusal.Refusal.TheVariants.{Moved, Busy, Stale, GateBusy, Invalid, Memory as OutOfMemory, Exhausted, NoSuch}
+use Rattle.seq_model.specs.declared.refusal.Refusal.TheVariants.{Moved, Busy, Stale, GateBusy}
+use Rattle.seq_model.specs.declared.refusal.Refusal.TheVariants.{Invalid, Memory as OutOfMemory, Exhausted, NoSuch}
 use Rattle.seq_model.specs.declared.refusal.Refusal.TheVariants.{TooLong, Ahead, NotIdle, NoTransaction, BadText}
 
 abbrev pub memory_text : List ℕ

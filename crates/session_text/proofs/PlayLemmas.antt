@@ -13,7 +13,8 @@ use Rattle.text_formats.specs.declared.script.TheConstants.{STEP_LIMIT}
 use Rattle.step_world.specs.declared.parts.Parts.{Parts}
 use Rattle.step_world.specs.Feeds.{Feeds}
 use Rattle.session_text.specs.declared.run.Transcript.{Transcript}
-use Rattle.session_text.specs.Plays.{ArePlays, AreSteps, AreTurns, HasPlayed, IsDone, IsOne, IsPlay, IsStepOf, Keeps, heard, kept_of, telling}
+use Rattle.session_text.specs.Plays.{ArePlays, AreSteps, AreTurns, HasPlayed, IsDone, IsOne}
+use Rattle.session_text.specs.Plays.{IsPlay, IsStepOf, Keeps, heard, kept_of, telling}
 use Rattle.session_text.specs.Plays.{tells_nothing, waiting_after, waiting_then, waits}
 use Rattle.session_text.proofs.LeadLemmas.{leads_none, leads_on, leads_one}
 

@@ -37,7 +37,8 @@ deed_text (deed.StoreWord location value) = at_text (codes "  store word ") loca
 deed_text (deed.LoadEdition location value) = at_text (codes "  load edition ") location value
 deed_text (deed.StoreEdition location value) = at_text (codes "  store edition ") location value
 deed_text (deed.TryGate collection holder) =
-    codes "  try gate " ++ (decimal collection ++ (codes ": " ++ (if holder == 0 then codes "free" else codes "held by " ++ decimal holder)))
+    codes "  try gate " ++ (decimal collection ++ (codes ": " ++
+    (if holder == 0 then codes "free" else codes "held by " ++ decimal holder)))
 deed_text (deed.CopyAtGate collection) = gate_text collection (codes ": copied")
 deed_text (deed.ChangeAtGate collection) = gate_text collection (codes ": changed")
 deed_text (deed.PutGate collection) = gate_text collection (codes ": unchanged")

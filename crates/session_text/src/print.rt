@@ -1,7 +1,8 @@
 //! Prints the result of a script.
 ghost use Rattle.std.specs.Prelude.{◌≡◌, ◌++◌, IfOk, OnOk, flat_map};
 ghost use Rattle.std.specs.String.{string_bytes};
-ghost use Rattle.session_text.specs.TracePrints.{number_text, pair_text, reply_text, answer_text, record_text, half_text, held_text, words_text};
+ghost use Rattle.session_text.specs.TracePrints.{number_text, pair_text, reply_text, answer_text};
+ghost use Rattle.session_text.specs.TracePrints.{record_text, half_text, held_text, words_text};
 ghost use Rattle.session_text.specs.TracePrints.{state_text, notice_text, run_text, trace_text};
 
 use crate::run::ScriptRun;

@@ -311,7 +311,8 @@ module _ {V : Type 0} where
   accepted_holds o (OfQueue b) es cs op held = refl
 
   -- ---- one key more
-  pub added : (n : ℕ) (t : TouchedKey V) (b s : Shown V) (es : FinMap nat_cmp (Option V)) (cs : FinMap nat_cmp ℕ) (changes : List (Change V))
+  pub added : (n : ℕ) (t : TouchedKey V) (b s : Shown V) (es : FinMap nat_cmp (Option V)) (cs : FinMap nat_cmp ℕ)
+      (changes : List (Change V))
       → IsOfBy b es cs changes s → IsShown n t s → IsOfBy b (with_entry t es) (with_count t cs) changes s
   added n (Entry k o) (OfMap b) (OfMap m) es cs changes is shown = learnt get es m (applied (map.rules V) changes m) k o shown is
   added n (Copies x c) (OfBag b) (OfBag m) es cs changes is shown = learnt copies cs m (applied (bag.rules V) changes m) x c shown is

@@ -67,7 +67,8 @@ module _ {V : Type 0} where
         let next_is : next_of (w.seats a).stage ≡ next.Copy k = next_as w a r runs ∙ due in
         let action = due_copy a k (step_action w a (w.seats a).stage) (due_as steps w a (w.seats a).stage (next.Copy k) next_is) in
         let calm : (is_actor a (w.boosted.gates k) ≡ true) × (is_committing (actor_of w a).place ≡ false) =
-        subst (λ (q : Option (Action (contents.CollectionCall V))). IsAllowed w (w.seats a).stage q) action.1 (reached_allows o w a reached) in
+        subst (λ (q : Option (Action (contents.CollectionCall V))). IsAllowed w (w.seats a).stage q) action.1
+        (reached_allows o w a reached) in
         let goes = copy_runs taken on sized v o w a k r s n base due running does reached laid runs copies
         (base_in v t w k base has shape at)
         in (

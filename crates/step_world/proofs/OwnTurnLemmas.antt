@@ -25,7 +25,8 @@ use Rattle.tx_actor.proofs.OwnLemmas.{ask_runs, others_keep, starve_keeps, step_
 
 module _ {V : Type 0} where
   pub keeps_step : StepsLaw V → BegunLaw V → EventsStay V → BeginsWithNothing V → StandLaw V → OthersLaw V → (b : BlocksView) (a : ℕ)
-      (t : Table V) (r s : TxActor V) → is_loading (stage_of r.stage) ≡ false → ((asked : CollectionCall V) → stage_of r.stage ≡ Copying asked → ⊥)
+      (t : Table V) (r s : TxActor V) → is_loading (stage_of r.stage) ≡ false
+      → ((asked : CollectionCall V) → stage_of r.stage ≡ Copying asked → ⊥)
       → KeepsCopies r s → KeepsOwn b (Step a) t r s
   keeps_step steps begun stays begins stand law b a t r s quiet calm keep = record {
     own = λ o w reached laid has runs after running h. step_keeps steps begun stays begins o w a r s quiet calm keep reached runs after h;

@@ -164,7 +164,8 @@ module _ {V : Type 0} where
       ended t l a x = refl
 
   -- ---- a request
-  pub ask_happens : CallsLaw V → (c : Parts V) (i : ℕ) (q : Request V) (r s : TxActor V) (n : ActorNotice V) → slice_get c.actors.items i ≡ Some r
+  pub ask_happens : CallsLaw V → (c : Parts V) (i : ℕ) (q : Request V) (r s : TxActor V) (n : ActorNotice V)
+      → slice_get c.actors.items i ≡ Some r
       → AsksAt c.blocks r s n (λ a w. ask_at w a (seat_of r) (stage_of r.stage) q) → KeepsOwn c.blocks (Ask (i + 1) q) c.table r s
       → KeepsRoom (Ask (i + 1) q) c.table r c.table s → KeepsIn c.blocks r s → Happens c (Ask (i + 1) q) (with_turn c c.table i s) n
   ask_happens calls c i q r s n got asks own rooms kept =

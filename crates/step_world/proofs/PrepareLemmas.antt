@@ -114,7 +114,8 @@ module _ {V : Type 0} where
   }
 
   -- ---- the room that a base has is unchanged
-  room_stays : (t u : Table V) (cs : List (CopyOfCollection V)) (k : ℕ) → AreAlike t.bases.items u.bases.items → HasRoomAt t cs k → HasRoomAt u cs k
+  room_stays : (t u : Table V) (cs : List (CopyOfCollection V)) (k : ℕ) → AreAlike t.bases.items u.bases.items → HasRoomAt t cs k
+      → HasRoomAt u cs k
   room_stays t u cs k alike room = λ b at. (
       let f = alike.each k b at in
       f.2.room (changes_had (copy_of cs k)) (room f.0 f.1))
@@ -130,7 +131,8 @@ module _ {V : Type 0} where
     | inr ne ↦ room_stays t u cs (slice_index_or ks j d) alike (so_far j d (omega (arith, low, ne)))
   ]
 
-  pub none_due : (t : Table V) (cs : List (CopyOfCollection V)) (s : own.Stage V) → ((homes : VecDeque ℕ Global) → s ≡ stage.Ready homes → ⊥)
+  pub none_due : (t : Table V) (cs : List (CopyOfCollection V)) (s : own.Stage V)
+      → ((homes : VecDeque ℕ Global) → s ≡ stage.Ready homes → ⊥)
       → HasRoomDue t cs s
   none_due t cs (stage.Ready homes) ready = absurd (ready homes refl)
   none_due t cs s ready = tt

@@ -228,7 +228,8 @@ module _ {V : Type 0} where
   left_copies t (stage.Homing left) before now k keep c = keep.1
   left_copies t s before now k keep c = absurd (none_in k c)
 
-  room_due : (t : Table V) (cs : List (CopyOfCollection V)) (p : own.Stage V) (ks : List ℕ) (k : ℕ) → stage_of p ≡ Ready ks → HasRoomDue t cs p
+  room_due : (t : Table V) (cs : List (CopyOfCollection V)) (p : own.Stage V) (ks : List ℕ) (k : ℕ) → stage_of p ≡ Ready ks
+      → HasRoomDue t cs p
       → Contains ks k → HasRoomAt t cs k
   room_due t cs (stage.Ready homes) ks k e h c =
       let same : homes.items ≡ ks = cc in

@@ -6,7 +6,8 @@ ghost use Rattle.seq_model.specs.declared.held.Held.{Held};
 ghost use Rattle.text_formats.specs.declared.script_line.ScriptLine.{ScriptLine};
 ghost use Rattle.text_formats.specs.declared.script.Collection.{Collection};
 ghost use Rattle.text_formats.specs.Tokens.{texts};
-ghost use Rattle.text_formats.specs.ScriptLines.{AreNumbers, IsAbove, IsClock, IsCollection, IsHeld, IsKind, IsLine, IsMap, IsMultiset, IsWords};
+ghost use Rattle.text_formats.specs.ScriptLines.{AreNumbers, IsAbove, IsClock, IsCollection, IsHeld};
+ghost use Rattle.text_formats.specs.ScriptLines.{IsKind, IsLine, IsMap, IsMultiset, IsWords};
 
 use crate::decimal::number;
 use crate::event::read_event;

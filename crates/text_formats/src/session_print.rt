@@ -4,7 +4,8 @@ ghost use Rattle.std.specs.FinMap as map;
 ghost use Rattle.std.specs.String.{string_bytes};
 ghost use Rattle.text_formats.specs.SessionLines.{kind_token};
 ghost use Rattle.text_formats.specs.SessionPrints.{line_text, lines_text, outcome_text, printed, booking_text, changed_text, changes_text};
-ghost use Rattle.text_formats.specs.SessionPrints.{customer_line, item_text, items_text, missed_text, number_text, part_text, parts_text, queue_text};
+ghost use Rattle.text_formats.specs.SessionPrints.{customer_line, item_text, items_text, missed_text};
+ghost use Rattle.text_formats.specs.SessionPrints.{number_text, part_text, parts_text, queue_text};
 ghost use Rattle.text_formats.specs.SessionPrints.{reply_text, tables_text, wait_text};
 
 use seq_model::{LastAbort, Memory};

@@ -26,7 +26,8 @@ words_same n x = record { fits = λ f. f; owed = omega arith; due = omega arith 
 
 module _ {V : Type 0} where
   -- a stage whose step needs no room reads for no call
-  no_call : (v : BlocksView) (r : TxActor V) (t : Stage V) → ((z : TxActor V) → HasRoom z t) → (cs : List (CopyOfCollection V)) → IsCallAt v cs t
+  no_call : (v : BlocksView) (r : TxActor V) (t : Stage V) → ((z : TxActor V) → HasRoom z t) → (cs : List (CopyOfCollection V))
+      → IsCallAt v cs t
   no_call v r (stage.Loading o left) room cs = absurd ((room (at_rest r)).place)
   no_call v r t room cs = tt
 

@@ -298,7 +298,8 @@ module _ {V : Type 0} where
       subst (λ (q : TxActor V). MayPrepare q i f asked.op) (sym from.same)
       (may_prepare r c.stripes f i from.found asked from.copies may from.at)
 
-  pub taken_ready : (v : BlocksView) (r m u : TxActor V) (base : Base V) (asked : CollectionCall V) (i f : ℕ) (d : running.CallWithOutcome V)
+  pub taken_ready : (v : BlocksView) (r m u : TxActor V) (base : Base V) (asked : CollectionCall V) (i f : ℕ)
+      (d : running.CallWithOutcome V)
       (left : VecDeque (ℕ × ℕ) Global) → f ≡ first_of v.words v.blocks asked.collection → AreTakenBy v r m base asked i → IsAlike m u
       → ((c : CopyOfCollection V) → slice_get m.copies.items i ≡ Some c → AreReadied m u i f asked c d (Some left))
       → AreReadyIn v r u base asked d (Some left)
@@ -306,7 +307,8 @@ module _ {V : Type 0} where
       let x : Prepared V = record { call = d; left = left } in
       let c : CopyOfCollection V = copy_with asked.collection from.at.copy in
       let there = taken_there from.block.stripes asked.collection i from.found r.copies.items from.copies.items from.at in
-      let here = subst (λ (p : TxActor V). (c : CopyOfCollection V) → slice_get p.copies.items i ≡ Some c → AreReadied p u i f asked c d (Some left))
+      let here = subst (λ (p : TxActor V). (c : CopyOfCollection V) → slice_get p.copies.items i ≡ Some c
+      → AreReadied p u i f asked c d (Some left))
       from.same ready c there.1 in (
         i,
         here.0,

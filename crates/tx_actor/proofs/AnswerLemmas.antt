@@ -33,7 +33,8 @@ use Rattle.tx_actor.proofs.RunsLemmas.{Seats}
 use Rattle.actor_parts.proofs.ShowsLemmas.{reads_next}
 
 module _ {V : Type 0} where
-  pub accepted_at : (i : ℕ) (p : Option (Outcome V)) (o : Outcome V) (before : List (CopyOfCollection V)) (c : CopyOfCollection V) (e : PrivateCopy V)
+  pub accepted_at : (i : ℕ) (p : Option (Outcome V)) (o : Outcome V) (before : List (CopyOfCollection V)) (c : CopyOfCollection V)
+      (e : PrivateCopy V)
       → p ≡ Some o → i < length before → c ≡ get_or before i c → IsAccepted o c.copied e → holds_call c.copied o.op ≡ true
       → IsAcceptedAt i p before (set before i (record { collection = c.collection; copied = e }))
   accepted_at i p o before c e is lt at acc held =
@@ -48,7 +49,8 @@ module _ {V : Type 0} where
         refl,
       )
 
-  pub pieces_stay : (i : ℕ) (p : Option (Outcome V)) (before now : List (CopyOfCollection V)) → IsAcceptedAt i p before now → (k : ℕ) (q : Piece)
+  pub pieces_stay : (i : ℕ) (p : Option (Outcome V)) (before now : List (CopyOfCollection V)) → IsAcceptedAt i p before now
+      → (k : ℕ) (q : Piece)
       → has_piece (copy_of now k) q ≡ has_piece (copy_of before k) q
   pieces_stay i None before now is k q = ap (λ (cs : List (CopyOfCollection V)). has_piece (copy_of cs k) q) is
   pieces_stay i (Some o) before now is k q =
@@ -64,20 +66,23 @@ module _ {V : Type 0} where
       let law = accepts a w o.asked guard in (
         put-same w.seats a _ ∙ sym f,
         law.0
-            ∙ (ap (λ (z : CallWithOutcome V). written (actor_of w a) (w.boosted.shadows a).editions ((content w.words w.blocks).writes z)) is
+            ∙ (ap (λ (z : CallWithOutcome V). written (actor_of w a) (w.boosted.shadows a).editions ((content w.words w.blocks).writes z))
+            is
             ∙ sym e),
         k,
       )
 
   -- what was judged is what the call results in
-  pub by_judged : (u : TxActor V) (t : ActorNotice V) (a : ℕ) (w : World V) (x : Seat V) (o : CallWithOutcome V) (left : Entries) (i j : Judged) → i ≡ j
+  pub by_judged : (u : TxActor V) (t : ActorNotice V) (a : ℕ) (w : World V) (x : Seat V) (o : CallWithOutcome V) (left : Entries)
+      (i j : Judged) → i ≡ j
       → Runs a u (comes_to w a x o left i).0 × (notice_of a t ≡ (comes_to w a x o left i).1)
       → Runs a u (comes_to w a x o left j).0 × (notice_of a t ≡ (comes_to w a x o left j).1)
   by_judged u t a w x o left i j e is =
       subst (λ (z : Judged). Runs a u (comes_to w a x o left z).0 × (notice_of a t ≡ (comes_to w a x o left z).1)) e is
 
   -- and so where the call has this outcome
-  pub by_outcome : (u : TxActor V) (t : ActorNotice V) (a : ℕ) (w : World V) (x : Seat V) (o p : CallWithOutcome V) (left : Entries) (j : Judged)
+  pub by_outcome : (u : TxActor V) (t : ActorNotice V) (a : ℕ) (w : World V) (x : Seat V) (o p : CallWithOutcome V) (left : Entries)
+      (j : Judged)
       → o ≡ p → j ≡ All
       → Runs a u (comes_to w a x o [] All).0 × (notice_of a t ≡ (comes_to w a x o [] All).1)
       → Runs a u (comes_to w a x p left j).0 × (notice_of a t ≡ (comes_to w a x p left j).1)

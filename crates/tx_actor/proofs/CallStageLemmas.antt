@@ -24,7 +24,8 @@ first_none [] none = refl
 first_none (d ∷ es) none = let h : ⊥ = cc in absurd h
 
 module _ {V : Type 0} where
-  pub gone_at : (j : Judged) (r u : TxActor V) (t : ActorNotice V) (o : running.CallWithOutcome V) (es : Entries) (s : Stage V) → HasGone j r u t o es
+  pub gone_at : (j : Judged) (r u : TxActor V) (t : ActorNotice V) (o : running.CallWithOutcome V) (es : Entries) (s : Stage V)
+      → HasGone j r u t o es
       → HasGone j (at r s) u t o es
   gone_at All r u t o es s h = record { stage = h.stage; at = h.at; own = h.own; told = h.told }
   gone_at (Next l) r u t o es s h =
@@ -48,7 +49,8 @@ module _ {V : Type 0} where
   loaded_nothing r u t (stage.Loading o left) is = is
   loaded_nothing r u t s is = is
 
-  pub loaded_quiet : (r u : TxActor V) (t : ActorNotice V) (n : notice.Notice) → n ≡ notice.Quiet → IsAsBefore r u t → HasLoaded r u t r.stage n
+  pub loaded_quiet : (r u : TxActor V) (t : ActorNotice V) (n : notice.Notice) → n ≡ notice.Quiet → IsAsBefore r u t
+      → HasLoaded r u t r.stage n
   loaded_quiet r u t n nothing is =
       subst (λ (q : notice.Notice). HasLoaded r u t r.stage q) (sym nothing) (loaded_nothing r u t r.stage is)
 

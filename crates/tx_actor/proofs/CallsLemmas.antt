@@ -236,7 +236,8 @@ module _ {V : Type 0} where
       ∙ ap (λ b. cond (b && true) (calls_on w a (seat_of r) (call_on k op)) (w, Refused a refusal.TooLong)) many
 
   -- ---- the actor
-  pub held_at_place : (cs : List (CopyOfCollection V)) (i k : ℕ) (op : Op V) (c : CopyOfCollection V) → IsPositionOf cs k (Some i) → slice_get cs i ≡ Some c
+  pub held_at_place : (cs : List (CopyOfCollection V)) (i k : ℕ) (op : Op V) (c : CopyOfCollection V) → IsPositionOf cs k (Some i)
+      → slice_get cs i ≡ Some c
       → holds_call c.copied op ≡ true → IsHeldAt cs i k op
   held_at_place cs i k op c is at holds = record {
     there = is.0;
@@ -247,7 +248,8 @@ module _ {V : Type 0} where
     holds = holds;
   }
 
-  pub not_held_at : (cs : List (CopyOfCollection V)) (i k : ℕ) (op : Op V) (c : CopyOfCollection V) → IsPositionOf cs k (Some i) → slice_get cs i ≡ Some c
+  pub not_held_at : (cs : List (CopyOfCollection V)) (i k : ℕ) (op : Op V) (c : CopyOfCollection V) → IsPositionOf cs k (Some i)
+      → slice_get cs i ≡ Some c
       → holds_call c.copied op ≡ false → holds_of (copy_of cs k) op ≡ false
   not_held_at cs i k op c is at holds = ap (λ q. holds_of q op) (first_at cs i k c at (sym (is.2 c at)) is.1) ∙ holds
 

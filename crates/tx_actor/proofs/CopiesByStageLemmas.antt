@@ -140,7 +140,8 @@ module _ {V : Type 0} where
       either_read w a k (k == x.collection) (Some x.copied) (Some x.copied) (copy_of cs k) (copy_of (set cs i d) k) (λ h. h)
       (still_set cs i c d got same read w a k) is
 
-  still_accepted : (i : ℕ) (p : Option (Outcome V)) (before now : List (CopyOfCollection V)) → IsAcceptedAt i p before now → ReadsStill before now
+  still_accepted : (i : ℕ) (p : Option (Outcome V)) (before now : List (CopyOfCollection V)) → IsAcceptedAt i p before now
+      → ReadsStill before now
   still_accepted i None before now is = still_same before now is
   still_accepted i (Some o) before now is =
       subst (λ (ds : List (CopyOfCollection V)). ReadsStill before ds) (sym is.6)

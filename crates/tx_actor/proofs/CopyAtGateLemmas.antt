@@ -80,7 +80,8 @@ editions_stay s gates shadows false = refl
 
 module _ {V : Type 0} where
   -- ---- what is taken can be made ready
-  pub of_its_block : (v : BlocksView) (r : TxActor V) (base : Base V) (asked : CollectionCall V) → (can : CanCopy v r base asked) → (c : PrivateCopy V)
+  pub of_its_block : (v : BlocksView) (r : TxActor V) (base : Base V) (asked : CollectionCall V) → (can : CanCopy v r base asked)
+      → (c : PrivateCopy V)
       → copy_of r.copies.items asked.collection ≡ Some c
       → (kind_of (shown_of (base_in c)) ≡ can.block.kind) × (stripes_of (base_in c) ≡ can.block.stripes)
   of_its_block v r base asked can c e =
@@ -112,7 +113,8 @@ module _ {V : Type 0} where
         ));
   }
 
-  pub may_prepare : (r : TxActor V) (n f i : ℕ) (found : BaseExcerpt V) (asked : CollectionCall V) (cs : Vec (CopyOfCollection V)) → MayTake r n f found asked
+  pub may_prepare : (r : TxActor V) (n f i : ℕ) (found : BaseExcerpt V) (asked : CollectionCall V) (cs : Vec (CopyOfCollection V))
+      → MayTake r n f found asked
       → IsTakenAt n asked.collection found i r.copies.items cs.items → MayPrepare (record r { copies = cs }) i f asked.op
   may_prepare r n f i found asked cs may t =
       let there = taken_there n asked.collection i found r.copies.items cs.items t in
@@ -207,7 +209,8 @@ module _ {V : Type 0} where
       (subst (λ (q : TxActor V). Runs a (record q { stage = stage.Open }) z.0) (sym same) runs, refl)
 
   -- ---- it continues
-  module _ (v : BlocksView) (w : World V) (a : ℕ) (r u : TxActor V) (base : Base V) (asked : CollectionCall V) (b : Block) (found : BaseExcerpt V) (i : ℕ)
+  module _ (v : BlocksView) (w : World V) (a : ℕ) (r u : TxActor V) (base : Base V) (asked : CollectionCall V) (b : Block)
+      (found : BaseExcerpt V) (i : ℕ)
       (x : Prepared V) (laid : IsLaid v w) (can : CanCopy v r base asked)
       (s : Runs a (at r (stage.Copying asked)) w) (may : MayCopy v w a (at r (stage.Copying asked)) base asked)
       (there : block_of v.blocks asked.collection ≡ Some b) (is : IsFound base asked.op found)
@@ -378,7 +381,8 @@ module _ {V : Type 0} where
     goes_on_in n h does =
         by_result n h a _ _ steps_to (does a t own.outcome (back_words ∙ now_words) answers)
 
-  pub goes_on_as : (v : BlocksView) (r u n : TxActor V) (h : ActorNotice V) (base : Base V) (asked : CollectionCall V) (i : ℕ) (x : Prepared V)
+  pub goes_on_as : (v : BlocksView) (r u n : TxActor V) (h : ActorNotice V) (base : Base V) (asked : CollectionCall V) (i : ℕ)
+      (x : Prepared V)
       → CanCopy v r base asked → AreReadyAt v r u base asked (Some (i, x))
       → load.GoesOn u n h (prepared_of x asked i).call (prepared_of x asked i).left.items
       → StepsOn v (at r (stage.Copying asked)) n h base asked
@@ -392,7 +396,8 @@ module _ {V : Type 0} where
       subst (λ (l : ℕ). IsOfBlock v l c) (sym (same refl)) (subst (IsOfBlock v k) (same_Some d c e) here)
   either_block v k j false c d o same e here rest = rest e
 
-  taken_blocks : (v : BlocksView) (r : TxActor V) (base : Base V) (asked : CollectionCall V) (can : CanCopy v r base asked) (i : ℕ) (found : BaseExcerpt V)
+  taken_blocks : (v : BlocksView) (r : TxActor V) (base : Base V) (asked : CollectionCall V) (can : CanCopy v r base asked) (i : ℕ)
+      (found : BaseExcerpt V)
       (cs : List (CopyOfCollection V)) → IsFound base asked.op found
       → IsTakenAt can.block.stripes asked.collection found i r.copies.items cs → AreOfBlocks v cs
   taken_blocks v r base asked can i found cs is t j c e =
@@ -419,7 +424,8 @@ module _ {V : Type 0} where
         holds = holds;
       }
 
-  pub keeps_going : (v : BlocksView) (r u n : TxActor V) (base : Base V) (asked : CollectionCall V) (i : ℕ) (x : Prepared V) → CanCopy v r base asked
+  pub keeps_going : (v : BlocksView) (r u n : TxActor V) (base : Base V) (asked : CollectionCall V) (i : ℕ) (x : Prepared V)
+      → CanCopy v r base asked
       → AreReadyAt v r u base asked (Some (i, x)) → HasNoReads r.words
       → (let p = prepared_of x asked i in CanGoOn v u p.call p.left.items → KeepsIn v (at u stage.Idle) n)
       → KeepsIn v (at r (stage.Copying asked)) n

@@ -56,7 +56,8 @@ block_here (b ∷ bs) zero low = (b, refl)
 block_here (b ∷ bs) (suc k) low = block_here bs k (omega (arith, low))
 
 module _ {V : Type 0} where
-  pub copy_is : (s : Stage V) (k : ℕ) → next_of s ≡ next.Copy k → (asked : contents.CollectionCall V) × (s ≡ Copying asked) × (asked.collection ≡ k)
+  pub copy_is : (s : Stage V) (k : ℕ) → next_of s ≡ next.Copy k
+      → (asked : contents.CollectionCall V) × (s ≡ Copying asked) × (asked.collection ≡ k)
   copy_is (Copying asked) k e = (asked, refl, cc)
   copy_is (Loading o []) k e = let z : ⊥ = cc in absurd z
   copy_is (Loading o (d ∷ es)) k e = let z : ⊥ = cc in absurd z
@@ -278,7 +279,8 @@ module _ {V : Type 0} where
       (law h.blocks h.clock o.words o.held h.events a v r s n base asked h.stripes)
 
   pub copy_keeps : CopiesStayOwn V → CopiesFor V → CopiesReached V → SizesCopies V → BlocksLaw V → (v : BlocksView) (o : Contents V)
-      (w : World V) (a k : ℕ) (r s : TxActor V) (n : ActorNotice V) (base : Base V) → next_of (stage_of r.stage) ≡ next.Copy k → IsRunning v r
+      (w : World V) (a k : ℕ) (r s : TxActor V) (n : ActorNotice V) (base : Base V) → next_of (stage_of r.stage) ≡ next.Copy k
+      → IsRunning v r
       → HasTakenAt v r s n base r.stage → IsReached o w → IsLaid v w → Runs a r w → HasCopies r w a → IsBaseIn v w k base
       → Runs a s (happens w (Step a)).0 → notice_of a n ≡ (happens w (Step a)).1 → HasCopies s (happens w (Step a)).0 a
   copy_keeps law taken on sized of v o w a k r s n base due running got reached laid runs copies is =

@@ -55,7 +55,8 @@ module _ {V : Type 0} where
       cond-false (c.collection == d.collection) (Some d.copied) (copy_of cs c.collection)
       (apart c.collection d.collection other (c.collection == d.collection) refl) ∙ rest
 
-  set_other : (cs : List (CopyOfCollection V)) (i k : ℕ) (c d : CopyOfCollection V) → slice_get cs i ≡ Some c → d.collection ≡ c.collection → k ≢ c.collection
+  set_other : (cs : List (CopyOfCollection V)) (i k : ℕ) (c d : CopyOfCollection V) → slice_get cs i ≡ Some c
+      → d.collection ≡ c.collection → k ≢ c.collection
       → copy_of (set cs i d) k ≡ copy_of cs k
   set_other [] i k c d at same other = let h : ⊥ = cc in absurd h
   set_other (x ∷ cs) zero k c d at same other =
@@ -67,7 +68,8 @@ module _ {V : Type 0} where
   set_other (x ∷ cs) (suc i) k c d at same other =
       ap (λ (o : Option (PrivateCopy V)). cond (k == x.collection) (Some x.copied) o) (set_other cs i k c d at same other)
 
-  pub once_set : (cs : List (CopyOfCollection V)) (i : ℕ) (c d : CopyOfCollection V) → AreOnce cs → slice_get cs i ≡ Some c → d.collection ≡ c.collection
+  pub once_set : (cs : List (CopyOfCollection V)) (i : ℕ) (c d : CopyOfCollection V) → AreOnce cs → slice_get cs i ≡ Some c
+      → d.collection ≡ c.collection
       → AreOnce (set cs i d)
   once_set [] i c d once at same = let h : ⊥ = cc in absurd h
   once_set (x ∷ cs) zero c d once at same =
@@ -103,7 +105,8 @@ module _ {V : Type 0} where
   of_block b s k x (Keys m es) is = (is.0, is.1)
   of_block b s k x (Whole t) is = (is.0, is.1)
 
-  own_block : (v : BlocksView) (w : World V) (a k : ℕ) (o : Option (PrivateCopy V)) (c : PrivateCopy V) → IsLaid v w → o ≡ Some c → IsOwn w a k o
+  own_block : (v : BlocksView) (w : World V) (a k : ℕ) (o : Option (PrivateCopy V)) (c : PrivateCopy V) → IsLaid v w → o ≡ Some c
+      → IsOwn w a k o
       → IsOfBlock v k c
   own_block v w a k None c laid e is = absurd (none-some c e)
   own_block v w a k (Some d) c laid e is =

@@ -183,7 +183,8 @@ module _ {V : Type 0} where
       )
 
   -- ---- what the base asks of the log
-  pub log_within : Logs V → Within V → (o : Contents V) (w : World V) (a k : ℕ) (b : Block) (c : Option (PrivateCopy V)) (locations : List ℕ)
+  pub log_within : Logs V → Within V → (o : Contents V) (w : World V) (a k : ℕ) (b : Block) (c : Option (PrivateCopy V))
+      (locations : List ℕ)
       (base : Base V) → IsReached o w → block_of w.blocks k ≡ Some b → IsOwn w a k c → IsBaseOf b base → locations ≡ locations_had c
       → All (λ i. i < locations_of (stripes_of base) (shown_of base)) locations
   log_within logs within o w a k b c locations base reached there own fit ll =
@@ -192,7 +193,8 @@ module _ {V : Type 0} where
       subst (All (λ i. i < locations_of (stripes_of base) (shown_of base))) (sym (ll ∙ log.1))
       (within k b (w.boosted.shadows a).outcomes base (positive_at w.blocks k b stripes there) fit)
 
-  few_in : FewEditions V → (o : Contents V) (w : World V) → IsReached o w → (k : ℕ) (b : Block) (os : List (CallWithOutcome V)) (base : Base V)
+  few_in : FewEditions V → (o : Contents V) (w : World V) → IsReached o w
+      → (k : ℕ) (b : Block) (os : List (CallWithOutcome V)) (base : Base V)
       → block_of w.blocks k ≡ Some b → ShowsBase w.words w.blocks w k base
       → All (λ i. slice_index (editions_of base) i ≤ w.boosted.words.clock) (log_locations k b os)
   few_in few o w h k b os base is shows =
@@ -210,7 +212,8 @@ module _ {V : Type 0} where
       → All (λ i. slice_index (editions_of base) i < 2 ^ 63) ls
   all_below base n ls low h = λ i d there. (let few = h i d there in omega (arith, low, few))
 
-  pub log_below : Logs V → FewEditions V → (o : Contents V) (w : World V) (a k : ℕ) (b : Block) (c : Option (PrivateCopy V)) (locations : List ℕ)
+  pub log_below : Logs V → FewEditions V → (o : Contents V) (w : World V) (a k : ℕ) (b : Block) (c : Option (PrivateCopy V))
+      (locations : List ℕ)
       (base : Base V) → IsReached o w → block_of w.blocks k ≡ Some b → IsOwn w a k c → ShowsBase w.words w.blocks w k base
       → w.boosted.words.clock < 2 ^ 63 → locations ≡ locations_had c → All (λ i. slice_index (editions_of base) i < 2 ^ 63) locations
   log_below logs few o w a k b c locations base reached there own shows clock ll =

@@ -38,7 +38,8 @@ module _ {V : Type 0} where
   }
 
   -- it continues as one that keeps it where it is idle
-  pub heard_goes : (v : BlocksView) (r u : TxActor V) (o : running.CallWithOutcome V) (left : VecDeque (ℕ × ℕ) Global) (d : ℕ × ℕ) (es : Entries)
+  pub heard_goes : (v : BlocksView) (r u : TxActor V) (o : running.CallWithOutcome V) (left : VecDeque (ℕ × ℕ) Global) (d : ℕ × ℕ)
+      (es : Entries)
       (e : ℕ) → left.items ≡ d ∷ es → (CanGoOn v r o es → KeepsIn v (at r stage.Idle) u) → owed u.words.place ≤ owed r.words.place
       → KeepsHeard v (at r (stage.Loading o left)) u (notice.Number e)
   heard_goes v r u o left d es e first goes less =

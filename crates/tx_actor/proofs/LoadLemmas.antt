@@ -66,7 +66,8 @@ module _ {V : Type 0} where
       let f = comes_to w a (seat_of r) (with_outcome call x) (left_after reads es) (judged reads es) in
       Runs a u f.0 × (notice_of a t ≡ f.1)
 
-  pub goes_as : (r u : TxActor V) (t : ActorNotice V) (call : CallWithOutcome V) (left : VecDeque (ℕ × ℕ) Global) (d : ℕ × ℕ) (es : Entries) (v : ℕ)
+  pub goes_as : (r u : TxActor V) (t : ActorNotice V) (call : CallWithOutcome V) (left : VecDeque (ℕ × ℕ) Global) (d : ℕ × ℕ)
+      (es : Entries) (v : ℕ)
       → left.items ≡ d ∷ es → d.1 ≡ v → GoesOn r u t call es → IsToldLoad (at r (stage.Loading call left)) u t (notice.Number v)
   goes_as r u t call left d es v first same goes a w may s =
       let x = outcome_in (w.seats a).stage in
@@ -89,7 +90,8 @@ module _ {V : Type 0} where
       let f = gives_up w a (because (seat_of r) cause) [] in
       Runs a u f.0 × (notice_of a t ≡ f.1)
 
-  pub stale_as : (r u : TxActor V) (t : ActorNotice V) (call : CallWithOutcome V) (left : VecDeque (ℕ × ℕ) Global) (d : ℕ × ℕ) (es : Entries) (v : ℕ)
+  pub stale_as : (r u : TxActor V) (t : ActorNotice V) (call : CallWithOutcome V) (left : VecDeque (ℕ × ℕ) Global) (d : ℕ × ℕ)
+      (es : Entries) (v : ℕ)
       → left.items ≡ d ∷ es → d.1 ≢ v → GivesUp r u t (refusal.Stale d.0 d.1 v)
       → IsToldLoad (at r (stage.Loading call left)) u t (notice.Number v)
   stale_as r u t call left d es v first other up a w may s =
@@ -105,7 +107,8 @@ module _ {V : Type 0} where
   moved_first w a x o [] d l word some = absurd (let h : ⊥ = cc in h)
   moved_first w a x o (c ∷ es) d l word some = refl
 
-  none_first : (w : World V) (a : ℕ) (x : Seat V) (o : contents.CallWithOutcome V) (es : Entries) (n : notice.Notice) → first_entry es ≡ None
+  none_first : (w : World V) (a : ℕ) (x : Seat V) (o : contents.CallWithOutcome V) (es : Entries) (n : notice.Notice)
+      → first_entry es ≡ None
       → after_load w a x (worlds.Loading o es) n ≡ (w, Quiet)
   none_first w a x o [] n none = refl
   none_first w a x o (d ∷ es) n none = absurd (let h : ⊥ = cc in h)
@@ -132,7 +135,8 @@ module _ {V : Type 0} where
       (λ a w. none_first w a (seat_of (at r (stage.Loading call left)))
       (with_outcome call (outcome_in (w.seats a).stage)) left.items n none)
 
-  loaded_else : (w : World V) (a : ℕ) (x : Seat V) (o : contents.CallWithOutcome V) (es : Entries) (h : WordNotice) → ((v : ℕ) → h ≡ Number v → ⊥)
+  loaded_else : (w : World V) (a : ℕ) (x : Seat V) (o : contents.CallWithOutcome V) (es : Entries) (h : WordNotice)
+      → ((v : ℕ) → h ≡ Number v → ⊥)
       → ((i j : ℕ) → h ≡ Moved i j → ⊥) → after_load w a x (worlds.Loading o es) (shown_notice h) ≡ (w, Quiet)
   loaded_else w a x o [] h p q = refl
   loaded_else w a x o (d ∷ es) (Number v) p q = absurd (p v refl)
@@ -158,7 +162,8 @@ module _ {V : Type 0} where
   quiet_stage w a x st s = refl
 
   -- nothing was answered
-  pub load_quiet : (r u : TxActor V) (t : ActorNotice V) (n : notice.Notice) → n ≡ notice.Quiet → u ≡ r → t ≡ told.Quiet → IsToldLoad r u t n
+  pub load_quiet : (r u : TxActor V) (t : ActorNotice V) (n : notice.Notice) → n ≡ notice.Quiet → u ≡ r → t ≡ told.Quiet
+      → IsToldLoad r u t n
   load_quiet r u t n nothing same quiet =
       subst (λ (q : notice.Notice). IsToldLoad r u t q) (sym nothing)
       (load_stays r u t notice.Quiet same quiet (λ a w. quiet_stage w a (seat_of r) (w.seats a).stage r.stage))

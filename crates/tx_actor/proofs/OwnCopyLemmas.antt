@@ -77,19 +77,22 @@ module _ {V : Type 0} where
   none_if true c o p rest e = let h : ⊥ = cc in absurd h
   none_if false c o p rest e = rest e
 
-  none_behind : (cs : List (CopyOfCollection V)) (c : CopyOfCollection V) (k : ℕ) → k ≢ c.collection → copy_of cs k ≡ None → copy_of (cs ++ c ∷ []) k ≡ None
+  none_behind : (cs : List (CopyOfCollection V)) (c : CopyOfCollection V) (k : ℕ) → k ≢ c.collection → copy_of cs k ≡ None
+      → copy_of (cs ++ c ∷ []) k ≡ None
   none_behind [] c k other e =
       cond-false (k == c.collection) (Some c.copied) None (apart k c.collection other (k == c.collection) refl)
   none_behind (x ∷ cs) c k other e =
       none_if (k == x.collection) x.copied (copy_of cs k) (copy_of (cs ++ c ∷ []) k) (none_behind cs c k other) e
 
-  once_behind : (cs : List (CopyOfCollection V)) (c : CopyOfCollection V) → copy_of cs c.collection ≡ None → AreOnce cs → AreOnce (cs ++ c ∷ [])
+  once_behind : (cs : List (CopyOfCollection V)) (c : CopyOfCollection V) → copy_of cs c.collection ≡ None → AreOnce cs
+      → AreOnce (cs ++ c ∷ [])
   once_behind [] c none once = (refl, tt)
   once_behind (d ∷ cs) c none once =
       let z = apart_from (c.collection == d.collection) c.collection d.collection d.copied (copy_of cs c.collection) refl none in
       (none_behind cs c d.collection z.0 once.0, once_behind cs c z.1 once.1)
 
-  once_put : (k : ℕ) (c : PrivateCopy V) (i : ℕ) (before now : List (CopyOfCollection V)) (o : Option (PrivateCopy V)) → copy_of before k ≡ o
+  once_put : (k : ℕ) (c : PrivateCopy V) (i : ℕ) (before now : List (CopyOfCollection V)) (o : Option (PrivateCopy V))
+      → copy_of before k ≡ o
       → IsPutAt k c i before now o → AreOnce before → AreOnce now
   once_put k c i before now None is put once = subst AreOnce (sym put.1) (once_behind before (copy_with k c) is once)
   once_put k c i before now (Some d) is put once =

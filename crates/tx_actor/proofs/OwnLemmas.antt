@@ -125,10 +125,12 @@ module _ {V : Type 0} where
       stage_by (v.seats a) s (ap (λ (t : own.Stage V). is_loading (stage_of t)) at) runs.0 ∙ ap (λ (t : own.Stage V). stage_of t) at
 
   -- ---- a step
-  pub calm_at : (s : Stage V) (n : Next) → next_of s ≡ n → ((k : ℕ) → n ≡ next.Copy k → ⊥) → (asked : CollectionCall V) → s ≡ Copying asked → ⊥
+  pub calm_at : (s : Stage V) (n : Next) → next_of s ≡ n → ((k : ℕ) → n ≡ next.Copy k → ⊥) → (asked : CollectionCall V)
+      → s ≡ Copying asked → ⊥
   calm_at s n e p asked is = p asked.collection (sym e ∙ ap next_of is)
 
-  step_stays : (w : World V) (a : ℕ) (s : Stage V) (f : After V) → (s ≡ Beginning → ⊥) → ((asked : CollectionCall V) → s ≡ Copying asked → ⊥)
+  step_stays : (w : World V) (a : ℕ) (s : Stage V) (f : After V) → (s ≡ Beginning → ⊥)
+      → ((asked : CollectionCall V) → s ≡ Copying asked → ⊥)
       → is_loading s ≡ false → StepStays w a s f → Stays w f.0 a
   step_stays w a Beginning f b c l h = absurd (b refl)
   step_stays w a (Copying asked) f b c l h = absurd (c asked refl)

@@ -45,7 +45,8 @@ use Rattle.tx_actor.specs.declared.actor.Stage.TheVariants as stage
 use Rattle.tx_actor.specs.declared.actor.ActorNotice.{ActorNotice}
 use Rattle.tx_actor.specs.declared.actor.ActorNotice.TheVariants as told
 use Rattle.tx_actor.specs.declared.actor.TxActor.{TxActor}
-use Rattle.tx_actor.specs.CopiesByStage.{HasAccepted, HasCopies, HasCopiesAt, HasFound, HasGone, HasLoaded, IsAsBefore, OwnsAll, OwnsLoading}
+use Rattle.tx_actor.specs.CopiesByStage.{HasAccepted, HasCopies, HasCopiesAt, HasFound, HasGone}
+use Rattle.tx_actor.specs.CopiesByStage.{HasLoaded, IsAsBefore, OwnsAll, OwnsLoading}
 use Rattle.tx_actor.specs.CopiesByStage.{ReadsOn}
 use Rattle.tx_actor.specs.LoadInWorld.{OwnsCall}
 use Rattle.tx_actor.specs.Running.{Runs, answered_of, notice_of, outcome_in, stage_in, stage_of, with_outcome}
@@ -64,7 +65,8 @@ JoinsLaw V =
 
 module _ {V : Type 0} where
   -- ---- what is answered
-  quiet_stays : (z : World V) (a : ℕ) (p : contents.CallWithOutcome V) (f : After V) (t : ActorNotice V) → t ≡ told.Quiet → notice_of a t ≡ f.1
+  quiet_stays : (z : World V) (a : ℕ) (p : contents.CallWithOutcome V) (f : After V) (t : ActorNotice V) → t ≡ told.Quiet
+      → notice_of a t ≡ f.1
       → StaysOrJoins z a p f → StaysOrJoins z a p (f.0, Quiet)
   quiet_stays z a p f t quiet e h = subst (λ (n : Notice V). StaysOrJoins z a p (f.0, n)) (sym e ∙ ap (notice_of a) quiet) h
 
@@ -95,7 +97,8 @@ module _ {V : Type 0} where
       }
 
   -- ---- what the call results in
-  module _ (stays : StaysLaw V) (joins : JoinsLaw V) (z : World V) (a : ℕ) (r u : TxActor V) (t : ActorNotice V) (o : running.CallWithOutcome V)
+  module _ (stays : StaysLaw V) (joins : JoinsLaw V) (z : World V) (a : ℕ) (r u : TxActor V) (t : ActorNotice V)
+      (o : running.CallWithOutcome V)
       (p : contents.CallWithOutcome V) (es all : Entries) (f : After V) (h : OwnsLoading r z a o all)
       (doomed : IsDoomed (actor_of z a).calls all → IsDoomed (actor_of z a).calls (left_after r.words.reads.entries es))
       (passed : (cs : List Call) → ((l e : ℕ) → first_read (actor_of z a).calls l ≡ Some e → first_read cs l ≡ Some e)
@@ -242,7 +245,8 @@ module _ {V : Type 0} where
           subst (λ (q : TxActor V). HasCopiesAt q f.0 a q.stage) (sym same.0)
           (subst (HasCopiesAt r f.0 a) (sym is) (as_before call left.items (there call left is) h same.0 same.1))
 
-      judges : (call : running.CallWithOutcome V) (left : VecDeque (ℕ × ℕ) Global) (es : Entries) (v : ℕ) → r.stage ≡ stage.Loading call left
+      judges : (call : running.CallWithOutcome V) (left : VecDeque (ℕ × ℕ) Global) (es : Entries) (v : ℕ)
+          → r.stage ≡ stage.Loading call left
           → OwnsLoading r w a call left.items → left.items ≡ es → word_notice w a ≡ notice.Number v → HasFound r u t call es v
           → HasCopies u f.0 a
       judges call left [] v is h e n got = stands call left is h got

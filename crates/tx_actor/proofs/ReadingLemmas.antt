@@ -196,7 +196,8 @@ module _ {V : Type 0} where
     call_on = h.call_on;
   }
 
-  module _ (v : BlocksView) (r : TxActor V) (y : Actor) (o : running.CallWithOutcome V) (left : VecDeque (ℕ × ℕ) Global) (d : ℕ × ℕ) (es : Entries)
+  module _ (v : BlocksView) (r : TxActor V) (y : Actor) (o : running.CallWithOutcome V) (left : VecDeque (ℕ × ℕ) Global) (d : ℕ × ℕ)
+      (es : Entries)
       (first : left.items ≡ d ∷ es) (fits : Fits (end_of v.words v.blocks) r.words) (keeps : KeepsRoom r.words y)
       (can : CanLoad r o (d ∷ es)) (named : o.asked.collection < length v.blocks) (call : IsCallOf v r.copies.items o left.items) where
     abbrev u : TxActor V

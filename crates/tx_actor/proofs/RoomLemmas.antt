@@ -317,7 +317,8 @@ module _ {V : Type 0} where
   }
 
   -- the first location that is not read is read next
-  pub goes_on_next : (v : BlocksView) (r : TxActor V) (o : running.CallWithOutcome V) (es : Entries) (l : ℕ) (left : VecDeque (ℕ × ℕ) Global)
+  pub goes_on_next : (v : BlocksView) (r : TxActor V) (o : running.CallWithOutcome V) (es : Entries) (l : ℕ)
+      (left : VecDeque (ℕ × ℕ) Global)
       → judged r.words.reads.entries es ≡ judged_as.Next l → left.items ≡ left_after r.words.reads.entries es → CanAccept r o
       → CanGoOn v r o es
       → KeepsIn v (at r stage.Idle) (record r { words = record r.words { place = place.Look l }; stage = stage.Loading o left })

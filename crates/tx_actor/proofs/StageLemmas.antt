@@ -23,7 +23,8 @@ use Rattle.tx_actor.specs.declared.actor.CallWithOutcome as running
 use Rattle.tx_actor.specs.declared.actor.Stage.{Stage}
 use Rattle.tx_actor.specs.declared.actor.Stage.TheVariants as stage
 use Rattle.tx_actor.specs.declared.actor.TxActor.{TxActor}
-use Rattle.tx_actor.specs.CopiesByStage.{AsksNothing, HasCopies, HasCopiesAt, IsWhole, IsWholeOf, KeepsCopies, KeepsFrom, KeepsOpen, OwnsAll}
+use Rattle.tx_actor.specs.CopiesByStage.{AsksNothing, HasCopies, HasCopiesAt, IsWhole, IsWholeOf}
+use Rattle.tx_actor.specs.CopiesByStage.{KeepsCopies, KeepsFrom, KeepsOpen, OwnsAll}
 use Rattle.tx_actor.specs.CopiesByStage.{OwnsHomes, OwnsLoading, ReadsStill}
 use Rattle.tx_actor.specs.ActorBounds.{IsCallAt, IsRunning}
 use Rattle.tx_actor.specs.LoadInWorld.{IsCallOn}
@@ -68,9 +69,11 @@ module _ {V : Type 0} where
   homes_stay : StaysLaw V → (r u : TxActor V) (w v : World V) (a : ℕ) (ks : List ℕ) → u.copies.items ≡ r.copies.items → Stays w v a
       → OwnsHomes r w a ks → OwnsHomes u v a ks
   homes_stay law r u w v a ks same st h k there =
-      subst (λ (cs : List (CopyOfCollection V)). IsOwn v a k (copy_of cs k)) (sym same) ((law w v a k (copy_of r.copies.items k) st).0 (h k there))
+      subst (λ (cs : List (CopyOfCollection V)). IsOwn v a k (copy_of cs k)) (sym same)
+      ((law w v a k (copy_of r.copies.items k) st).0 (h k there))
 
-  opens : (s : Stage V) (before now : List (CopyOfCollection V)) → (s ≡ stage.Beginning → ⊥) → KeepsOpen s before now → IsWhole s × (now ≡ before)
+  opens : (s : Stage V) (before now : List (CopyOfCollection V)) → (s ≡ stage.Beginning → ⊥) → KeepsOpen s before now
+      → IsWhole s × (now ≡ before)
   opens stage.Beginning before now begun k = absurd (begun refl)
   opens s before now begun k = k
 

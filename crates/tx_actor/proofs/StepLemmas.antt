@@ -263,7 +263,8 @@ module _ {V : Type 0} where
   plain_put stage.Releasing k e = let z : ⊥ = cc in absurd z
   plain_put t k e = refl
 
-  pub runs_moved : (w : World V) (a : ℕ) (r : TxActor V) (e : Action (CollectionCall V)) → (acted w (e ∷ [])).boosted.words ≡ w.boosted.words
+  pub runs_moved : (w : World V) (a : ℕ) (r : TxActor V) (e : Action (CollectionCall V))
+      → (acted w (e ∷ [])).boosted.words ≡ w.boosted.words
       → Runs a r w → Runs a r (acted w (e ∷ []))
   runs_moved w a r e same h = (
     h.0,

@@ -36,7 +36,8 @@ module _ {V : Type 0} where
 
 -- A call whose locations are read stands on the copy of its collection among these, which begins where v says; what is still to be read,
 -- and what it writes, are locations of v.
-pub record IsCallOf {V : Type 0} (v : BlocksView) (cs : List (CopyOfCollection V)) (o : running.CallWithOutcome V) (left : Entries) : Type 0 where
+pub record IsCallOf {V : Type 0} (v : BlocksView) (cs : List (CopyOfCollection V)) (o : running.CallWithOutcome V) (left : Entries) : Type
+    0 where
   pub reads : All (λ d. d.0 < end_of v.words v.blocks) left
   pub writes : All (λ d. d.0 < end_of v.words v.blocks) o.writes.items
   pub copy : PrivateCopy V

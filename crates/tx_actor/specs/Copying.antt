@@ -66,14 +66,16 @@ module _ {V : Type 0} where
     pub pieces : HaveSame r.copies.items u.copies.items
 
   -- What was found is taken, for a call that is ready now, of the copy at place i.
-  pub record IsReadyAt (r u : TxActor V) (n f : ℕ) (found : BaseExcerpt V) (asked : CollectionCall V) (i : ℕ) (x : Prepared V) : Type 0 where
-    pub copies : Vec (CopyOfCollection V)
-    pub at : IsTakenAt n asked.collection found i r.copies.items copies.items
-    pub alike : IsAlike (record r { copies = copies }) u
-    pub ready : IsReadyCall (record r { copies = copies }) u i f asked.op (copy_with asked.collection at.copy) (prepared_of x asked i)
+  pub record IsReadyAt (r u : TxActor V) (n f : ℕ) (found : BaseExcerpt V) (asked : CollectionCall V) (i : ℕ) (x : Prepared V) : Type 0
+    where
+      pub copies : Vec (CopyOfCollection V)
+      pub at : IsTakenAt n asked.collection found i r.copies.items copies.items
+      pub alike : IsAlike (record r { copies = copies }) u
+      pub ready : IsReadyCall (record r { copies = copies }) u i f asked.op (copy_with asked.collection at.copy) (prepared_of x asked i)
 
   -- So it is of the call asked, which has become c, with what is left to be judged of it.
-  abbrev pub IsReadyIn : (r u : TxActor V) (n f : ℕ) → BaseExcerpt V → CollectionCall V → running.CallWithOutcome V → VecDeque (ℕ × ℕ) Global → Type 0
+  abbrev pub IsReadyIn : (r u : TxActor V) (n f : ℕ) → BaseExcerpt V → CollectionCall V → running.CallWithOutcome V
+      → VecDeque (ℕ × ℕ) Global → Type 0
   IsReadyIn r u n f found asked c left =
       let x : Prepared V = record { call = c; left = left } in
       (i : ℕ) × (x ≡ prepared_of x asked i) × IsReadyAt r u n f found asked i x
@@ -85,7 +87,8 @@ module _ {V : Type 0} where
     pub base : Base V
     pub is : IsFound base asked.op found
     pub stripes : 0 < n
-    pub kinds : (c : PrivateCopy V) → copy_of r.copies.items asked.collection ≡ Some c → kind_of (shown_of (base_in c)) ≡ kind_of (shown_of base)
+    pub kinds : (c : PrivateCopy V) → copy_of r.copies.items asked.collection ≡ Some c
+        → kind_of (shown_of (base_in c)) ≡ kind_of (shown_of base)
     pub unheld : holds_of (copy_of r.copies.items asked.collection) asked.op ≡ false
     pub copy : (d : PrivateCopy V) → IsTaken n found (copy_of r.copies.items asked.collection) d
         → (holds_call d asked.op ≡ true) × (0 < stripes_of (base_in d)) × (f + location_count d ≤ 2 ^ 32) × IsSome (answer_of d asked.op)

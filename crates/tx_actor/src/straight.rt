@@ -136,7 +136,8 @@ impl<V: Value> TxActor<V> {
         requires may { worlds.may_ask (actor_of self.old.words) op ≡ true }
         requires held { IsHeldAt self.old.copies.items place collection op }
         requires first { first ≡ first_of blocks.now.words blocks.now.blocks collection }
-        requires read { (c : CopyOfCollection V) → slice_get self.old.copies.items place ≡ Some c → IsPutRead self.old.words c.copied first op at }
+        requires read { (c : CopyOfCollection V) → slice_get self.old.copies.items place ≡ Some c
+            → IsPutRead self.old.words c.copied first op at }
         ensures ok { IfOk result (λ told. AsksOwn blocks.now self.old self.new told
             (λ a w. calls_on w a (seat_of self.old) (call_on collection op))) }
         ensures err { OnErr result (IsAlike self.old self.new) }

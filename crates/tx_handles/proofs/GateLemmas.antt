@@ -1,5 +1,6 @@
 -- A call at one key, on a map or a multiset over several gates: the collection that has the key answers as the whole one would.
-use Rattle.std.proofs.Common.{◌≡◌, ◌⊎◌, ℕ, zero, suc, ◌+◌, ◌-◌, ◌%◌, ◌<◌, ◌≤◌, ◌==◌, Bool, true, false, cond, List, [], ◌∷◌, Option, Some, None, inl, inr}
+use Rattle.std.proofs.Common.{◌≡◌, ◌⊎◌, ℕ, zero, suc, ◌+◌, ◌-◌, ◌%◌, ◌<◌, ◌≤◌, ◌==◌, Bool}
+use Rattle.std.proofs.Common.{true, false, cond, List, [], ◌∷◌, Option, Some, None, inl, inr}
 use Rattle.std.proofs.Common.{refl, sym, ap, subst, ◌∙◌, arith, eqb-true, unwrap_or, nat_lt}
 use Rattle.std.specs.Prelude.{Err, IfOk, Ok, Result, option_map, option_and_then, slice_get, slice_set, if◌then◌else◌}
 use Rattle.std.specs.Cmp.{nat_cmp_total}
@@ -34,7 +35,8 @@ mod_within x n = let h = mod_below x (n + 1) (omega arith) in omega (arith, h)
 
 pub place_within : (g : Gates) (k : ℕ) → place_of g k ≤ g.others
 unfolding place_of
-place_within g k = elim (g.others == 0) as (λ b. cond b 0 (hash_of g.seed k % (g.others + 1)) ≤ g.others) [ true ↦ omega arith | false ↦ mod_within _ g.others ]
+place_within g k = elim (g.others == 0) as (λ b. cond b 0 (hash_of g.seed k % (g.others + 1)) ≤ g.others)
+    [ true ↦ omega arith | false ↦ mod_within _ g.others ]
 
 pub place_of_one : (g : Gates) (k : ℕ) → g.others ≡ 0 → place_of g k ≡ 0
 place_of_one g k one = let h = place_within g k in omega (arith, h, one)
@@ -138,7 +140,8 @@ module _ {V X : Type 0} (kind : FinMap nat_cmp X → Held V) (op : Op V) (f : Fi
       call_here : call_of the_call s ≡ Some ((f (part_of u)).0, after_it)
       call_here =
           at.calls where_it_is s
-          ∙ ap (option_and_then (λ h. option_map (λ (r : Reply V × Held V). (r.0, record s { held = slice_set s.held where_it_is r.1 })) (held_call op h))) here
+          ∙ ap (option_and_then (λ h. option_map (λ (r : Reply V × Held V). (r.0, record s { held = slice_set s.held where_it_is r.1 }))
+          (held_call op h))) here
           ∙ ap (option_map (λ (r : Reply V × Held V). (r.0, record s { held = slice_set s.held where_it_is r.1 }))) (at.answers (part_of u))
 
       lie_at : (i : ℕ) (b : Bool) → i ≤ g.others → (place_of g k == i) ≡ b
@@ -238,7 +241,8 @@ kept_copies p m k passes = ap (λ o. unwrap_or o 0) (kept_at p m k passes)
 
 kept_with : (p : ℕ → Bool) (m : Multiset) (k n : ℕ) → p k ≡ true → with_copies (retain_keys m p) k n ≡ retain_keys (with_copies m k n) p
 kept_with p m k n passes =
-    elim (n == 0) as (λ b. cond b (remove (retain_keys m p) k) (insert (retain_keys m p) k n) ≡ retain_keys (cond b (remove m k) (insert m k n)) p)
+    elim (n == 0) as (λ b. cond b (remove (retain_keys m p) k) (insert (retain_keys m p) k n) ≡ retain_keys
+    (cond b (remove m k) (insert m k n)) p)
     [ true ↦ kept_remove p m k passes | false ↦ kept_insert p m k n passes ]
 
 left_with : (p : ℕ → Bool) (m : Multiset) (k n : ℕ) → p k ≡ false → retain_keys (with_copies m k n) p ≡ retain_keys m p
@@ -268,7 +272,8 @@ module _ (k : ℕ) where
   }
 
 -- one of two outcomes, by a test of the number of copies
-module _ {V : Type 0} (k : ℕ) (test : ℕ → Bool) (yes no : Reply V) (a b : Multiset → ℕ → Multiset) (at_a : IsAtElement k a) (at_b : IsAtElement k b) where
+module _ {V : Type 0} (k : ℕ) (test : ℕ → Bool) (yes no : Reply V) (a b : Multiset → ℕ
+    → Multiset) (at_a : IsAtElement k a) (at_b : IsAtElement k b) where
   abbrev by_test : Bool → Multiset → ℕ → Reply V × Multiset
   by_test true m n = (yes, a m n)
   by_test false m n = (no, b m n)
@@ -277,7 +282,8 @@ module _ {V : Type 0} (k : ℕ) (test : ℕ → Bool) (yes no : Reply V) (a b : 
   reply_by true m p n = refl
   reply_by false m p n = refl
 
-  inside_by : (t : Bool) (m : Multiset) (p : ℕ → Bool) (n : ℕ) → p k ≡ true → (by_test t (retain_keys m p) n).1 ≡ retain_keys (by_test t m n).1 p
+  inside_by : (t : Bool) (m : Multiset) (p : ℕ → Bool) (n : ℕ) → p k ≡ true
+      → (by_test t (retain_keys m p) n).1 ≡ retain_keys (by_test t m n).1 p
   inside_by true m p n passes = at_a.inside m p n passes
   inside_by false m p n passes = at_b.inside m p n passes
 
@@ -288,7 +294,8 @@ module _ {V : Type 0} (k : ℕ) (test : ℕ → Bool) (yes no : Reply V) (a b : 
   abbrev outcome : Multiset → ℕ → Reply V × Multiset
   outcome m n = by_test (test n) m n
 
-  outcome_reply : (m : Multiset) (p : ℕ → Bool) → p k ≡ true → (outcome (retain_keys m p) (copies (retain_keys m p) k)).0 ≡ (outcome m (copies m k)).0
+  outcome_reply : (m : Multiset) (p : ℕ → Bool) → p k ≡ true
+      → (outcome (retain_keys m p) (copies (retain_keys m p) k)).0 ≡ (outcome m (copies m k)).0
   outcome_reply m p passes =
       ap (λ n. (outcome (retain_keys m p) n).0) (kept_copies p m k passes) ∙ reply_by (test (copies m k)) m p (copies m k)
 
@@ -302,16 +309,19 @@ module _ {V : Type 0} (k : ℕ) (test : ℕ → Bool) (yes no : Reply V) (a b : 
 
 module _ {V : Type 0} (k : ℕ) where
   abbrev added : Multiset → Reply V × Multiset
-  added m = outcome k (λ n. nat_lt n COPY_LIMIT) replies.Done replies.Full (λ u n. with_copies u k (n + 1)) (λ u n. u) (one_more k) (no_change k) m (copies m k)
+  added m = outcome k (λ n. nat_lt n COPY_LIMIT) replies.Done replies.Full (λ u n. with_copies u k (n + 1)) (λ u n. u) (one_more k)
+      (no_change k) m (copies m k)
 
   abbrev taken : Multiset → Reply V × Multiset
-  taken m = outcome k (λ n. n == 0) replies.No replies.Yes (λ u n. u) (λ u n. with_copies u k (n - 1)) (no_change k) (one_fewer k) m (copies m k)
+  taken m = outcome k (λ n. n == 0) replies.No replies.Yes (λ u n. u) (λ u n. with_copies u k (n - 1)) (no_change k) (one_fewer k) m
+      (copies m k)
 
   added_is : (m : Multiset) → add_call {V = V} k m ≡ added m
   added_is m = at (nat_lt (copies m k) COPY_LIMIT)
     where
       at : (b : Bool) → ◌≡◌ {A = Reply V × Multiset} (if b then (replies.Done, with_copies m k (copies m k + 1)) else (replies.Full, m))
-          (by_test k (λ n. nat_lt n COPY_LIMIT) replies.Done replies.Full (λ u n. with_copies u k (n + 1)) (λ u n. u) (one_more k) (no_change k) b m (copies m k))
+          (by_test k (λ n. nat_lt n COPY_LIMIT) replies.Done replies.Full (λ u n. with_copies u k (n + 1)) (λ u n. u) (one_more k)
+          (no_change k) b m (copies m k))
       at true = refl
       at false = refl
 
@@ -319,7 +329,8 @@ module _ {V : Type 0} (k : ℕ) where
   taken_is m = at (copies m k == 0)
     where
       at : (b : Bool) → ◌≡◌ {A = Reply V × Multiset} (if b then (replies.No, m) else (replies.Yes, with_copies m k (copies m k - 1)))
-          (by_test k (λ n. n == 0) replies.No replies.Yes (λ u n. u) (λ u n. with_copies u k (n - 1)) (no_change k) (one_fewer k) b m (copies m k))
+          (by_test k (λ n. n == 0) replies.No replies.Yes (λ u n. u) (λ u n. with_copies u k (n - 1)) (no_change k) (one_fewer k) b m
+          (copies m k))
       at true = refl
       at false = refl
 
@@ -336,9 +347,12 @@ module _ {V : Type 0} (k : ℕ) where
   at_add = record {
     calls = λ t s. refl;
     answers = λ m. ap (λ (r : Reply V × Multiset). Some (r.0, held.Bag r.1)) (added_is m);
-    reply = outcome_reply k (λ n. nat_lt n COPY_LIMIT) replies.Done replies.Full (λ u n. with_copies u k (n + 1)) (λ u n. u) (one_more k) (no_change k);
-    inside = outcome_inside k (λ n. nat_lt n COPY_LIMIT) replies.Done replies.Full (λ u n. with_copies u k (n + 1)) (λ u n. u) (one_more k) (no_change k);
-    outside = outcome_outside k (λ n. nat_lt n COPY_LIMIT) replies.Done replies.Full (λ u n. with_copies u k (n + 1)) (λ u n. u) (one_more k) (no_change k);
+    reply = outcome_reply k (λ n. nat_lt n COPY_LIMIT) replies.Done replies.Full (λ u n. with_copies u k (n + 1)) (λ u n. u) (one_more k)
+        (no_change k);
+    inside = outcome_inside k (λ n. nat_lt n COPY_LIMIT) replies.Done replies.Full (λ u n. with_copies u k (n + 1)) (λ u n. u)
+        (one_more k) (no_change k);
+    outside = outcome_outside k (λ n. nat_lt n COPY_LIMIT) replies.Done replies.Full (λ u n. with_copies u k (n + 1)) (λ u n. u)
+        (one_more k) (no_change k);
   }
 
   at_take : IsAtKey {V = V} held.Bag (ops.Take k) taken k
@@ -347,11 +361,13 @@ module _ {V : Type 0} (k : ℕ) where
     answers = λ m. ap (λ (r : Reply V × Multiset). Some (r.0, held.Bag r.1)) (taken_is m);
     reply = outcome_reply k (λ n. n == 0) replies.No replies.Yes (λ u n. u) (λ u n. with_copies u k (n - 1)) (no_change k) (one_fewer k);
     inside = outcome_inside k (λ n. n == 0) replies.No replies.Yes (λ u n. u) (λ u n. with_copies u k (n - 1)) (no_change k) (one_fewer k);
-    outside = outcome_outside k (λ n. n == 0) replies.No replies.Yes (λ u n. u) (λ u n. with_copies u k (n - 1)) (no_change k) (one_fewer k);
+    outside = outcome_outside k (λ n. n == 0) replies.No replies.Yes (λ u n. u) (λ u n. with_copies u k (n - 1)) (no_change k)
+        (one_fewer k);
   }
 
   module _ (before now : TransactionShown V) (b : Bag) (r x : Reply V) (is : r ≡ x) where
-    pub bag_counts : HasMade before b.store (b.gates.first + place_of b.gates k) (ops.Count k) r now → BagAnswers before b k (ops.Count k) x now
+    pub bag_counts : HasMade before b.store (b.gates.first + place_of b.gates k) (ops.Count k) r now
+        → BagAnswers before b k (ops.Count k) x now
     bag_counts has = subst (λ (y : Reply V). BagAnswers before b k (ops.Count k) y now) is
         (made_one held.Bag (ops.Count k) (λ m. (replies.Number (copies m k), m)) k at_count b.gates before now b.store r has)
 
@@ -361,7 +377,8 @@ module _ {V : Type 0} (k : ℕ) where
         (λ i m. Some (sym (added_is m) i))
         (made_one held.Bag (ops.Add k) added k at_add b.gates before now b.store r has))
 
-    pub bag_takes : HasMade before b.store (b.gates.first + place_of b.gates k) (ops.Take k) r now → BagAnswers before b k (ops.Take k) x now
+    pub bag_takes : HasMade before b.store (b.gates.first + place_of b.gates k) (ops.Take k) r now
+        → BagAnswers before b k (ops.Take k) x now
     bag_takes has = subst (λ (y : Reply V). BagAnswers before b k (ops.Take k) y now) is
         (subst (λ (call : Multiset → Option (Reply V × Multiset)). HasMadeAt held.Bag call b.gates k (ops.Take k) r before b.store now)
         (λ i m. Some (sym (taken_is m) i))

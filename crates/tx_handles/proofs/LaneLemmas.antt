@@ -1,5 +1,6 @@
 -- Calls on a queue in lanes: each is a call on one lane, and lanes that are looked at in vain are as they were.
-use Rattle.std.proofs.Common.{◌≡◌, ◌⊎◌, ℕ, zero, suc, ◌+◌, ◌<◌, ◌≤◌, ◌==◌, Bool, true, false, List, [], ◌∷◌, ◌++◌, length, Some, None, Ok, Err, inl, inr}
+use Rattle.std.proofs.Common.{◌≡◌, ◌⊎◌, ℕ, zero, suc, ◌+◌, ◌<◌, ◌≤◌, ◌==◌, Bool, true, false}
+use Rattle.std.proofs.Common.{List, [], ◌∷◌, ◌++◌, length, Some, None, Ok, Err, inl, inr}
 use Rattle.std.proofs.Common.{refl, sym, ap, subst, ◌∙◌, append-nil, append_assoc, arith, eqb-true, nat_lt}
 use Rattle.std.specs.Prelude.{Option, Result, option_and_then, option_map, slice_get, slice_set, if◌then◌else◌}
 use Rattle.std.proofs.lemmas.Bool.Decides.{nat_tests}
@@ -111,8 +112,10 @@ module _ {V : Type 0} where
             ),
             beside head (xs ++ item ∷ []),
           )
-      adds {E} (Ok done) false head xs q same is reply = absurd (let e : ◌≡◌ {A = Reply V} replies.Full replies.Done = sym (ap (λ (p : Reply V × ℕ × List ℕ). p.0) is) ∙ reply in cc)
-      adds {E} (Err full) true head xs q same is reply = absurd (let e : ◌≡◌ {A = Reply V} replies.Done replies.Full = sym (ap (λ (p : Reply V × ℕ × List ℕ). p.0) is) ∙ reply in cc)
+      adds {E} (Ok done) false head xs q same is reply =
+          absurd (let e : ◌≡◌ {A = Reply V} replies.Full replies.Done = sym (ap (λ (p : Reply V × ℕ × List ℕ). p.0) is) ∙ reply in cc)
+      adds {E} (Err full) true head xs q same is reply =
+          absurd (let e : ◌≡◌ {A = Reply V} replies.Done replies.Full = sym (ap (λ (p : Reply V × ℕ × List ℕ). p.0) is) ∙ reply in cc)
       adds {E} (Err full) false head xs q same is reply =
           subst (λ (p : Reply V × ℕ × List ℕ). DoesAdd {E = E} (Err full) (with_queue p.1 p.2)) (sym is)
           (unchanged_lanes head xs same, beside head xs)
@@ -150,7 +153,8 @@ module _ {V : Type 0} where
     takes None head (x ∷ xs) q same is reply =
         absurd (let e : ◌≡◌ {A = Reply V} (replies.Found x) replies.Nothing = sym (ap (λ (p : Reply V × ℕ × List ℕ). p.0) is) ∙ reply in cc)
     takes (Some item) head [] q same is reply =
-        absurd (let e : ◌≡◌ {A = Reply V} replies.Nothing (replies.Found item) = sym (ap (λ (p : Reply V × ℕ × List ℕ). p.0) is) ∙ reply in cc)
+        absurd (let e : ◌≡◌ {A = Reply V} replies.Nothing (replies.Found item) =
+        sym (ap (λ (p : Reply V × ℕ × List ℕ). p.0) is) ∙ reply in cc)
     takes (Some item) head (x ∷ xs) q same is reply =
         let e : ◌≡◌ {A = Reply V} (replies.Found x) (replies.Found item) = sym (ap (λ (p : Reply V × ℕ × List ℕ). p.0) is) ∙ reply in
         let is_item : x ≡ item = cc in
@@ -165,7 +169,8 @@ module _ {V : Type 0} where
         subst (IsTakenHere found) (sym is.1) (takes found (at i le).0 (lanes i) given refl refl reply)
 
   -- ---- enqueue
-  pub has_added : {E : Type 0} (before now : TransactionShown V) (l : Lanes) (own number item : ℕ) (added : Result (Unit {0}) E) (r : Reply V)
+  pub has_added : {E : Type 0} (before now : TransactionShown V) (l : Lanes) (own number item : ℕ) (added : Result (Unit {0}) E)
+      (r : Reply V)
       → own ≤ l.gates.others → number ≡ l.gates.first + own → HasMade before l.store number (ops.Enqueue item) r now → r ≡ room_reply added
       → HasDoneWithLanes before l (λ lanes t. IsAdded l.gates lanes item added t) now
   has_added before now l own number item added r le there has is = record {
@@ -188,10 +193,12 @@ module _ {V : Type 0} where
     are = λ s lanes at legal. ((λ i from to. absurd (omega (arith, from, to)), at), same_self l.gates s);
   }
 
-  take_one : (g : Gates) (s t : Contents V) (lanes : ℕ → List ℕ) (at : AreLanes g lanes t.held) (i first end : ℕ) (le : i ≤ g.others) (found : Option ℕ)
+  take_one : (g : Gates) (s t : Contents V) (lanes : ℕ
+      → List ℕ) (at : AreLanes g lanes t.held) (i first end : ℕ) (le : i ≤ g.others) (found : Option ℕ)
       → end ≡ i + 1 → ((j : ℕ) → first ≤ j → j < i → lanes j ≡ []) → AreSameBeside g s t
       → reply_of (taking g lanes t at i le) t ≡ Some (found_reply found)
-      → IsTakenFrom g first end lanes found (after_call (taking g lanes t at i le) t) × AreSameBeside g s (after_call (taking g lanes t at i le) t)
+      → IsTakenFrom g first end lanes found (after_call (taking g lanes t at i le) t)
+      × AreSameBeside g s (after_call (taking g lanes t at i le) t)
   take_one g s t lanes at i first end le (Some item) ends none same has =
       let is = does_take g lanes t at i le (Some item) has in
       (is.0, then_same g s t _ same is.1)
@@ -212,7 +219,11 @@ module _ {V : Type 0} where
     own = λ lt. sym (ap (λ (t : TransactionShown V). t.store) so.made) ∙ has.0;
     more = so.more ++ (record { target = l.gates.first + i; op = ops.Dequeue }, found_reply found) ∷ [];
     made = has.1
-        ∙ (λ j. record { store = (so.made j).store; calls = (so.made j).calls ++ (record { target = there j; op = ops.Dequeue }, is j) ∷ [] })
+        ∙ (λ j. record {
+          store = (so.made j).store;
+          calls =
+              (so.made j).calls ++ (record { target = there j; op = ops.Dequeue }, is j) ∷ [];
+        })
         ∙ ap (λ (cs : List (Call V × Reply V)). record { store = before.store; calls = cs }) (append_assoc before.calls so.more _);
     are = λ s lanes at legal.
         let parts = legal_parts so.more _ s legal in
@@ -238,7 +249,8 @@ module _ {V : Type 0} where
   }
 
   -- ---- the whole round: from the own lane on, and then up to it
-  pub taken_first : (before now : TransactionShown V) (l : Lanes) (own end item : ℕ) → own < end → HasTakenFrom before l own end (Some item) now
+  pub taken_first : (before now : TransactionShown V) (l : Lanes) (own end item : ℕ) → own < end
+      → HasTakenFrom before l own end (Some item) now
       → HasDoneWithLanes before l (λ lanes t. IsTaken l.gates lanes (Some item) t) now
   taken_first before now l own end item lt has = record { own = has.own lt; more = has.more; made = has.made; are = has.are }
 
@@ -259,7 +271,8 @@ module _ {V : Type 0} where
     more = first.more ++ second.more;
     made = second.made
         ∙ (λ j. record { store = (first.made j).store; calls = (first.made j).calls ++ second.more })
-        ∙ ap (λ (cs : List (Call V × Reply V)). record { store = before.store; calls = cs }) (append_assoc before.calls first.more second.more);
+        ∙ ap (λ (cs : List (Call V × Reply V)). record { store = before.store; calls = cs })
+        (append_assoc before.calls first.more second.more);
     are = λ s lanes at legal.
         let parts = legal_parts first.more second.more s legal in
         let one = first.are s lanes at parts.0 in
@@ -279,7 +292,8 @@ module _ {V : Type 0} where
   counted g total calls are s lanes at legal =
       let here : IsLegal (len_calls g.first are.counts) s = subst (λ cs. IsLegal cs s) are.made legal in
       let so = counts_sum g.first are.counts s (λ i. length (lanes i))
-      (λ i lt. let le : i ≤ g.others = omega (arith, lt, are.all) in queue_has_len s (g.first + i) (at i le).0 (lanes i) (at i le).1) here in
+      (λ i lt. let le : i ≤ g.others = omega (arith, lt, are.all) in queue_has_len s (g.first + i) (at i le).0 (lanes i) (at i le).1)
+      here in
       let many = ap (below (λ i. length (lanes i))) are.all in
       let same : after_calls calls s ≡ s = ap (λ cs. after_calls cs s) are.made ∙ lens_leave g.first are.counts s here in
       subst (λ t. IsCounted g lanes total t × AreSameBeside g s t) (sym same)

@@ -1,5 +1,6 @@
 -- Collections over several gates, as they are laid out: each entry in the part that has its key.
-use Rattle.std.proofs.Common.{◌≡◌, ℕ, zero, suc, ◌+◌, ◌<◌, ◌≤◌, ◌==◌, Bool, true, false, cond, List, [], ◌∷◌, ◌++◌, length, map, Some, None, Option}
+use Rattle.std.proofs.Common.{◌≡◌, ℕ, zero, suc, ◌+◌, ◌<◌, ◌≤◌, ◌==◌, Bool, true, false}
+use Rattle.std.proofs.Common.{cond, List, [], ◌∷◌, ◌++◌, length, map, Some, None, Option}
 use Rattle.std.proofs.Common.{refl, sym, ap, subst, ◌∙◌, arith, eqb-true, get_or, replicate}
 use Rattle.std.specs.Prelude.{All, option_map, slice_get, slice_set, if◌then◌else◌}
 use Rattle.std.specs.Cmp.{nat_cmp_total}
@@ -16,7 +17,8 @@ use Rattle.seq_model.specs.Entries.{inserts}
 use Rattle.tx_handles.specs.declared.gates.Gates.{Gates}
 use Rattle.tx_handles.specs.Gates.{AreParts, LieOver, place_of}
 use Rattle.tx_handles.specs.Lanes.{AreFirstOf, AreLanes, first_lane}
-use Rattle.tx_handles.proofs.GateLemmas.{equal, kept_get, kept_insert, left_insert, place_of_one, place_within, set_here, set_there, unequal}
+use Rattle.tx_handles.proofs.GateLemmas.{equal, kept_get, kept_insert, left_insert, place_of_one}
+use Rattle.tx_handles.proofs.GateLemmas.{place_within, set_here, set_there, unequal}
 
 -- ---- lists, one after another
 past : {A : Type 0} (xs ys : List A) (i : ℕ) → slice_get (xs ++ ys) (length xs + i) ≡ slice_get ys i
@@ -39,7 +41,8 @@ all_kept g u one = same_map nat_cmp_total nat_cmp-IsAntisymmetric _ _ (λ q.
     kept_get (λ k. place_of g k == 0) u q ∙ ap (λ b. cond b (get u q) None) (ap (λ p. p == 0) (place_of_one g q one)))
 
 module _ {V X : Type 0} (kind : FinMap nat_cmp X → Held V) where
-  one_lies : (g : Gates) (u : FinMap nat_cmp X) (hs : List (Held V)) → g.others ≡ 0 → slice_get hs g.first ≡ Some (kind u) → LieOver kind g u hs
+  one_lies : (g : Gates) (u : FinMap nat_cmp X) (hs : List (Held V)) → g.others ≡ 0 → slice_get hs g.first ≡ Some (kind u)
+      → LieOver kind g u hs
   one_lies g u hs one at i le =
       let none : 0 ≡ i = omega (arith, one, le) in
       let there : g.first ≡ g.first + 0 = omega arith in
@@ -57,7 +60,8 @@ module _ {V X : Type 0} (kind : FinMap nat_cmp X → Held V) where
 
 module _ {V A : Type 0} (held_of : A → Held V) (g : Gates) (olds : List A) (all now : List (Held V)) (first : g.first ≡ length olds)
     (after : now ≡ map held_of olds ++ all) where
-  pub laid_map : (u : FinMap nat_cmp V) (parts : List (FinMap nat_cmp V)) → AreParts g u parts → all ≡ map held.Map parts → LieOver held.Map g u now
+  pub laid_map : (u : FinMap nat_cmp V) (parts : List (FinMap nat_cmp V)) → AreParts g u parts → all ≡ map held.Map parts
+      → LieOver held.Map g u now
   laid_map u parts are each = laid held.Map held_of g u olds parts all now first are each after
 
   pub laid_bag : (u : Multiset) (parts : List Multiset) → AreParts g u parts → all ≡ map held.Bag parts → LieOver held.Bag g u now
@@ -70,7 +74,8 @@ module _ {V A : Type 0} (held_of : A → Held V) (g : Gates) (olds : List A) (al
 
 -- ---- the items are in the first lane
 first_at : (V : Type 0) (n : ℕ) (items : List ℕ) (i : ℕ) → i ≤ n
-    → let queues : List (Held V) = held.Queue 0 items ∷ replicate n (held.Queue 0 []) in slice_get queues i ≡ Some (held.Queue 0 (first_lane items i))
+    → let queues : List (Held V) = held.Queue 0 items ∷ replicate n (held.Queue 0 []) in slice_get queues i ≡ Some
+    (held.Queue 0 (first_lane items i))
 first_at V n items zero le = refl
 first_at V n items (suc i) le =
     let none : Held V = held.Queue 0 [] in
@@ -106,7 +111,8 @@ module _ {X : Type 0} (g : Gates) where
   pub no_parts : (parts : List (FinMap nat_cmp X)) → parts ≡ replicate (g.others + 1) empty → AreParts g empty parts
   no_parts parts are = (
     ap length are ∙ length-replicate (g.others + 1) empty,
-    λ i le. ap (λ ps. slice_get ps i) are ∙ in_replicate (g.others + 1) i empty (omega (arith, le)) ∙ ap Some (sym (none_kept (λ k. place_of g k == i))),
+    λ i le. ap (λ ps. slice_get ps i) are ∙ in_replicate (g.others + 1) i empty (omega (arith, le))
+        ∙ ap Some (sym (none_kept (λ k. place_of g k == i))),
   )
 
   pub with_entry : (u : FinMap nat_cmp X) (parts : List (FinMap nat_cmp X)) (k : ℕ) (v : X) (part : FinMap nat_cmp X) → AreParts g u parts
@@ -119,7 +125,8 @@ module _ {X : Type 0} (g : Gates) where
           let same : place_of g k ≡ i = eqb-true (place_of g k) i is in
           let e : Some part ≡ Some (retain_keys u (λ q. place_of g q == place_of g k)) = sym at ∙ are.1 (place_of g k) (place_within g k) in
           let own : part ≡ retain_keys u (λ q. place_of g q == place_of g k) = cc in
-          subst (λ j. slice_get (slice_set parts (place_of g k) (insert part k v)) j ≡ Some (retain_keys (insert u k v) (λ q. place_of g q == j))) same
+          subst (λ j. slice_get (slice_set parts (place_of g k) (insert part k v)) j ≡ Some
+          (retain_keys (insert u k v) (λ q. place_of g q == j))) same
           (set_here parts (place_of g k) part (insert part k v) at
           ∙ ap (λ m. Some (insert m k v)) own
           ∙ ap Some (kept_insert (λ q. place_of g q == place_of g k) u k v (equal (place_of g k))))
@@ -132,8 +139,10 @@ module _ {X : Type 0} (g : Gates) where
       → AreParts g (inserts empty (es ++ (k, v) ∷ [])) (slice_set parts place next)
   then_entry es k v parts place part next are there is put =
       let within = place_within g k in
-      let at : slice_get parts place ≡ Some part = slice_get_read parts (g.others + 1) place part (sym are.0) (omega (arith, there, within)) is in
-      let more : insert (inserts empty es) k v ≡ inserts empty (es ++ (k, v) ∷ []) = sym (fold_push (λ m e. insert m e.0 e.1) empty es (k, v)) in
+      let at : slice_get parts place ≡ Some part =
+      slice_get_read parts (g.others + 1) place part (sym are.0) (omega (arith, there, within)) is in
+      let more : insert (inserts empty es) k v ≡ inserts empty (es ++ (k, v) ∷ []) =
+      sym (fold_push (λ m e. insert m e.0 e.1) empty es (k, v)) in
       let with_it = with_entry (inserts empty es) parts k v part are (subst (λ p. slice_get parts p ≡ Some part) there at) in
       subst (λ u. AreParts g u (slice_set parts place next)) more
       (subst (λ p. AreParts g (insert (inserts empty es) k v) (slice_set parts p next)) (sym there)

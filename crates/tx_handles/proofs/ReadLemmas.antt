@@ -1,11 +1,13 @@
--- What is read at the end over several gates: the entries of all collections, one collection after another, are those of the whole map. Each
--- key has its place in one of them, so a look-up in the joined list finds what the collection of that place has.
-use Rattle.std.proofs.Common.{◌≡◌, ℕ, zero, suc, ◌+◌, ◌-◌, ◌<◌, ◌≤◌, ◌==◌, Bool, true, false, cond, List, [], ◌∷◌, ◌++◌, length, Option, Some, None}
+-- What is read at the end over several gates: the entries of all collections, one collection after another, are those of the whole map.
+-- Each key has its place in one of them, so a look-up in the joined list finds what the collection of that place has.
+use Rattle.std.proofs.Common.{◌≡◌, ℕ, zero, suc, ◌+◌, ◌-◌, ◌<◌, ◌≤◌, ◌==◌, Bool, true}
+use Rattle.std.proofs.Common.{false, cond, List, [], ◌∷◌, ◌++◌, length, Option, Some, None}
 use Rattle.std.proofs.Common.{refl, sym, ap, subst, ◌∙◌, append-nil, arith, eqb-true, length-append}
 use Rattle.std.specs.Prelude.{slice_get}
 use Rattle.std.specs.Cmp.{nat_cmp_total}
 use Rattle.std.specs.Ordering.{nat_cmp, eq_by_cmp}
-use Rattle.std.specs.FinMap.{FinMap, entries, from_entries, get, get-empty, get-insert, len, len-entries, nat_cmp-IsAntisymmetric, retain_keys, same_map}
+use Rattle.std.specs.FinMap.{FinMap, entries, from_entries, get, get-empty, get-insert}
+use Rattle.std.specs.FinMap.{len, len-entries, nat_cmp-IsAntisymmetric, retain_keys, same_map}
 use Rattle.std.proofs.lemmas.Bool.Decides.{nat_tests}
 use Rattle.seq_model.specs.Counts.{Multiset}
 use Rattle.seq_model.specs.declared.held.Held.{Held}
@@ -33,7 +35,8 @@ module _ {X : Type 0} where
   then_none None p e = e
 
   get_joined : (xs ys : List (ℕ × X)) (q : ℕ)
-      → get (from_entries {R = nat_cmp} (xs ++ ys)) q ≡ first_of (get (from_entries {R = nat_cmp} xs) q) (get (from_entries {R = nat_cmp} ys) q)
+      → get (from_entries {R = nat_cmp} (xs ++ ys)) q ≡ first_of (get (from_entries {R = nat_cmp} xs) q)
+      (get (from_entries {R = nat_cmp} ys) q)
   get_joined [] ys q = ap (λ o. first_of o (get (from_entries {R = nat_cmp} ys) q)) (sym (get-empty {X = X} nat_cmp q))
   get_joined (x ∷ xs) ys q =
       get-insert nat_cmp_total (from_entries (xs ++ ys)) x.0 x.1 q
@@ -59,7 +62,8 @@ module _ {V X : Type 0} (entries_of : Option (Held V) → List (ℕ × X)) (hs :
 
   -- the part that was begun had none left, and the next one is begun
   pub goes_on : (place last : ℕ) (xs ys : List (ℕ × X)) → place < last → xs ≡ [] → ys ≡ entries_of (slice_get hs (first + place))
-      → ys ++ entries_from entries_of hs (first + (place + 1)) (last - (place + 1)) ≡ xs ++ entries_from entries_of hs (first + place) (last - place)
+      → ys ++ entries_from entries_of hs (first + (place + 1)) (last - (place + 1)) ≡ xs ++ entries_from entries_of hs (first + place)
+      (last - place)
   goes_on place last xs ys lt none begun =
       ap (λ zs. zs ++ entries_from entries_of hs (first + (place + 1)) (last - (place + 1))) begun
       ∙ sym (then_place place last lt)
@@ -120,7 +124,8 @@ module _ {V X : Type 0} (kind : FinMap nat_cmp X → Held V) (entries_of : Optio
       ∙ ap (λ b. cond b (get u q) None) (let e : (place_of g q == i) ≡ false = grind (arith, nat_tests) in e)
 
   get_next : (i n q : ℕ) → i ≤ g.others
-      → get (from_entries {R = nat_cmp} (from i (suc n))) q ≡ first_of (get (part i) q) (get (from_entries {R = nat_cmp} (from (i + 1) n)) q)
+      → get (from_entries {R = nat_cmp} (from i (suc n))) q ≡ first_of (get (part i) q)
+      (get (from_entries {R = nat_cmp} (from (i + 1) n)) q)
   get_next i n q le =
       ap (λ es. get (from_entries {R = nat_cmp} es) q) (from_next i n le)
       ∙ get_joined (entries (part i)) (from (i + 1) n) q
@@ -133,7 +138,8 @@ module _ {V X : Type 0} (kind : FinMap nat_cmp X → Held V) (entries_of : Optio
       ∙ ap (λ o. first_of o (get (from_entries {R = nat_cmp} (from (i + 1) n)) q)) (absent i q (λ e. omega (arith, e, lt)))
       ∙ none_before n (i + 1) q (omega (arith, le)) (omega (arith, lt))
 
-  got : (n i q : ℕ) → i + n ≤ g.others + 1 → i ≤ place_of g q → place_of g q < i + n → get (from_entries {R = nat_cmp} (from i n)) q ≡ get u q
+  got : (n i q : ℕ) → i + n ≤ g.others + 1 → i ≤ place_of g q → place_of g q < i + n
+      → get (from_entries {R = nat_cmp} (from i n)) q ≡ get u q
   got zero i q le lower upper = absurd (omega (arith, lower, upper))
   got (suc n) i q le lower upper =
       get_next i n q (omega (arith, le))

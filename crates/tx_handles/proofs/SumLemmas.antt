@@ -1,12 +1,14 @@
 -- The numbers of keys of all collections that a map lies over: they add up to that of the map.
-use Rattle.std.proofs.Common.{◌≡◌, ℕ, zero, suc, ◌+◌, ◌<◌, ◌≤◌, ◌==◌, Bool, true, false, cond, List, [], ◌∷◌, ◌++◌, length, Some, refl, sym, ap, subst}
+use Rattle.std.proofs.Common.{◌≡◌, ℕ, zero, suc, ◌+◌, ◌<◌, ◌≤◌, ◌==◌, Bool, true, false}
+use Rattle.std.proofs.Common.{cond, List, [], ◌∷◌, ◌++◌, length, Some, refl, sym, ap, subst}
 use Rattle.std.proofs.Common.{◌∙◌, append-nil, append_assoc, arith, eqb-true, sum}
 use Rattle.std.specs.Prelude.{Option, option_and_then, option_map, slice_get, slice_set}
 use Rattle.std.proofs.lemmas.List.{length_push}
 use Rattle.std.proofs.lemmas.List.Sums.{sum_by-append, sum_by-cons}
 use Rattle.std.specs.Cmp.{nat_cmp_total}
 use Rattle.std.specs.Ordering.{nat_cmp}
-use Rattle.std.specs.FinMap.{FinMap, entries, entries_sorted, from_entries, get-entries, get-from_entries, len, len-entries, nat_cmp-IsAntisymmetric}
+use Rattle.std.specs.FinMap.{FinMap, entries, entries_sorted, from_entries, get-entries}
+use Rattle.std.specs.FinMap.{get-from_entries, len, len-entries, nat_cmp-IsAntisymmetric}
 use Rattle.std.specs.FinMap.{retain_keys, same_map}
 use Rattle.std.proofs.lemmas.Bool.Decides.{nat_tests}
 use Rattle.conflict.proofs.CountLemmas.{found, kept_len}
@@ -100,7 +102,8 @@ module _ {A : Type 0} (place : ℕ → ℕ) (n : ℕ) (within : (k : ℕ) → pl
       let fresh = fresh_rising (entries m) (entries_sorted m) in
       let same = entries_make m in
       let each : (l : ℕ) → len (retain_keys m (λ k. place k == l)) ≡ found {A = A} (λ k. place k == l) (entries m) =
-      λ l. ap (λ (x : FinMap nat_cmp A). len (retain_keys x (λ k. place k == l))) (sym same) ∙ kept_len (λ k. place k == l) (entries m) fresh in
+      λ l. ap (λ (x : FinMap nat_cmp A). len (retain_keys x (λ k. place k == l))) (sym same)
+      ∙ kept_len (λ k. place k == l) (entries m) fresh in
       below_same (λ l. len (retain_keys m (λ k. place k == l))) (λ l. found {A = A} (λ k. place k == l) (entries m)) n (λ l lt. each l)
       ∙ all_found (entries m) ∙ sym (len-entries m)
 
@@ -117,7 +120,8 @@ sum_with xs x =
 
 module _ {V : Type 0} where
   -- so the state is as it was
-  pub lens_leave : (first : ℕ) (counts : List ℕ) (s : Contents V) → IsLegal (len_calls first counts) s → after_calls (len_calls first counts) s ≡ s
+  pub lens_leave : (first : ℕ) (counts : List ℕ) (s : Contents V) → IsLegal (len_calls first counts) s
+      → after_calls (len_calls first counts) s ≡ s
   lens_leave first counts s legal = after_reads (len_calls first counts) s (reads V first counts) legal
 
   -- so many keys or items the collection with this number has

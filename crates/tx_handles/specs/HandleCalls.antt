@@ -57,7 +57,8 @@ module _ {V : Type 0} where
         → IsCallOn u reply s (after_calls calls s)
 
     -- The transaction has made just this call more, on the one of the collections that has the key. It is one call of the whole collection.
-    pub record HasMadeAt (key : ℕ) (op : Op V) (reply : Reply V) (before : TransactionShown V) (store : ℕ) (now : TransactionShown V) : Type 0 where
+    pub record HasMadeAt (key : ℕ) (op : Op V) (reply : Reply V) (before : TransactionShown V) (store : ℕ) (now : TransactionShown V) :
+        Type 0 where
       pub made : HasMade before store (g.first + place_of g key) op reply now
       pub means : AreOneCall reply ((record { target = g.first + place_of g key; op = op }, reply) ∷ [])
 

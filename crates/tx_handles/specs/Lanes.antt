@@ -1,5 +1,6 @@
 -- A queue in lanes: each lane is a queue, with an order of its own.
-use Rattle.std.specs.Prelude.{◌≡◌, ℕ, zero, suc, ◌+◌, ◌<◌, ◌≤◌, List, [], ◌∷◌, ◌++◌, length, Option, Some, None, Result, Ok, Err, slice_get, ◌==◌, if◌then◌else◌}
+use Rattle.std.specs.Prelude.{◌≡◌, ℕ, zero, suc, ◌+◌, ◌<◌, ◌≤◌, List, [], ◌∷◌, ◌++◌}
+use Rattle.std.specs.Prelude.{length, Option, Some, None, Result, Ok, Err, slice_get, ◌==◌, if◌then◌else◌}
 use Rattle.seq_model.specs.declared.call.Call.{Call}
 use Rattle.seq_model.specs.declared.call.Reply.{Reply}
 use Rattle.seq_model.specs.declared.held.Held.{Held}
@@ -55,7 +56,8 @@ module _ {V : Type 0} where
   DoWithLanes g Does calls = (s : Contents V) (lanes : ℕ → List ℕ) → AreLanes g lanes s.held → IsLegal calls s
       → Does lanes (after_calls calls s) × AreSameBeside g s (after_calls calls s)
 
-  abbrev pub HasDoneWithLanes : (before : TransactionShown V) (l : Lanes) → ((ℕ → List ℕ) → Contents V → Type 0) → (now : TransactionShown V) → Type 0
+  abbrev pub HasDoneWithLanes : (before : TransactionShown V) (l : Lanes) → ((ℕ → List ℕ) → Contents V → Type 0)
+      → (now : TransactionShown V) → Type 0
   HasDoneWithLanes before l Does now = HasMadeMore (DoWithLanes l.gates Does) before l.store now
 
   -- the lanes from one on and before another were looked at in order; the first of them that had any has lost its first item
@@ -63,8 +65,9 @@ module _ {V : Type 0} where
   IsTakenFrom g first end lanes (Some item) t = IsTaken g lanes (Some item) t
   IsTakenFrom g first end lanes None t = ((i : ℕ) → first ≤ i → i < end → lanes i ≡ []) × AreLanes g lanes t.held
 
-  pub record HasTakenFrom (before : TransactionShown V) (l : Lanes) (first end : ℕ) (found : Option ℕ) (now : TransactionShown V) : Type 0 where
-    pub own : first < end → before.store ≡ l.store
-    pub more : List (Call V × Reply V)
-    pub made : now ≡ record { store = before.store; calls = before.calls ++ more }
-    pub are : DoWithLanes l.gates (λ lanes t. IsTakenFrom l.gates first end lanes found t) more
+  pub record HasTakenFrom (before : TransactionShown V) (l : Lanes) (first end : ℕ) (found : Option ℕ) (now : TransactionShown V) : Type 0
+    where
+      pub own : first < end → before.store ≡ l.store
+      pub more : List (Call V × Reply V)
+      pub made : now ≡ record { store = before.store; calls = before.calls ++ more }
+      pub are : DoWithLanes l.gates (λ lanes t. IsTakenFrom l.gates first end lanes found t) more

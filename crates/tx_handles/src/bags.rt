@@ -30,7 +30,8 @@ impl Bag {
         tx: &mut T,
         element: u64,
     ) -> Result<u64, Refusal>
-        ensures { IfOk result (λ count. BagAnswers (T.shown tx.old) self.now element (op.Count element) (replies.Number count) (T.shown tx.new)) }
+        ensures { IfOk result (λ count. BagAnswers (T.shown tx.old) self.now element (op.Count element) (replies.Number count)
+            (T.shown tx.new)) }
     {
         let reply = call_at(tx, self.store, self.gates, element, Op::Count(element))?;
         number_in(reply)

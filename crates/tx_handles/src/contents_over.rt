@@ -284,7 +284,8 @@ impl<'a, V: Value> LaneItems<'a, V> {
     /// let first = lanes.lane(0).and_then(|items| items.first()); // Some(7)
     /// ```
     pub fn lane(&self, lane: u32) -> Option<&'a QueueItems>
-        ensures { (lanes : _) → AreLanes self.now.gates lanes self.now.held.now → lane ≤ self.now.gates.others → option_copied result ≡ Some (lanes lane) }
+        ensures { (lanes : _) → AreLanes self.now.gates lanes self.now.held.now → lane ≤ self.now.gates.others
+            → option_copied result ≡ Some (lanes lane) }
     {
         if lane > self.gates.others {
             return None;
@@ -302,7 +303,8 @@ impl<'a, V: Value> LaneItems<'a, V> {
     /// ```
     #[tactic(auto, using(crate::proofs::SumLemmas::then_below))]
     pub fn len(&self) -> usize
-        ensures { (lanes : _) → AreLanes self.now.gates lanes self.now.held.now → result ≡ min (total_of lanes (self.now.gates.others + 1)) (2 ^ 64 - 1) }
+        ensures { (lanes : _) → AreLanes self.now.gates lanes self.now.held.now
+            → result ≡ min (total_of lanes (self.now.gates.others + 1)) (2 ^ 64 - 1) }
     {
         let mut total = 0usize;
         'gates: for i in 0..u64::from(self.gates.others) + 1 {

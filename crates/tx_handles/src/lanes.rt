@@ -34,7 +34,8 @@ impl Lanes {
         tx: &mut T,
         item: u64,
     ) -> Result<Result<(), Full>, Refusal>
-        ensures { IfOk result (λ added. HasDoneWithLanes (T.shown tx.old) self.now (λ lanes t. IsAdded self.now.gates lanes item added t) (T.shown tx.new)) }
+        ensures { IfOk result (λ added. HasDoneWithLanes (T.shown tx.old) self.now (λ lanes t. IsAdded self.now.gates lanes item added t)
+            (T.shown tx.new)) }
     {
         let number = self.gates.number(self.own(tx.lane()))?;
         let reply = tx.call(self.store, number, Op::Enqueue(item))?;
@@ -51,7 +52,8 @@ impl Lanes {
     /// ```
     #[tactic(auto, using(crate::proofs::LaneLemmas::taken_first))]
     pub fn dequeue<V: Value, T: MakesCalls<V>>(&self, tx: &mut T) -> Result<Option<u64>, Refusal>
-        ensures { IfOk result (λ found. HasDoneWithLanes (T.shown tx.old) self.now (λ lanes t. IsTaken self.now.gates lanes found t) (T.shown tx.new)) }
+        ensures { IfOk result (λ found. HasDoneWithLanes (T.shown tx.old) self.now (λ lanes t. IsTaken self.now.gates lanes found t)
+            (T.shown tx.new)) }
     {
         let own = self.own(tx.lane());
         let last = u64::from(self.gates.others) + 1;
@@ -88,7 +90,8 @@ impl Lanes {
     /// let left = jobs.len(tx)?; // 1
     /// ```
     pub fn len<V: Value, T: MakesCalls<V>>(&self, tx: &mut T) -> Result<u64, Refusal>
-        ensures { IfOk result (λ count. HasDoneWithLanes (T.shown tx.old) self.now (λ lanes t. IsCounted self.now.gates lanes count t) (T.shown tx.new)) }
+        ensures { IfOk result (λ count. HasDoneWithLanes (T.shown tx.old) self.now (λ lanes t. IsCounted self.now.gates lanes count t)
+            (T.shown tx.new)) }
     {
         total_len(tx, self.store, self.gates)
     }

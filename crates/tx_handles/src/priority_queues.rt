@@ -24,7 +24,8 @@ impl PriorityQueue {
     /// let least = priorities.least(tx)?; // Some(4)
     /// ```
     pub fn least<V: Value, T: MakesCalls<V>>(&self, tx: &mut T) -> Result<Option<u64>, Refusal>
-        ensures { IfOk result (λ found. HasMade (T.shown tx.old) self.now.store self.now.number op.Least (found_reply found) (T.shown tx.new)) }
+        ensures { IfOk result (λ found. HasMade (T.shown tx.old) self.now.store self.now.number op.Least (found_reply found)
+            (T.shown tx.new)) }
     {
         let reply = tx.call(self.store, self.number, Op::Least)?;
         found_in(reply)
@@ -41,7 +42,8 @@ impl PriorityQueue {
         tx: &mut T,
         element: u64,
     ) -> Result<Result<(), Full>, Refusal>
-        ensures { IfOk result (λ inserted. HasMade (T.shown tx.old) self.now.store self.now.number (op.Insert element) (room_reply inserted) (T.shown tx.new)) }
+        ensures { IfOk result (λ inserted. HasMade (T.shown tx.old) self.now.store self.now.number (op.Insert element)
+            (room_reply inserted) (T.shown tx.new)) }
     {
         let reply = tx.call(self.store, self.number, Op::Insert(element))?;
         room_in(reply)
@@ -54,7 +56,8 @@ impl PriorityQueue {
     /// let then = priorities.least(tx)?; // Some(5)
     /// ```
     pub fn take_least<V: Value, T: MakesCalls<V>>(&self, tx: &mut T) -> Result<Option<u64>, Refusal>
-        ensures { IfOk result (λ found. HasMade (T.shown tx.old) self.now.store self.now.number op.TakeLeast (found_reply found) (T.shown tx.new)) }
+        ensures { IfOk result (λ found. HasMade (T.shown tx.old) self.now.store self.now.number op.TakeLeast (found_reply found)
+            (T.shown tx.new)) }
     {
         let reply = tx.call(self.store, self.number, Op::TakeLeast)?;
         found_in(reply)

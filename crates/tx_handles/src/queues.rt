@@ -29,7 +29,8 @@ impl Queue {
         tx: &mut T,
         item: u64,
     ) -> Result<Result<(), Full>, Refusal>
-        ensures { IfOk result (λ added. HasMade (T.shown tx.old) self.now.store self.now.number (op.Enqueue item) (room_reply added) (T.shown tx.new)) }
+        ensures { IfOk result (λ added. HasMade (T.shown tx.old) self.now.store self.now.number (op.Enqueue item) (room_reply added)
+            (T.shown tx.new)) }
     {
         let reply = tx.call(self.store, self.number, Op::Enqueue(item))?;
         room_in(reply)
@@ -43,7 +44,8 @@ impl Queue {
     /// let items = queue.len(tx)?; // 1
     /// ```
     pub fn dequeue<V: Value, T: MakesCalls<V>>(&self, tx: &mut T) -> Result<Option<u64>, Refusal>
-        ensures { IfOk result (λ found. HasMade (T.shown tx.old) self.now.store self.now.number op.Dequeue (found_reply found) (T.shown tx.new)) }
+        ensures { IfOk result (λ found. HasMade (T.shown tx.old) self.now.store self.now.number op.Dequeue (found_reply found)
+            (T.shown tx.new)) }
     {
         let reply = tx.call(self.store, self.number, Op::Dequeue)?;
         found_in(reply)
@@ -56,7 +58,8 @@ impl Queue {
     /// let taken = queue.dequeue(tx)?; // Some(6)
     /// ```
     pub fn peek<V: Value, T: MakesCalls<V>>(&self, tx: &mut T) -> Result<Option<u64>, Refusal>
-        ensures { IfOk result (λ found. HasMade (T.shown tx.old) self.now.store self.now.number op.Peek (found_reply found) (T.shown tx.new)) }
+        ensures { IfOk result (λ found. HasMade (T.shown tx.old) self.now.store self.now.number op.Peek (found_reply found)
+            (T.shown tx.new)) }
     {
         let reply = tx.call(self.store, self.number, Op::Peek)?;
         found_in(reply)
@@ -69,7 +72,8 @@ impl Queue {
     /// let items = queue.len(tx)?; // 1
     /// ```
     pub fn len<V: Value, T: MakesCalls<V>>(&self, tx: &mut T) -> Result<u64, Refusal>
-        ensures { IfOk result (λ count. HasMade (T.shown tx.old) self.now.store self.now.number op.Len (replies.Number count) (T.shown tx.new)) }
+        ensures { IfOk result (λ count. HasMade (T.shown tx.old) self.now.store self.now.number op.Len (replies.Number count)
+            (T.shown tx.new)) }
     {
         let reply = tx.call(self.store, self.number, Op::Len)?;
         number_in(reply)

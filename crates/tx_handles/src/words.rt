@@ -23,7 +23,8 @@ impl Word {
     /// let held = word.read(tx)?; // 7
     /// ```
     pub fn read<V: Value, T: MakesCalls<V>>(&self, tx: &mut T) -> Result<u64, Refusal>
-        ensures { IfOk result (λ held. HasMade (T.shown tx.old) self.now.store self.now.number op.Read (replies.Number held) (T.shown tx.new)) }
+        ensures { IfOk result (λ held. HasMade (T.shown tx.old) self.now.store self.now.number op.Read (replies.Number held)
+            (T.shown tx.new)) }
     {
         let reply = tx.call(self.store, self.number, Op::Read)?;
         number_in(reply)

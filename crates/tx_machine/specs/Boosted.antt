@@ -110,7 +110,8 @@ recorded s os (Aborts e) = record s { aborted = s.aborted ++ record { word = e; 
 
 -- the next atomic step of the words
 abbrev pub word_step : {X Out : Type 0} → Boosted X Out → ℕ → Actor → Place → Boosted X Out
-word_step s a x p = recorded (record s { words = step s.words a x p; shadows = shadows_after s a p }) (s.shadows a).outcomes (step_end a x p)
+word_step s a x p = recorded (record s { words = step s.words a x p; shadows = shadows_after s a p }) (s.shadows a).outcomes
+    (step_end a x p)
 
 -- other gates and shadows
 abbrev pub gated : {X Out : Type 0} → Boosted X Out → (ℕ → Option ℕ) → (ℕ → Shadow X Out) → Boosted X Out

@@ -31,7 +31,8 @@ use Rattle.vacation_core.specs.ClientWorlds.{events_of}
 use Rattle.vacation_core.specs.Histories.{History, IsAt, IsLawful, opening_of, world_in}
 use Rattle.vacation_core.proofs.HistoryLemmas.{opens}
 use Rattle.actor_laws.specs.Courses.{IsUnderWay, IsUnderWayFrom}
-use Rattle.actor_laws.specs.KnownStages.{KnownStage, Rests, Begins, Stands, Calls, Commits, Committed, Ends, StepMoves, known_stage, known_stage_at}
+use Rattle.actor_laws.specs.KnownStages.{KnownStage, Rests, Begins, Stands, Calls, Commits}
+use Rattle.actor_laws.specs.KnownStages.{Committed, Ends, StepMoves, known_stage, known_stage_at}
 use Rattle.vacation_core.specs.LoneClients.{may_commit}
 
 -- ---- what there is

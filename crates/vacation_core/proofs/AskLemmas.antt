@@ -35,7 +35,8 @@ use Rattle.vacation_core.proofs.HistoryLemmas.{abort_is_quiet, aborts_to, commit
 use Rattle.actor_laws.specs.KnownStages.{CallMoves, KnownStage, Rests, Stands, Calls, Commits, Ends, known_stage}
 use Rattle.vacation_core.specs.Clients.{asks_next, failed, joined}
 use Rattle.vacation_core.specs.Plays.{Play, aborts, asks_on, if_replied, left_of, moved, seat_in, told}
-use Rattle.vacation_core.specs.Running.{AsksNext, AsksOn, Abandons, Called, HasPosition, IsAsking, IsCalling, IsClient, IsOn, IsOpen, IsOpenWith}
+use Rattle.vacation_core.specs.Running.{AsksNext, AsksOn, Abandons, Called, HasPosition, IsAsking}
+use Rattle.vacation_core.specs.Running.{IsCalling, IsClient, IsOn, IsOpen, IsOpenWith}
 use Rattle.vacation_core.specs.Running.{IsPlay}
 use Rattle.vacation_core.specs.Running.{IsRefused, Others, Refusing, RepliesWithin}
 use Rattle.vacation_core.specs.declared.client.Client.{Client}
@@ -132,7 +133,8 @@ roomy a p calls call stands = by (ltb (length calls) CALL_LIMIT) refl
 -- ---- a call
 
 -- a call was fed, and this was answered
-pub calls_now : (i k : ℕ) (call : Call Entry) (v u : VacWorld) (n : Notice Entry) (to : Play) → HasPosition i v → AsksNext i v (ask.Call call)
+pub calls_now : (i k : ℕ) (call : Call Entry) (v u : VacWorld) (n : Notice Entry) (to : Play) → HasPosition i v
+    → AsksNext i v (ask.Call call)
     → Feeds v.world.parts (event.Ask (i + 1) (request.Call call)) u.world.parts n → u.clients.items ≡ v.clients.items
     → u.aborted ≡ v.aborted → AsksOn i k v to → Called i k call n u to
 calls_now i k call v u n to place next f clients aborted k' =

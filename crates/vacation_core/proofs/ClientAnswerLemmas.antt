@@ -18,7 +18,8 @@ use Rattle.vac_model.specs.declared.action.Action.{Action}
 use Rattle.seq_model.specs.Programs.{after, asked, replies_of}
 use Rattle.client_sessions.specs.declared.entry.Entry.{Entry}
 use Rattle.client_sessions.specs.Sessions.{session}
-use Rattle.actor_laws.specs.KnownStages.{CallMoves, KnownStage, Rests, Begins, Stands, Calls, Commits, Committed, Ends, StepMoves, known_stage, known_stage_at}
+use Rattle.actor_laws.specs.KnownStages.{CallMoves, KnownStage, Rests, Begins, Stands, Calls}
+use Rattle.actor_laws.specs.KnownStages.{Commits, Committed, Ends, StepMoves, known_stage, known_stage_at}
 use Rattle.vacation_core.specs.Clients.{asks_of, has_open, is_under_way, left, with_fault, with_open, with_reply}
 use Rattle.vacation_core.specs.Running.{HearsAt, IsOpen, IsOpenWith, KeepsAt}
 use Rattle.vacation_core.specs.declared.client.Client.{Client}
@@ -108,7 +109,8 @@ module _ (c : Client) (action : Action) (fault : Option Refusal) where
   call_hears calls call Quiet to done k (inl e) = keeps_as (Calls calls call) to done e k
   call_hears calls call Quiet to done k (inr e) = keeps_as Ends to done e (open_of c.current action fault (replies_of calls) k.0, k.1)
 
-  pub step_hears : (before : KnownStage Entry) (commits : Bool) (n : Notice Entry) (to : KnownStage Entry) (done : List Action) → has_open c ≡ true
+  pub step_hears : (before : KnownStage Entry) (commits : Bool) (n : Notice Entry) (to : KnownStage Entry) (done : List Action)
+      → has_open c ≡ true
       → KeepsAt before c action fault done → StepMoves before commits n to
       → HearsAt n to c action fault (cond commits (done ++ action ∷ []) done)
   step_hears Rests commits n to done some k m = absurd (none_open c.current k.0 some)
@@ -146,14 +148,16 @@ module _ (c : Client) (action : Action) (fault : Option Refusal) where
       hears_as Quiet r.1 (known_stage (r.0.seats a)) done quiet
       (keeps_as Ends (known_stage (r.0.seats a)) done (ending_phase (r.0.seats a).calls (r.0.seats a).stage ending) (current, same))
 
-  unheard : (w : World Entry) (a : ℕ) (r : After Entry) (at : KnownStage Entry) (done : List Action) → known_stage (w.seats a) ≡ at → r ≡ (w, Quiet)
+  unheard : (w : World Entry) (a : ℕ) (r : After Entry) (at : KnownStage Entry) (done : List Action) → known_stage (w.seats a) ≡ at
+      → r ≡ (w, Quiet)
       → KeepsAt at c action fault done → HearsAt r.1 (known_stage (r.0.seats a)) c action fault done
   unheard w a r at done stands e k =
       subst (λ (x : After Entry). HearsAt x.1 (known_stage (x.0.seats a)) c action fault done) (sym e)
       (keeps_as at (known_stage (w.seats a)) done stands k)
 
   pub starve_hears : (w : World Entry) (a : ℕ) (calls : List (Call Entry × Reply Entry)) (st : Stage Entry) (r : After Entry)
-      (done : List Action) → has_open c ≡ true → known_stage (w.seats a) ≡ known_stage_at calls st → KeepsAt (known_stage_at calls st) c action fault done
+      (done : List Action) → has_open c ≡ true → known_stage (w.seats a) ≡ known_stage_at calls st
+      → KeepsAt (known_stage_at calls st) c action fault done
       → IsStarved w a st r → HearsAt r.1 (known_stage (r.0.seats a)) c action fault done
   starve_hears w a calls Idle r done some stands k s = absurd (none_open c.current k.0 some)
   starve_hears w a calls Open r done some stands k s = absurd k

@@ -52,7 +52,8 @@ use Rattle.vacation_core.proofs.HistoryLemmas.{opens, step_at, world_next}
 use Rattle.actor_laws.proofs.CourseLemmas.{ends_at, steps_come}
 use Rattle.actor_laws.proofs.KnownStageLemmas.{steps_move}
 use Rattle.actor_laws.specs.Courses.{ComesTo, EndsFrom, IsUnderWay, IsUnderWayFrom, IsRecordOf, latest}
-use Rattle.actor_laws.specs.KnownStages.{AskMoves, CallMoves, KnownStage, Rests, Begins, Stands, Calls, Commits, Committed, StepMoves, known_stage}
+use Rattle.actor_laws.specs.KnownStages.{AskMoves, CallMoves, KnownStage, Rests, Begins, Stands}
+use Rattle.actor_laws.specs.KnownStages.{Calls, Commits, Committed, StepMoves, known_stage}
 use Rattle.actor_laws.specs.KnownStages.{Ends as Ended}
 use Rattle.vacation_core.specs.LoneClients.{IsAnswered, IsClient, IsDue, Leads, begun, may_commit}
 use Rattle.vacation_core.proofs.AnsweredLemmas.{HasRoom, asked_as, at_most_one, never_as_asked, never_in_steps, step_may}
@@ -96,7 +97,8 @@ May h t = MayHappen (begun_all h.actions (opening_of h) h.turns) (world_in h) t
 module _ (a : ℕ) (tables : Holdings) where
   -- the client after a turn of its own, where it stands at q then
   abbrev goes : (n : ℕ) (p : KnownStage Entry) (old : Action) (had : List Action) (c d : Parts Entry) (x : IsClient a tables n p old had c)
-      (t : Turn) (told : Notice Entry) (k : ℕ) (q : KnownStage Entry) (action : Action) (done : List Action) → IsPlain a t.0 → May x.history t
+      (t : Turn) (told : Notice Entry) (k : ℕ) (q : KnownStage Entry) (action : Action) (done : List Action) → IsPlain a t.0
+      → May x.history t
       → Feeds c t.0 d told → commits_in (events_of x.history.turns) + (commit_of t.0 + may_commit q) ≤ k → k < clock_limit
       → IsAt a q action done (next x.history t) → IsClient a tables k q action done d
   goes n p old had c d x t told k q action done plain may f asked few at = record {
@@ -147,7 +149,8 @@ module _ (calls : List (Call Entry × Reply Entry)) where
 
   replied : (a : ℕ) (s x : Seat Entry) (call : Call Entry) (b : ℕ) (w : Answer Entry) (made : Option (Record Entry))
       → EndsFrom a s (Calls calls call) (Answered b w) x made → Ends (request.Call call) (Answered b w) (known_stage x) made
-  replied a s x call b (answer.Replied r) made e = none_leads (request.Call call) (Answered b (answer.Replied r)) (known_stage x) made e.1 e.0
+  replied a s x call b (answer.Replied r) made e =
+      none_leads (request.Call call) (Answered b (answer.Replied r)) (known_stage x) made e.1 e.0
   replied a s x call b w made e = absurd e
 
   committed : (a : ℕ) (s x : Seat Entry) (b : ℕ) (w : Answer Entry) (made : Option (Record Entry))
@@ -170,7 +173,8 @@ module _ (calls : List (Call Entry × Reply Entry)) where
   ends_as_told a s x Quiet made told h = absurd (told tt)
   ends_as_told a s x n made told h = h
 
-  ended : (a : ℕ) (s x : Seat Entry) (q : Request Entry) (n : Notice Entry) (made : Option (Record Entry)) → known_stage s ≡ asked_as calls q
+  ended : (a : ℕ) (s x : Seat Entry) (q : Request Entry) (n : Notice Entry) (made : Option (Record Entry))
+      → known_stage s ≡ asked_as calls q
       → (IsRefusal n → ⊥) → (IsQuiet n → ⊥) → ComesTo a s n x made → Ends q n (known_stage x) made
   ended a s x q n made stood never told h =
       ended_as a s x q n made never told

@@ -16,7 +16,8 @@ use Rattle.client_sessions.specs.declared.entry.Entry.{Entry}
 use Rattle.client_sessions.specs.Runs.{Deal}
 use Rattle.client_sessions.specs.Sessions.{SessionProgram, session}
 use Rattle.vacation_core.specs.Serial.{actions_of}
-use Rattle.vacation_core.specs.CommittedAnswers.{AreFirst, AreOwn, HaveFirst, IsToldOne, Told, sessions_found, sessions_in, sessions_of, told_all}
+use Rattle.vacation_core.specs.CommittedAnswers.{AreFirst, AreOwn, HaveFirst, IsToldOne, Told}
+use Rattle.vacation_core.specs.CommittedAnswers.{sessions_found, sessions_in, sessions_of, told_all}
 use Rattle.vacation_core.specs.CommittedAnswers.{told_by, told_of}
 use Rattle.vacation_core.specs.declared.client.Client.{Client}
 

@@ -332,7 +332,8 @@ set_item_takes k id (Some i) (Some j) next n h =
     takes_if (programs.is_same_item i j) next _ (n + 1) (λ _. takes_more next n (n + 1) (omega arith) h)
     (λ _. put_item_takes k id j next n h)
 
-change_each_takes : (cs : List Change) (next : List ChangeReply → SessionProgram) (n : ℕ) → ((made : List ChangeReply) → Takes (next made) n)
+change_each_takes : (cs : List Change) (next : List ChangeReply → SessionProgram) (n : ℕ)
+    → ((made : List ChangeReply) → Takes (next made) n)
     → Takes (programs.change_each cs next) (n + 2 * length cs)
 change_each_takes [] next n h = takes_more (next []) n (n + 2 * 0) (omega arith) (h [])
 change_each_takes (c ∷ cs) next n h =

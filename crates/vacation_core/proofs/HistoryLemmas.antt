@@ -60,7 +60,8 @@ lawful_next h t l may = record {
   asks = asks_on h.actions (opening_of h) h.turns t l.asks may;
 }
 
-pub phase_next : (a : ℕ) (h : History) (t : Turn) → known_stage ((world_in (next h t)).seats a) ≡ known_stage ((happens (world_in h) t.0).0.seats a)
+pub phase_next : (a : ℕ) (h : History) (t : Turn) → known_stage ((world_in (next h t)).seats a) ≡ known_stage
+    ((happens (world_in h) t.0).0.seats a)
 phase_next a h t = ap (λ (w : World Entry). known_stage (w.seats a)) (world_next h t)
 
 pub later_on : (h : History) (ts us : List Turn) → later (later h ts) us ≡ later h (ts ++ us)
@@ -109,7 +110,8 @@ step_at h a p action done at =
           ∙ (λ i. if commits then at.has i ++ at.does i ∷ [] else at.has i);
     }
 
-pub steps_to : (h : History) (a : ℕ) (p : KnownStage Entry) (action : Action) (done : List Action) (n : Notice Entry) → IsAt a p action done h
+pub steps_to : (h : History) (a : ℕ) (p : KnownStage Entry) (action : Action) (done : List Action) (n : Notice Entry)
+    → IsAt a p action done h
     → n ≡ (happens (world_in h) (Step a)).1 → Stepped a p action done n (next h (Step a, action))
 steps_to h a p action done n at told =
     let w = world_in h in
@@ -181,7 +183,8 @@ idle_at : (calls : List (Call Entry × Reply Entry)) (st : Stage Entry) → IsRe
 idle_at calls Idle h = refl
 idle_at calls st h = absurd h
 
-open_at : (cs calls : List (Call Entry × Reply Entry)) (st : Stage Entry) → IsOpenWith cs (known_stage_at calls st) → (st ≡ Open) × (calls ≡ cs)
+open_at : (cs calls : List (Call Entry × Reply Entry)) (st : Stage Entry) → IsOpenWith cs (known_stage_at calls st)
+    → (st ≡ Open) × (calls ≡ cs)
 open_at cs calls Open h = (refl, h)
 open_at cs calls st h = absurd h
 

@@ -193,7 +193,8 @@ refusing_of i b cause v p h = record {
   where
     by : (to : KnownStage Entry) → known_stage (seat_in (i + 1) p) ≡ to
         → (to ≡ Rests) ⊎ ((calls : List (Call Entry × Reply Entry)) × (to ≡ Stands calls) × IsMistaken cause)
-        → (known_stage (seat_in (i + 1) p) ≡ Rests) ⊎ ((calls : List (Call Entry × Reply Entry)) × (known_stage (seat_in (i + 1) p) ≡ Stands calls))
+        → (known_stage (seat_in (i + 1) p) ≡ Rests)
+        ⊎ ((calls : List (Call Entry × Reply Entry)) × (known_stage (seat_in (i + 1) p) ≡ Stands calls))
     by to stands (inl rests) = inl (stands ∙ rests)
     by to stands (inr current) = inr (current.0, stands ∙ current.1)
 
@@ -222,7 +223,8 @@ gives_up_then i b cause u p g =
     subst (IsPlay u) (sym (open_is (seat_in a p).stage (aborts a cause p) (ends a cause p) g.0)) g.1
 
 -- it has none any more
-pub ends_then : (i b : ℕ) (cause : Refusal) (u : VacWorld) (p : Play) → known_stage (seat_in (i + 1) p) ≡ Rests → IsPlay u (ends (i + 1) cause p)
+pub ends_then : (i b : ℕ) (cause : Refusal) (u : VacWorld) (p : Play) → known_stage (seat_in (i + 1) p) ≡ Rests
+    → IsPlay u (ends (i + 1) cause p)
     → IsPlay u (hears (i + 1) (Refused b cause) p)
 ends_then i b cause u p rests k =
     let a = i + 1 in
@@ -268,7 +270,8 @@ busy_begins i action v u c p got some k h =
     let x = seat_in a p in
     subst (IsPlay u) (sym (busy_is x.calls x.stage _ (ends a NotIdle p) (apart_of i v c p got some k))) h
 
-pub begins_now : (i : ℕ) (action : Action) (v u t : VacWorld) (n : Notice Entry) (c d : Client) (p : Play) → HasPosition i v → IsAllowed action
+pub begins_now : (i : ℕ) (action : Action) (v u t : VacWorld) (n : Notice Entry) (c d : Client) (p : Play) → HasPosition i v
+    → IsAllowed action
     → slice_get v.clients.items i ≡ Some c → slice_get u.clients.items i ≡ Some d → has_open c ≡ false
     → Feeds v.world.parts (event.Ask (i + 1) request.Begin) u.world.parts n → u.clients.items ≡ v.clients.items
     → u.aborted ≡ v.aborted → t.world ≡ u.world → t.aborted ≡ u.aborted → t.clients.items ≡ slice_set u.clients.items i (begun action d)

@@ -87,7 +87,8 @@ called_stands calls call (Answered b (answer.Replied r)) to m = (calls ++ (call,
 called_stands calls call (Answered b (answer.Begun rv)) to m = absurd m
 called_stands calls call n to m = tt
 
-steps_stand : (before : KnownStage Entry) (commits : Bool) (n : Notice Entry) (to : KnownStage Entry) → StepMoves before commits n to → StandsBy n to
+steps_stand : (before : KnownStage Entry) (commits : Bool) (n : Notice Entry) (to : KnownStage Entry) → StepMoves before commits n to
+    → StandsBy n to
 steps_stand (Calls calls call) false n to m = called_stands calls call n to m
 steps_stand Begins false (Answered b (answer.Begun rv)) to m = m
 steps_stand before false (Answered b (answer.Begun rv)) to m = absurd m
@@ -240,9 +241,11 @@ starved w a x st = tt
 starve_stands : (a : ℕ) (p : Play) → StandsBy (told (event.Starve a) p) (known_stage (seat_in a (moved a (event.Starve a) p)))
 starve_stands a p =
     let w = world_in p.history in
-    unanswered_stands (told (event.Starve a) p) (known_stage (seat_in a (moved a (event.Starve a) p))) (starved w a (w.seats a) (w.seats a).stage)
+    unanswered_stands (told (event.Starve a) p) (known_stage (seat_in a (moved a (event.Starve a) p)))
+    (starved w a (w.seats a) (w.seats a).stage)
 
-sound_takes : (a : ℕ) (e : Event Entry) (p : Play) → May p e (action_in a p.history) → StandsBy (told e p) (known_stage (seat_in a (moved a e p)))
+sound_takes : (a : ℕ) (e : Event Entry) (p : Play) → May p e (action_in a p.history)
+    → StandsBy (told e p) (known_stage (seat_in a (moved a e p)))
     → IsSound p → IsSound (takes a e p)
 sound_takes a e p may stands s =
     let q = moved a e p in

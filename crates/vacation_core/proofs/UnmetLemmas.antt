@@ -30,7 +30,8 @@ use Rattle.actor_laws.specs.Beside.{BeginsNoReader, IsNoReader, RefusesAsMistake
 use Rattle.seq_model.specs.declared.job.Ask.TheVariants as ask
 use Rattle.seq_model.specs.Programs.{Asks, Answers, GivesUp, after, asked, replies_of}
 use Rattle.actor_laws.proofs.KnownStageLemmas.{steps_move}
-use Rattle.actor_laws.specs.KnownStages.{AskMoves, CallMoves, IsMistaken, KnownStage, Rests, Begins, Stands, Calls, Commits, Committed, Ends}
+use Rattle.actor_laws.specs.KnownStages.{AskMoves, CallMoves, IsMistaken, KnownStage, Rests, Begins}
+use Rattle.actor_laws.specs.KnownStages.{Stands, Calls, Commits, Committed, Ends}
 use Rattle.actor_laws.specs.KnownStages.{StepMoves}
 use Rattle.actor_laws.specs.KnownStages.{known_stage, known_stage_at}
 use Rattle.vac_model.specs.declared.action.Action.{Action}
@@ -126,7 +127,8 @@ none_told a p e action own may f =
 
 -- ---- a session continues
 replied_finds : (a : ℕ) (n : Notice Entry) (calls : List (Call Entry × Reply Entry)) (call : Call Entry) (next : Reply Entry → Play)
-    (q : Play) (to : KnownStage Entry) → FindsBut a q → known_stage (seat_in a q) ≡ to → CallMoves calls call n to → (RefusesAsMistaken n → ⊥)
+    (q : Play) (to : KnownStage Entry) → FindsBut a q → known_stage (seat_in a q) ≡ to → CallMoves calls call n to
+    → (RefusesAsMistaken n → ⊥)
     → ((r : Reply Entry) → to ≡ Stands (calls ++ (call, r) ∷ []) → Finds (next r)) → Finds (if_replied a n next q)
 replied_finds a (Answered b (answer.Replied r)) calls call next q to f at m none goes = goes r m
 replied_finds a (Answered b w) calls call next q to f at m none goes = absurd m
@@ -188,7 +190,8 @@ ends_find a b cause p g f = record {
 }
 
 -- a refusal that leaves no transaction open ends the session
-not_open : (calls : List (Call Entry × Reply Entry)) (st : Stage Entry) (p q : Play) → IsBetween (known_stage_at calls st) → at_open st p q ≡ q
+not_open : (calls : List (Call Entry × Reply Entry)) (st : Stage Entry) (p q : Play) → IsBetween (known_stage_at calls st)
+    → at_open st p q ≡ q
 not_open calls Open p q h = absurd h
 not_open calls st p q h = refl
 
@@ -286,7 +289,8 @@ takes_step a p f =
     let x = (world_in h).seats a in
     let e = event.Step a in
     takes_find a e p refl tt tt f (λ _ none g.
-    step_finds a (known_stage x) (is_some (committed_by x x.stage)) (told e p) (known_stage ((happens (world_in h) e).0.seats a)) (moved a e p)
+    step_finds a (known_stage x) (is_some (committed_by x x.stage)) (told e p) (known_stage ((happens (world_in h) e).0.seats a))
+    (moved a e p)
     (f.between a) (steps_move (world_in h) a) none g (phase_next a h (e, action_in a h)))
 
 takes_starve : (a : ℕ) (p : Play) → Finds p → Finds (takes a (event.Starve a) p)

@@ -18,7 +18,8 @@ use Rattle.seq_model.specs.Programs.{Asks, after, replies_of}
 use Rattle.client_sessions.specs.declared.entry.Entry.{Entry}
 use Rattle.client_sessions.specs.Sessions.{SessionProgram, session}
 use Rattle.vacation_core.specs.Histories.{IsLawful, action_in, done_in, world_in}
-use Rattle.actor_laws.specs.KnownStages.{KnownStage, Rests, Begins, Stands, Calls, Commits, Committed, Ends, CallMoves, IsMistaken, known_stage}
+use Rattle.actor_laws.specs.KnownStages.{KnownStage, Rests, Begins, Stands, Calls, Commits}
+use Rattle.actor_laws.specs.KnownStages.{Committed, Ends, CallMoves, IsMistaken, known_stage}
 use Rattle.vacation_core.specs.Clients.{asks_next}
 use Rattle.vacation_core.specs.Plays.{Play, aborts, asks_on, if_replied, left_of, seat_in}
 use Rattle.vacation_core.specs.declared.client.Client.{Client}
@@ -108,7 +109,8 @@ pub record Hears (i : ℕ) (n : Notice Entry) (v : VacWorld) (p : Play) : Type 0
 
 -- The client at place i was refused a request: its transaction has ended, or stands open.
 pub record IsRefused (c : Client) (a : ℕ) (p : Play) : Type 0 where
-  pub stands : (known_stage (seat_in a p) ≡ Rests) ⊎ ((calls : List (Call Entry × Reply Entry)) × (known_stage (seat_in a p) ≡ Stands calls))
+  pub stands : (known_stage (seat_in a p) ≡ Rests)
+      ⊎ ((calls : List (Call Entry × Reply Entry)) × (known_stage (seat_in a p) ≡ Stands calls))
   pub current : IsOpen c.current (action_in a p.history) (p.faults a)
   pub done : c.done ≡ done_in a p.history
 

@@ -13,7 +13,8 @@ ghost use Rattle.vacation_core.specs.declared.events.VacEvent.TheVariants as hap
 ghost use Rattle.vacation_core.specs.PlayOpenings.{AreNew, unplayed_on};
 ghost use Rattle.vacation_core.specs.Plays.{AreAllowed, IsMoveOf, MayHappen, Play, begins, ends, hears, played, played_all, seat_in};
 ghost use Rattle.vacation_core.specs.Plays.{takes, takes_if_actor};
-ghost use Rattle.vacation_core.specs.Running.{AsksNext, AsksOn, Abandons, Called, GoesOn, HasPosition, HasPlay, Hears, IsPlay, Mistaken, Refusing};
+ghost use Rattle.vacation_core.specs.Running.{AsksNext, AsksOn, Abandons, Called, GoesOn, HasPosition};
+ghost use Rattle.vacation_core.specs.Running.{HasPlay, Hears, IsPlay, Mistaken, Refusing};
 
 use crate::client::Client;
 use crate::events::VacEvent;

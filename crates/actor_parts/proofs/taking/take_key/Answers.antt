@@ -21,7 +21,8 @@ on_err (Err e) p = p
 as_touched : {V : Type 0} (n k key stripes : ℕ) (shown : FinMap nat_cmp V) (editions : List ℕ) (l e : ℕ) (v : Option V) (i : ℕ)
     (before now : List (CopyOfCollection V)) → l ≡ key_location stripes key → e ≡ slice_index editions l → v ≡ get shown key
     → IsTakenAt n k (Keys (key_touch key v l e)) i before now
-    → IsTakenAt n k (Keys (key_touch key (get shown key) (key_location stripes key) (slice_index editions (key_location stripes key)))) i before
+    → IsTakenAt n k (Keys (key_touch key (get shown key) (key_location stripes key) (slice_index editions (key_location stripes key)))) i
+    before
     now
 as_touched n k key stripes shown editions l e v i before now at edition value taken =
     let p = key_location stripes key in

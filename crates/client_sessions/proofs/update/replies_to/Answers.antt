@@ -11,7 +11,8 @@ returns-then-not-is_set-clause-made c =
     let r = c.reply-item.result in
     let at : replies ≡ r ∷ drop 1 replies =
     drop_next replies 0 r (omega (arith, c.in-len1-up.len_at_least)) ∙ ap (λ (k : Reply Entry). k ∷ drop 1 replies) (sym c.reply-item.is) in
-    λ some. made_one c.args.change r c.in-Ok.item c.changed-new.result c.changed-new.ensures c.in-Ok.ensures.comes (drop 1 replies) replies at
+    λ some. made_one c.args.change r c.in-Ok.item c.changed-new.result c.changed-new.ensures c.in-Ok.ensures.comes (drop 1 replies)
+    replies at
     (sym c.is_set.ensures ∙ c.if-not-is_set.true)
 
 pub returns-in-len1-up-rest-clause-made : goal.returns-in-len1-up-rest-clause-made

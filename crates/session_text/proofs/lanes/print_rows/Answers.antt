@@ -5,7 +5,8 @@ use Rattle.session_text.proofs.lanes.print_rows.Goals as goal
 
 pub loop-row-preserved : goal.loop-row-preserved
 loop-row-preserved c =
-    rows_on c.args.layout.now (length c.args.rows.now) c.saturating_sub-number.result c.in-Some.row.now c.loop-row.left.now c.in-Some.later.now
+    rows_on c.args.layout.now (length c.args.rows.now) c.saturating_sub-number.result c.in-Some.row.now c.loop-row.left.now
+    c.in-Some.later.now
     (string_bytes c.loop-row.text) (string_bytes c.print_row.new.text) _ c.in-Some.ensures.cases.0 c.saturating_sub-number.ensures
     c.in_ok-print_row.ensures c.loop-row.invariant
 

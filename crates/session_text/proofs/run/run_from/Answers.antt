@@ -11,7 +11,8 @@ pub returns-clause-serial : goal.returns-clause-serial
 returns-clause-serial c =
     let runner = c.run_lines.new.self in
     let start : c.in_ok-waiting.waiting.items ≡ nobody = search rules in
-    is_serial c.args.script.now c.args.opening c.in_ok-world.world.parts runner.world.parts c.args.keeps runner.transcript runner.waiting.items
+    is_serial c.args.script.now c.args.opening c.in_ok-world.world.parts runner.world.parts c.args.keeps runner.transcript
+    runner.waiting.items
     (c.in_ok-world.ensures.reached refl) c.in_ok-world.ensures.world
     (rw (c.as_slice.ensures, start, c.new.ensures, c.new-2.ensures) at c.in_ok-run_lines.ensures)
     c.in_ok-made.made c.in_ok-made.ensures.opening c.in_ok-made.ensures.serial

@@ -19,7 +19,8 @@ returns-in-Ok-clause-turns g c a =
     let t = c.args.table.now in
     let base = c.index.result.now in
     let got = slice_get_read t.bases.items _ c.args.k base refl c.requires.inside.1 c.index.ensures in
-    copy_turns c.steps_as_worlds.ensures c.excerpts_as_worlds.ensures c.copies_go_on.ensures c.sizes_copies.ensures.sizes c.args.blocks.now a
+    copy_turns c.steps_as_worlds.ensures c.excerpts_as_worlds.ensures c.copies_go_on.ensures c.sizes_copies.ensures.sizes
+    c.args.blocks.now a
     c.args.k t c.put_gate.new.self c.args.actor.now c.copy_at_gate.new.self c.in-Ok.told base c.requires.due c.requires.shape
     c.requires.running got
     (λ w which. c.put_gate.ensures.puts w a which) c.in-Ok.ensures.ok

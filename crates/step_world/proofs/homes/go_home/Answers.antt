@@ -37,7 +37,8 @@ returns-clause-turns g c =
     subst (λ (z : TxActor g.row.V.Denot). IsHomeTurn c.args.k c.args.table.now r c.go_home.new.self z c.on_base_returned-told.result)
     (sym c.keep_log.ensures)
     (home_turns c.steps_as_worlds.ensures c.goes_on_as_worlds.ensures c.logs_as_worlds.ensures.log c.args.k c.args.table.now
-    c.go_home.new.self r p c.on_base_returned-told.new.self c.log_of-log.result.changes c.log_of-log.result.locations c.on_base_returned-told.result
+    c.go_home.new.self r p c.on_base_returned-told.new.self c.log_of-log.result.changes c.log_of-log.result.locations
+    c.on_base_returned-told.result
     c.requires.due
     c.requires.inside.1 (c.log_of-log.ensures.stands (recorded_home r.stage c.args.k c.requires.due))
     (ap (λ (z : TxActor _). z.stage) c.log_of-log.ensures.rest)

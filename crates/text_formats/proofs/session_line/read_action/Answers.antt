@@ -6,7 +6,19 @@ use Rattle.text_formats.proofs.session_line.read_action.Goals.{in_default-via-th
 use Rattle.text_formats.proofs.session_line.read_action.Goals.{in_default-via-else-tokens-lt1+then-tokens-lt2+in_default}
 use Rattle.text_formats.proofs.session_line.read_action.Goals.{in_default-via-else-tokens-lt1+else-tokens-lt2+then-tokens-lt3+in_default}
 use Rattle.text_formats.proofs.session_line.read_action.Goals.{in_default-via-else-tokens-lt1+else-tokens-lt2+else-tokens-lt3+then-tokens-lt4+in_default}
+use Rattle.text_formats.proofs.session_line.read_action.Goals.{}
+use Rattle.text_formats.proofs.session_line.read_action.Goals.{}
+use Rattle.text_formats.proofs.session_line.read_action.Goals.{}
+use Rattle.text_formats.proofs.session_line.read_action.Goals.{}
+use Rattle.text_formats.proofs.session_line.read_action.Goals.{}
+use Rattle.text_formats.proofs.session_line.read_action.Goals.{}
 use Rattle.text_formats.proofs.session_line.read_action.Goals.{in_default-via-else-tokens-lt1+else-tokens-lt2+else-tokens-lt3+else-tokens-lt4+in_default}
+use Rattle.text_formats.proofs.session_line.read_action.Goals.{}
+use Rattle.text_formats.proofs.session_line.read_action.Goals.{}
+use Rattle.text_formats.proofs.session_line.read_action.Goals.{}
+use Rattle.text_formats.proofs.session_line.read_action.Goals.{}
+use Rattle.text_formats.proofs.session_line.read_action.Goals.{}
+use Rattle.text_formats.proofs.session_line.read_action.Goals.{}
 
 pub returns-in_default-clause-only : goal.returns-in_default-clause-only
 returns-in_default-clause-only c action is =

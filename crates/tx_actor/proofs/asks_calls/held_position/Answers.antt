@@ -13,7 +13,8 @@ returns-then-holds g c =
     let here = c.index-copies-place.result in
     let at = subst (λ (o : Option ℕ). IsPositionOf cs c.args.collection o) c.in-Some.is c.position_of.ensures in
     held_at_place cs i c.args.collection c.args.op.now here at (slice_get_read cs (length cs) i here refl at.0 c.index-copies-place.is)
-    (ap (λ (z : CopyOfCollection g.row.V.Denot). holds_call z.copied c.args.op.now) c.index-copies-place.is ∙ (sym c.holds.ensures ∙ c.if-holds.true))
+    (ap (λ (z : CopyOfCollection g.row.V.Denot). holds_call z.copied c.args.op.now) c.index-copies-place.is
+    ∙ (sym c.holds.ensures ∙ c.if-holds.true))
 
 pub returns-else-holds : goal.returns-else-holds
 returns-else-holds g c =

@@ -26,4 +26,5 @@ pub returns-in_ok-push-in-None-clause-counted : goal.returns-in_ok-push-in-None-
 returns-in_ok-push-in-None-clause-counted c = λ counted room.
     let more : c.saturating_add-self.result ≡ c.args.self.now.interleavings + 1 = search rules in
     rw c.in_ok-push-in-None.ensures.items
-    (runs-pushed c.args.self.now.outcomes.items c.args.self.now.interleavings c.saturating_add-self.result c.args.found c.requires counted more)
+    (runs-pushed c.args.self.now.outcomes.items c.args.self.now.interleavings c.saturating_add-self.result c.args.found c.requires counted
+    more)

@@ -27,7 +27,8 @@ returns-in-Ok-clause-ok g c =
     ask_happens calls c.args.self.now c.args.i c.args.request r c.request.new.self c.in-Ok.told got c.in-Ok.ensures.ok
     (keeps_ask c.copies_stay.ensures.events c.copies_stay.ensures.stays c.copies_stay.ensures.joins c.copies_by_stage.ensures.asked
     c.copies_by_stage.ensures.all c.copies_stay.ensures.others c.copies_by_stage.ensures.others calls c.args.self.now.blocks _
-    c.args.request c.args.self.now.table r c.request.new.self c.in-Ok.told c.in-Ok.ensures.ok c.request.ensures.still c.request.ensures.apart)
+    c.args.request c.args.self.now.table r c.request.new.self c.in-Ok.told c.in-Ok.ensures.ok c.request.ensures.still
+    c.request.ensures.apart)
     (room_ask _ c.args.request c.args.self.now.table r c.request.new.self c.request.ensures.apart) kept
 
 pub returns-in-Err-clause-err : goal.returns-in-Err-clause-err

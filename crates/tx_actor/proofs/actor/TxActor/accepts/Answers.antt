@@ -29,7 +29,8 @@ pub accept_at-kept-requires : goal.accept_at-kept-requires
 accept_at-kept-requires g c =
     let is = c.get_mut-answered.ensures.value in
     let at : c.get_mut-answered.result.now.place ≡ c.args.call.place = ap (λ (d : running.CallWithOutcome g.row.V.Denot). d.place) is in
-    let outcome : c.get_mut-answered.result.now.outcome ≡ c.args.call.outcome = ap (λ (d : running.CallWithOutcome g.row.V.Denot). d.outcome) is in
+    let outcome : c.get_mut-answered.result.now.outcome ≡ c.args.call.outcome =
+    ap (λ (d : running.CallWithOutcome g.row.V.Denot). d.outcome) is in
     let here = at_place c.args.self.now.copies.items c.args.call.place c.requires.prepared.place in
     let own = c.requires.prepared.own here.0 here.1 in
     record {
@@ -54,7 +55,8 @@ returns-clause-does g c a w s may =
     let calls = c.push_reserved.ensures.items
     ∙ (λ i. old.calls.items ++ (record { target = (is i).asked.collection; op = op i }, kept i) ∷ []) in
     let accepted : IsAcceptedAt call.place call.outcome old.copies.items c.accept_at-kept.new.copies.items =
-    subst (λ (d : running.CallWithOutcome g.row.V.Denot). IsAcceptedAt d.place d.outcome old.copies.items c.accept_at-kept.new.copies.items) is
+    subst (λ (d : running.CallWithOutcome g.row.V.Denot).
+    IsAcceptedAt d.place d.outcome old.copies.items c.accept_at-kept.new.copies.items) is
     c.accept_at-kept.ensures.accepted in
     let pieces = pieces_stay call.place call.outcome old.copies.items c.accept_at-kept.new.copies.items accepted in
     let writes = c.deref.ensures ∙ ap (λ (d : running.CallWithOutcome g.row.V.Denot). d.writes.items) is in (

@@ -58,4 +58,5 @@ returns-then-tries-gt0-clause-leaves g c =
 
 pub returns-clause-leaves : goal.returns-clause-leaves
 returns-clause-leaves g c =
-    copies_idle (at c.args.self.now (stage.Trying c.args.asked c.args.tries)) c.args.self.now c.abort_for.new.self c.abort_for.ensures.leaves
+    copies_idle (at c.args.self.now (stage.Trying c.args.asked c.args.tries)) c.args.self.now c.abort_for.new.self
+    c.abort_for.ensures.leaves

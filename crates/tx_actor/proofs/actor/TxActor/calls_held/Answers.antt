@@ -12,6 +12,7 @@ puts_at-requires-clause-read g c d there =
     let cs = r.copies.items in
     let here = c.index.result.now in
     let at = slice_get_read cs (length cs) c.args.place here refl h.there c.index.ensures in
-    let holds = ap (λ (z : CopyOfCollection g.row.V.Denot). holds_call z.copied c.args.op) (same_Some here h.copy (sym at ∙ h.at)) ∙ h.holds in
+    let holds = ap (λ (z : CopyOfCollection g.row.V.Denot). holds_call z.copied c.args.op) (same_Some here h.copy (sym at ∙ h.at))
+    ∙ h.holds in
     subst (λ (z : CopyOfCollection g.row.V.Denot). IsPutRead r.words z.copied c.first_of-first.result c.args.op c.in-Some.at)
     (same_Some here d (sym at ∙ there)) (c.in-Some.ensures holds)

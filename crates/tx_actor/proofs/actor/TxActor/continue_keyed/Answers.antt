@@ -26,7 +26,8 @@ readies-requires g c =
     let asked = c.args.taken.asked in
     let first = c.first_of-first.result in
     let at_first : first ≡ first_of v.words v.blocks asked.collection =
-    subst (λ (k : CollectionCall g.row.V.Denot). first ≡ first_of v.words v.blocks k.collection) c.get.ensures c.first_of-first.ensures.first in
+    subst (λ (k : CollectionCall g.row.V.Denot). first ≡ first_of v.words v.blocks k.collection) c.get.ensures
+    c.first_of-first.ensures.first in
     let e : c.get_mut.result.now.asked ≡ asked =
     ap (λ (z : running.CallWithOutcome g.row.V.Denot). z.asked) c.get_mut.ensures.value ∙ c.answering-call.ensures in
     subst (λ (k : CollectionCall g.row.V.Denot). MayPrepare c.args.self.now c.args.taken.place first k.op) (sym e)
@@ -44,7 +45,8 @@ continue_to-requires g c =
     let place = c.args.taken.place in
     let first = c.first_of-first.result in
     let at_first : first ≡ first_of v.words v.blocks asked.collection =
-    subst (λ (k : CollectionCall g.row.V.Denot). first ≡ first_of v.words v.blocks k.collection) c.get.ensures c.first_of-first.ensures.first in
+    subst (λ (k : CollectionCall g.row.V.Denot). first ≡ first_of v.words v.blocks k.collection) c.get.ensures
+    c.first_of-first.ensures.first in
     let x : Prepared g.row.V.Denot = record { call = c.readies.new.call; left = c.in-Ok-Some.left } in
     let e : c.get_mut.result.now.asked ≡ asked =
     ap (λ (z : running.CallWithOutcome g.row.V.Denot). z.asked) c.get_mut.ensures.value ∙ c.answering-call.ensures in
@@ -63,7 +65,8 @@ returns-in-Ok-Some-clause-ok g c r base can taken =
     let place = c.args.taken.place in
     let first = c.first_of-first.result in
     let at_first : first ≡ first_of v.words v.blocks asked.collection =
-    subst (λ (k : CollectionCall g.row.V.Denot). first ≡ first_of v.words v.blocks k.collection) c.get.ensures c.first_of-first.ensures.first in
+    subst (λ (k : CollectionCall g.row.V.Denot). first ≡ first_of v.words v.blocks k.collection) c.get.ensures
+    c.first_of-first.ensures.first in
     let x : Prepared g.row.V.Denot = record { call = c.readies.new.call; left = c.in-Ok-Some.left } in
     let e : c.get_mut.result.now.asked ≡ asked =
     ap (λ (z : running.CallWithOutcome g.row.V.Denot). z.asked) c.get_mut.ensures.value ∙ c.answering-call.ensures in
@@ -99,7 +102,8 @@ returns-in-Ok-Some-clause-keeps g c r base can taken noreads =
     let place = c.args.taken.place in
     let first = c.first_of-first.result in
     let at_first : first ≡ first_of v.words v.blocks asked.collection =
-    subst (λ (k : CollectionCall g.row.V.Denot). first ≡ first_of v.words v.blocks k.collection) c.get.ensures c.first_of-first.ensures.first in
+    subst (λ (k : CollectionCall g.row.V.Denot). first ≡ first_of v.words v.blocks k.collection) c.get.ensures
+    c.first_of-first.ensures.first in
     let x : Prepared g.row.V.Denot = record { call = c.readies.new.call; left = c.in-Ok-Some.left } in
     let e : c.get_mut.result.now.asked ≡ asked =
     ap (λ (z : running.CallWithOutcome g.row.V.Denot). z.asked) c.get_mut.ensures.value ∙ c.answering-call.ensures in

@@ -9,7 +9,8 @@ use Rattle.tx_actor.proofs.actor.TxActor.on_begun.Goals as goal
 
 pub returns-in-Begun-clause-does : goal.returns-in-Begun-clause-does
 returns-in-Begun-clause-does g c =
-    heard_as (at c.args.self.now stage.Beginning) c.finish_begin.new.self c.finish_begin.result _ _ c.in-Begun.is (λ a w m s. c.finish_begin.ensures.does a w
+    heard_as (at c.args.self.now stage.Beginning) c.finish_begin.new.self c.finish_begin.result _ _ c.in-Begun.is
+    (λ a w m s. c.finish_begin.ensures.does a w
     s.1)
 
 pub returns-in-Exhausted-clause-does : goal.returns-in-Exhausted-clause-does
@@ -25,12 +26,14 @@ returns-in_default-clause-does g c =
 
 pub returns-in-Begun-clause-keeps : goal.returns-in-Begun-clause-keeps
 returns-in-Begun-clause-keeps g c v =
-    keeps_from v c.args.self.now c.args.self.now c.finish_begin.new.self stage.Beginning stage.Idle refl (c.finish_begin.ensures.keeps v) (λ n h. tt)
+    keeps_from v c.args.self.now c.args.self.now c.finish_begin.new.self stage.Beginning stage.Idle refl (c.finish_begin.ensures.keeps v)
+    (λ n h. tt)
     (λ z. tt)
 
 pub returns-in-Exhausted-clause-keeps : goal.returns-in-Exhausted-clause-keeps
 returns-in-Exhausted-clause-keeps g c v =
-    keeps_from v c.args.self.now c.args.self.now c.refuse_begin.new.self stage.Beginning stage.Idle refl (c.refuse_begin.ensures.keeps v) (λ n
+    keeps_from v c.args.self.now c.args.self.now c.refuse_begin.new.self stage.Beginning stage.Idle refl (c.refuse_begin.ensures.keeps v)
+    (λ n
     h. tt) (λ z. tt)
 
 pub returns-in_default-clause-keeps : goal.returns-in_default-clause-keeps

@@ -20,7 +20,8 @@ returns-in_default-clause-does g c =
 
 pub returns-in-Cancelled-clause-keeps : goal.returns-in-Cancelled-clause-keeps
 returns-in-Cancelled-clause-keeps g c v =
-    keeps_from v c.args.self.now c.args.self.now c.after_cancel.new.self stage.Cancelling stage.Idle refl (c.after_cancel.ensures.keeps v) (λ n
+    keeps_from v c.args.self.now c.args.self.now c.after_cancel.new.self stage.Cancelling stage.Idle refl (c.after_cancel.ensures.keeps v)
+    (λ n
     h. tt) (λ z. tt)
 
 pub returns-in_default-clause-keeps : goal.returns-in_default-clause-keeps

@@ -48,7 +48,8 @@ returns-in-Ok-Some-clause-ok g c =
     c.in-Ok-Some.ensures.ok) in
     let n = c.continue_call.new.self in
     goes_on_as v r u n c.continue_call.result base c.args.asked ready.0 x c.requires ready.2
-    (subst (λ (p : Prepared g.row.V.Denot). load.GoesOn u n c.continue_call.result p.call p.left.items) ready.1 c.continue_call.ensures.does)
+    (subst (λ (p : Prepared g.row.V.Denot). load.GoesOn u n c.continue_call.result p.call p.left.items) ready.1
+    c.continue_call.ensures.does)
 
 pub returns-in-Ok-None-clause-ok : goal.returns-in-Ok-None-clause-ok
 returns-in-Ok-None-clause-ok g c =
@@ -123,7 +124,8 @@ returns-in-Ok-Some-clause-copies g c =
       is = ready.2.3;
       ready = ready.2.4;
       goes = subst
-          (λ (p : Prepared g.row.V.Denot). HasGone (judged u.words.reads.entries p.left.items) u n c.continue_call.result p.call p.left.items)
+          (λ (p : Prepared g.row.V.Denot). HasGone (judged u.words.reads.entries p.left.items) u n c.continue_call.result p.call
+          p.left.items)
           ready.1 c.continue_call.ensures.goes;
     })
 

@@ -57,5 +57,6 @@ returns-clause-goes g c =
     (sym (first_rest left.items c.args.first es c.requires.first c.pop_front.ensures.rest))
     (inl (
       c.if-copied-edition.false,
-      gone_at (judged old.words.reads.entries es) old c.continue_call.new.self c.continue_call.result c.args.call es s c.continue_call.ensures.goes,
+      gone_at (judged old.words.reads.entries es) old c.continue_call.new.self c.continue_call.result c.args.call es s
+          c.continue_call.ensures.goes,
     ))

@@ -16,7 +16,8 @@ returns-in-Returning-clause-does g c =
 
 pub returns-in-ReturningOne-clause-does : goal.returns-in-ReturningOne-clause-does
 returns-in-ReturningOne-clause-does g c =
-    does_at_stage after_put c.args.self.now c.start_cancel.new.self c.start_cancel.result (stage.ReturningOne c.in-ReturningOne.field-0) (sym
+    does_at_stage after_put c.args.self.now c.start_cancel.new.self c.start_cancel.result (stage.ReturningOne c.in-ReturningOne.field-0)
+    (sym
     c.replace-stage.ensures.value ∙ c.in-ReturningOne.is)
     (λ a w s. c.start_cancel.ensures.does a w s.1)
 
@@ -24,7 +25,8 @@ pub returns-in_default-clause-does : goal.returns-in_default-clause-does
 returns-in_default-clause-does g c =
     let other = c.replace-stage.result in
     does_at_stage after_put c.args.self.now c.unchanged.new.self c.unchanged.result other (sym c.replace-stage.ensures.value)
-    (does_stays after_put (at c.args.self.now other) c.unchanged.new.self c.unchanged.result c.unchanged.ensures.stage c.unchanged.ensures.told
+    (does_stays after_put (at c.args.self.now other) c.unchanged.new.self c.unchanged.result c.unchanged.ensures.stage
+    c.unchanged.ensures.told
     (λ a w. put_else w a (seat_of (at c.args.self.now other)) other c.in_default.not-Returning c.in_default.not-ReturningOne))
 
 pub returns-in-Returning-clause-keeps : goal.returns-in-Returning-clause-keeps
@@ -62,4 +64,5 @@ pub returns-in_default-clause-leaves : goal.returns-in_default-clause-leaves
 returns-in_default-clause-leaves g c quiet =
     copies_at c.args.self.now c.unchanged.new.self c.replace-stage.result (sym c.replace-stage.ensures.value)
     (copies_same (at c.args.self.now c.replace-stage.result) c.unchanged.new.self
-    (subst (λ (z : Stage g.row.V.Denot). is_loading (stage_of z) ≡ false) (sym c.replace-stage.ensures.value) quiet) c.unchanged.ensures.stage)
+    (subst (λ (z : Stage g.row.V.Denot). is_loading (stage_of z) ≡ false) (sym c.replace-stage.ensures.value) quiet)
+    c.unchanged.ensures.stage)

@@ -23,7 +23,8 @@ returns-in-Moved-clause-keeps g c v =
 
 pub returns-in_default-clause-keeps : goal.returns-in_default-clause-keeps
 returns-in_default-clause-keeps g c v =
-    heard_stays v c.args.self.now c.unchanged.new.self c.args.call c.args.left c.args.heard c.unchanged.ensures.stage c.in_default.not-Number
+    heard_stays v c.args.self.now c.unchanged.new.self c.args.call c.args.left c.args.heard c.unchanged.ensures.stage
+    c.in_default.not-Number
     c.in_default.not-Moved
 
 pub returns-in-Number-clause-goes : goal.returns-in-Number-clause-goes

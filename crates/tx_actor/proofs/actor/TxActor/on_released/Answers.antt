@@ -20,7 +20,8 @@ returns-in_default-clause-does g c =
 
 pub returns-in-Released-clause-keeps : goal.returns-in-Released-clause-keeps
 returns-in-Released-clause-keeps g c v =
-    keeps_from v c.args.self.now c.args.self.now c.finish_commit.new.self stage.Releasing stage.Idle refl (c.finish_commit.ensures.keeps v) (λ n h.
+    keeps_from v c.args.self.now c.args.self.now c.finish_commit.new.self stage.Releasing stage.Idle refl
+    (c.finish_commit.ensures.keeps v) (λ n h.
     tt) (λ z. tt)
 
 pub returns-in_default-clause-keeps : goal.returns-in_default-clause-keeps

@@ -77,7 +77,8 @@ pub returns-in_default-clause-does : goal.returns-in_default-clause-does
 returns-in_default-clause-does g c =
     let other = c.replace-stage.result in
     does_at_stage starve_at c.args.self.now c.unchanged.new.self c.unchanged.result other (sym c.replace-stage.ensures.value)
-    (does_stays starve_at (at c.args.self.now other) c.unchanged.new.self c.unchanged.result c.unchanged.ensures.stage c.unchanged.ensures.told
+    (does_stays starve_at (at c.args.self.now other) c.unchanged.new.self c.unchanged.result c.unchanged.ensures.stage
+    c.unchanged.ensures.told
     (λ a w. starve_else w a (seat_of (at c.args.self.now other)) other c.in_default.not-Idle c.in_default.not-Open
     c.in_default.not-Beginning c.in_default.not-Reading c.in_default.not-Trying c.in_default.not-Copying c.in_default.not-Loading
     c.in_default.not-Locking c.in_default.not-Gating c.in_default.not-Ready c.in_default.not-Closing))
@@ -138,7 +139,8 @@ returns-in-Copying-clause-keeps g c v =
     c.in-Copying.is)
     (keeps_from v c.args.self.now c.args.self.now c.starves_copying.new.self (stage.Copying c.in-Copying.asked) (stage.ReturningOne
     c.in-Copying.asked.collection) refl
-    (subst (λ (k : CollectionCall g.row.V.Denot). KeepsIn v (at c.args.self.now (stage.ReturningOne k.collection)) c.starves_copying.new.self)
+    (subst (λ (k : CollectionCall g.row.V.Denot). KeepsIn v (at c.args.self.now (stage.ReturningOne k.collection))
+    c.starves_copying.new.self)
     c.get.ensures (c.starves_copying.ensures.keeps v)) (λ n h. h) (λ z. tt))
 
 pub returns-in-Gating-clause-keeps : goal.returns-in-Gating-clause-keeps
@@ -176,7 +178,8 @@ returns-in-Beginning-clause-leaves g c =
 
 pub returns-in-Reading-clause-leaves : goal.returns-in-Reading-clause-leaves
 returns-in-Reading-clause-leaves g c =
-    copies_at c.args.self.now c.abort_for.new.self (stage.Reading c.in-Reading.field-0) (sym c.replace-stage.ensures.value ∙ c.in-Reading.is)
+    copies_at c.args.self.now c.abort_for.new.self (stage.Reading c.in-Reading.field-0) (sym c.replace-stage.ensures.value
+    ∙ c.in-Reading.is)
     (copies_idle (at c.args.self.now (stage.Reading c.in-Reading.field-0)) c.args.self.now c.abort_for.new.self c.abort_for.ensures.leaves)
 
 pub returns-in-Trying-clause-leaves : goal.returns-in-Trying-clause-leaves

@@ -135,7 +135,8 @@ returns-in-Releasing-clause-keeps g c v =
 pub returns-in-Closing-clause-keeps : goal.returns-in-Closing-clause-keeps
 returns-in-Closing-clause-keeps g c v =
     keeps_at v c.args.self.now c.finish_reading.new.self stage.Closing (sym c.replace-stage.ensures.value ∙ c.in-Closing.is)
-    (keeps_from v c.args.self.now c.args.self.now c.finish_reading.new.self stage.Closing stage.Idle refl (c.finish_reading.ensures.keeps v) (λ n h. tt)
+    (keeps_from v c.args.self.now c.args.self.now c.finish_reading.new.self stage.Closing stage.Idle refl
+    (c.finish_reading.ensures.keeps v) (λ n h. tt)
     (λ z. tt))
 
 pub returns-in-Cancelling-clause-keeps : goal.returns-in-Cancelling-clause-keeps
@@ -146,7 +147,8 @@ returns-in-Cancelling-clause-keeps g c v =
 pub returns-in-Leaving-clause-keeps : goal.returns-in-Leaving-clause-keeps
 returns-in-Leaving-clause-keeps g c v =
     keeps_at v c.args.self.now c.finish_abort.new.self stage.Leaving (sym c.replace-stage.ensures.value ∙ c.in-Leaving.is)
-    (keeps_from v c.args.self.now c.args.self.now c.finish_abort.new.self stage.Leaving stage.Idle refl (c.finish_abort.ensures.keeps v) (λ n h. tt) (λ
+    (keeps_from v c.args.self.now c.args.self.now c.finish_abort.new.self stage.Leaving stage.Idle refl (c.finish_abort.ensures.keeps v)
+    (λ n h. tt) (λ
     z. tt))
 
 pub returns-in_default-clause-keeps : goal.returns-in_default-clause-keeps
@@ -244,4 +246,5 @@ pub returns-in_default-clause-leaves : goal.returns-in_default-clause-leaves
 returns-in_default-clause-leaves g c quiet =
     copies_at c.args.self.now c.unchanged.new.self c.replace-stage.result (sym c.replace-stage.ensures.value)
     (copies_same (at c.args.self.now c.replace-stage.result) c.unchanged.new.self
-    (subst (λ (z : Stage g.row.V.Denot). is_loading (stage_of z) ≡ false) (sym c.replace-stage.ensures.value) quiet) c.unchanged.ensures.stage)
+    (subst (λ (z : Stage g.row.V.Denot). is_loading (stage_of z) ≡ false) (sym c.replace-stage.ensures.value) quiet)
+    c.unchanged.ensures.stage)

@@ -33,7 +33,8 @@ returns-in-Some-clause-ok g c copy at =
     (same_Some here copy (sym (slice_get_read cs (length cs) place here refl c.requires.there c.index.ensures) ∙ at)) in
     let asked : CollectionCall g.row.V.Denot = record { collection = here.collection; op = op } in
     let e : c.get_mut.result.now.asked ≡ asked =
-    ap (λ (z : running.CallWithOutcome g.row.V.Denot). z.asked) c.get_mut.ensures.value ∙ (c.answering-call.ensures ∙ c.in_ok-asked.ensures) in
+    ap (λ (z : running.CallWithOutcome g.row.V.Denot). z.asked) c.get_mut.ensures.value
+    ∙ (c.answering-call.ensures ∙ c.in_ok-asked.ensures) in
     let ready = subst (λ (k : CollectionCall g.row.V.Denot). AreReadied r u place f k copy d c.in_ok-readied.readied) e
     (c.in_ok-readied.ensures.ok copy at) in
     let some = subst (λ (o : Option (VecDeque (ℕ × ℕ) Global)). AreReadied r u place f asked copy d o) c.in-Some.is ready in

@@ -40,4 +40,5 @@ returns-then-has_none-clause-leaves g c =
 
 pub returns-clause-leaves : goal.returns-clause-leaves
 returns-clause-leaves g c =
-    copies_idle (at c.args.self.now (stage.Returning c.args.homes)) c.args.self.now c.put_back_gates.new.self c.put_back_gates.ensures.leaves
+    copies_idle (at c.args.self.now (stage.Returning c.args.homes)) c.args.self.now c.put_back_gates.new.self
+    c.put_back_gates.ensures.leaves

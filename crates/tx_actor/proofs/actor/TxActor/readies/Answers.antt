@@ -25,7 +25,8 @@ returns-then-not-fits-clause-ok g c copy at =
     let o = weighed.0 in
     let unfit : fits r c.args.first here.copied o ≡ false = sym weighed.2.fits ∙ c.if-not-fits.true in (
       o,
-      ap (λ (z : CopyOfCollection g.row.V.Denot). answer_of z.copied c.args.call.now.asked.op) (sym e) ∙ (c.in_ok-fits.ensures.outcome ∙ weighed.1),
+      ap (λ (z : CopyOfCollection g.row.V.Denot). answer_of z.copied c.args.call.now.asked.op) (sym e)
+          ∙ (c.in_ok-fits.ensures.outcome ∙ weighed.1),
       subst (λ (z : CopyOfCollection g.row.V.Denot). fits r c.args.first z.copied o ≡ false) e unfit,
     )
 
@@ -41,7 +42,8 @@ returns-clause-ok g c copy at =
     let weighed = c.in_ok-fits.ensures.weighed in
     let o = weighed.0 in
     let answer : answer_of copy.copied c.args.call.now.asked.op ≡ Some o =
-    ap (λ (z : CopyOfCollection g.row.V.Denot). answer_of z.copied c.args.call.now.asked.op) (sym e) ∙ (c.in_ok-fits.ensures.outcome ∙ weighed.1) in
+    ap (λ (z : CopyOfCollection g.row.V.Denot). answer_of z.copied c.args.call.now.asked.op) (sym e)
+    ∙ (c.in_ok-fits.ensures.outcome ∙ weighed.1) in
     let fit_here : fits r f here.copied o ≡ true = sym weighed.2.fits ∙ c.if-not-fits.false in
     let fit : fits r f copy.copied o ≡ true = subst (λ (z : CopyOfCollection g.row.V.Denot). fits r f z.copied o ≡ true) e fit_here in
     let writes : c.weigh.new.writes.items ≡ with_next copy.copied f (writes_in copy.copied o) =
@@ -50,7 +52,8 @@ returns-clause-ok g c copy at =
     let room : HasRoomFor u c.args.place o c.len.result (length c.weigh.new.writes.items) =
     let same : c.len-2.result ≡ length c.weigh.new.writes.items = c.len-2.ensures.value in
     subst (λ m. HasRoomFor u c.args.place o c.len.result m) same ready.0 in
-    let left = weighed.2.left c.if-not-fits.false ∙ ap (λ (z : CopyOfCollection g.row.V.Denot). with_known z.copied f (reads_in z.copied o)) e in
+    let left = weighed.2.left c.if-not-fits.false ∙ ap
+    (λ (z : CopyOfCollection g.row.V.Denot). with_known z.copied f (reads_in z.copied o)) e in
     let many : c.len.result ≡ length (reads_in copy.copied o) =
     let count : length c.weigh.new.left.items ≡ length (reads_in copy.copied o) =
     ap length left ∙ known_length copy.copied f (reads_in copy.copied o) in

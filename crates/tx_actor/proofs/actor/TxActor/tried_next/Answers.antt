@@ -22,7 +22,8 @@ pub returns-else-got-len-clause-does : goal.returns-else-got-len-clause-does
 returns-else-got-len-clause-does g c =
     let r = at c.args.self.now (stage.Gating c.args.homes c.args.got c.args.tries) in
     let outside : length c.args.homes.items ≤ c.args.got = search rules in
-    does_stays (λ w a x s. after_try w a x s c.args.free) r c.unchanged.new.self c.unchanged.result c.unchanged.ensures.stage c.unchanged.ensures.told
+    does_stays (λ w a x s. after_try w a x s c.args.free) r c.unchanged.new.self c.unchanged.result c.unchanged.ensures.stage
+    c.unchanged.ensures.told
     (λ a w. gating_none w a (seat_of r) c.args.free _ _ c.args.tries (drop_all c.args.got c.args.homes.items outside))
 
 pub returns-then-got-len-clause-keeps : goal.returns-then-got-len-clause-keeps

@@ -9,5 +9,6 @@ pub returns : goal.returns
 returns g c = λ whole lie.
     let last : c.gates.i ≡ c.args.self.now.gates.others + 1 = omega arith in
     c.gates.invariant
-    ∙ ap (λ n. min (below (λ i. length (map_entries (slice_get c.args.self.now.held.now (c.args.self.now.gates.first + i)))) n) (2 ^ 64 - 1)) last
+    ∙ ap (λ n. min (below (λ i. length (map_entries (slice_get c.args.self.now.held.now (c.args.self.now.gates.first + i)))) n)
+    (2 ^ 64 - 1)) last
     ∙ ap (λ n. min n (2 ^ 64 - 1)) (keys_read c.args.self.now.gates c.args.self.now.held.now whole lie)

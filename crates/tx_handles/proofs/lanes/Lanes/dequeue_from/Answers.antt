@@ -16,7 +16,8 @@ returns-in-Some g c =
     let from = c.lanes.invariant.from in
     let some : c.args.first < c.lanes.i + 1 = omega (arith, from) in
     taken_within (shown c.args.tx.now) (shown c.call.new.self) c.args.self.now c.args.first (c.lanes.i + 1) c.args.end c.in-Some.item some
-    (then_taken (shown c.args.tx.now) (shown c.lanes.tx) (shown c.call.new.self) c.args.self.now c.args.first c.lanes.i (c.lanes.i + 1) c.in_ok-number.number
+    (then_taken (shown c.args.tx.now) (shown c.lanes.tx) (shown c.call.new.self) c.args.self.now c.args.first c.lanes.i (c.lanes.i + 1)
+    c.in_ok-number.number
     (Some c.in-Some.item) c.in_ok-reply.reply within refl c.lanes.invariant.taken c.in_ok-number.ensures c.in_ok-reply.ensures.made
     (c.in_ok-found.ensures ∙ ap found_reply is))
 
@@ -27,7 +28,8 @@ lanes-preserved g c =
     let within : c.lanes.i ≤ c.args.self.now.gates.others = omega (arith, c.requires, c.lanes-test.true) in
     let from = c.lanes.invariant.from in
     record {
-      taken = then_taken (shown c.args.tx.now) (shown c.lanes.tx) (shown c.call.new.self) c.args.self.now c.args.first c.lanes.i (c.lanes.i + 1) c.in_ok-number.number None
+      taken = then_taken (shown c.args.tx.now) (shown c.lanes.tx) (shown c.call.new.self) c.args.self.now c.args.first c.lanes.i
+          (c.lanes.i + 1) c.in_ok-number.number None
           c.in_ok-reply.reply within refl c.lanes.invariant.taken c.in_ok-number.ensures c.in_ok-reply.ensures.made
           (c.in_ok-found.ensures ∙ ap found_reply is);
       from = omega (arith, from);
@@ -37,4 +39,5 @@ pub returns : goal.returns
 returns g c =
     let shown = g.T.MakesCalls.shown in
     let all = c.lanes-test.false in
-    none_within (shown c.args.tx.now) (shown c.lanes.tx) c.args.self.now c.args.first c.lanes.i c.args.end (omega (arith, all)) c.lanes.invariant.taken
+    none_within (shown c.args.tx.now) (shown c.lanes.tx) c.args.self.now c.args.first c.lanes.i c.args.end (omega (arith, all))
+    c.lanes.invariant.taken

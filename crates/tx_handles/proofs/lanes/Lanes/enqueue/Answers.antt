@@ -9,7 +9,9 @@ pub returns : goal.returns
 returns g c =
     let shown = g.T.MakesCalls.shown in
     on_ok (λ added. c.in_ok-reply.reply ≡ room_reply added)
-    (λ added. HasDoneWithLanes (shown c.args.tx.now) c.args.self.now (λ lanes t. IsAdded c.args.self.now.gates lanes c.args.item added t) (shown c.call.new.self))
+    (λ added. HasDoneWithLanes (shown c.args.tx.now) c.args.self.now (λ lanes t. IsAdded c.args.self.now.gates lanes c.args.item added t)
+    (shown c.call.new.self))
     c.room_in.result
-    (λ added is. has_added (shown c.args.tx.now) (shown c.call.new.self) c.args.self.now c.own.result c.in_ok-number.number c.args.item added c.in_ok-reply.reply
+    (λ added is. has_added (shown c.args.tx.now) (shown c.call.new.self) c.args.self.now c.own.result c.in_ok-number.number c.args.item
+    added c.in_ok-reply.reply
     c.own.ensures c.in_ok-number.ensures c.in_ok-reply.ensures.made is) c.room_in.ensures

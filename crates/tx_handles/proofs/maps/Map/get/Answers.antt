@@ -8,6 +8,8 @@ use Rattle.tx_handles.proofs.maps.Map.get.Goals as goal
 pub returns : goal.returns
 returns g c =
     let shown = g.T.MakesCalls.shown in
-    on_ok (λ found. c.in_ok-reply.reply ≡ value_reply found) (λ found. MapAnswers (shown c.args.tx.now) c.args.self.now c.args.key (op.Get c.args.key) (value_reply found) (shown c.call_at.new.tx))
-    c.value_in.result (λ found is. map_gets c.args.key (shown c.args.tx.now) (shown c.call_at.new.tx) c.args.self.now c.in_ok-reply.reply (value_reply found) is
+    on_ok (λ found. c.in_ok-reply.reply ≡ value_reply found)
+    (λ found. MapAnswers (shown c.args.tx.now) c.args.self.now c.args.key (op.Get c.args.key) (value_reply found) (shown c.call_at.new.tx))
+    c.value_in.result (λ found is. map_gets c.args.key (shown c.args.tx.now) (shown c.call_at.new.tx) c.args.self.now c.in_ok-reply.reply
+    (value_reply found) is
     c.in_ok-reply.ensures) c.value_in.ensures
