@@ -13,7 +13,7 @@ HEAD = """# Calls
 
 For whoever writes a service and wants the exact form of a call. `scripts/list_calls.py` writes this page from the code. docs/using.md says how calls go together and what to do at a refusal, docs/promises.md what is proved of them.
 
-`V` is the type of a store's values, `alloc` the `Global` that `main` gets. After a type's name stands what it implements. A type without `Copy` can be used by value once. `From<X>` says what becomes of an `X` at `?`.
+`V` is the type of a store's values, `alloc` the `Global` that `main` gets. After a type's name stands what it implements. A type without `Copy` can be used by value once. `From<X>` says what becomes of an `X` at `?`. A lifetime `'_` is left out here: in a service's own `run` and `serve` write `Transaction<'_, V, S>` and `Client<'_, V, S>`.
 """
 
 # The sections of the page with their types, and the file of each.

@@ -52,12 +52,12 @@ Each name runs a benchmark, for seconds up to some minutes, and prints what it t
   sessions       drawn sessions by workers on a shared table, beside the same sessions under one lock
   sets           puts into sets of a transaction and finds in them, in nanoseconds a call
 
-With numbers behind it, a name runs one row alone:
+With numbers after it, a name runs one row alone:
 
   engine KIND WRITES THREADS TRANSACTIONS     KIND: 0 words, 1 a map, 2 a map whose number of keys is read, 3 a priority queue, 4 a queue
                                               WRITES: how many of ten calls change something; THREADS: 1, 2 or 4
   gated KIND GATES THREADS TRANSACTIONS       KIND: 0 a map over GATES gates, which is read, 1 with one write of ten calls, 2 a queue in
-                                              GATES lanes; THREADS: 1 to 63
+                                              GATES lanes; THREADS: 1 to 64
   sessions MIX RELATIONS CLIENTS SESSIONS     MIX: 0 low contention, 1 high contention, 2 long sessions; CLIENTS: 1 to 64
   lock MIX RELATIONS CLIENTS SESSIONS         the same sessions under one lock
 
