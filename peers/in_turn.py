@@ -2,7 +2,7 @@
 """Runs the programs in turn and prints a line for each run, and a table. scripts/beside_peers.sh calls it, and says what its words and
 variables mean.
 
-    in_turn.py needs CONFIG ..                what has to be built: rust, cpp, haskell, wolimevar
+    in_turn.py needs CONFIG ..                what has to be built: rust, cpp, haskell, wolimevar, measure
     in_turn.py run FOLDER PARTS CONFIG ..     runs what was built of these into this folder
 """
 import csv, datetime, os, platform, re, subprocess, sys, tempfile, time
@@ -35,6 +35,7 @@ def compiled(kind):
 PEERS = {
     "vac": [
         Peer("wolimevar", "wolimevar", "wolimevar"),
+        Peer("wolimevar-workers", "measure", "measure"),
         Peer("mutex", "rust", "vacation-mutex"),
         Peer("sharded", "rust", "vacation-sharded"),
         Peer("tl2g-64", "rust", "vacation-tl2g"),
@@ -56,6 +57,8 @@ MIXES = {
     "words-high": "--words 64 --reads 10 --writes 4",
     "words-read": "--words 65536 --reads 10 --writes 0",
 }
+# The number that `measure sessions` has for a mix, and its items a kind.
+MEASURED = {"vac-low": ("0", "10000"), "vac-high": ("3", "100")}
 
 
 class Config(NamedTuple):
@@ -169,17 +172,43 @@ def run_wolimevar(program, config):
     )
 
 
+def run_workers(program, config):
+    """Runs of `measure sessions`, which times the workers alone. Each has the same sessions."""
+    mix, relations = MEASURED[config.mix]
+    wall, tries, threads = 0.0, 0.0, Threads()
+    for _ in range(REPEAT):
+        words = ["--times", "csv", "sessions", mix, relations, str(config.threads), str(TRANSACTIONS)]
+        out, _ = run([program, *words], at_each_look=threads.look)
+        row = dict(zip(*csv.reader(out.splitlines())))
+        wall += TRANSACTIONS / 1000 / float(row["thousand_a_second"])
+        tries += TRANSACTIONS * float(row["tries"])
+    sessions = TRANSACTIONS * REPEAT
+    return (
+        f"clients={config.threads} sessions={sessions} wall={wall:.3f} rate={sessions / wall:.0f} waited={threads.waited():.2f} "
+        f"aborts={tries - sessions:.0f} built=unproved"
+    )
+
+
+def line_of_run(folder, peer, config):
+    program = os.path.join(folder, peer.program)
+    match peer.part:
+        case "wolimevar":
+            return run_wolimevar(program, config)
+        case "measure":
+            return run_workers(program, config)
+        case _:
+            return run_peer(program, peer, config)
+
+
 def lines_of_runs(folder, parts, configs):
     for config in configs:
         for round_ in range(1, ROUNDS + 1):
             for peer in config.peers():
                 if peer.part not in parts:
                     continue
-                program = os.path.join(folder, peer.program)
                 head = f"config={config.name} round={round_} peer={peer.name}"
                 try:
-                    is_ours = peer.part == "wolimevar"
-                    yield f"{head} {run_wolimevar(program, config) if is_ours else run_peer(program, peer, config)}"
+                    yield f"{head} {line_of_run(folder, peer, config)}"
                 except (Failed, OSError) as why:
                     yield f"{head} failed={why}"
 

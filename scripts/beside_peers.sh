@@ -104,7 +104,15 @@ build_wolimevar() {
     scripts/build_unproved.sh --fast $name "$program" >> "$log" 2>&1 && echo "$state" > "$program.state"
 }
 
-declare -A names=([rust]="mutex, sharded and TL2" [cpp]="libitm" [haskell]="ghc-stm" [wolimevar]="wolimevar")
+build_measure() {
+    local program=$build/bin/measure state
+    state=$(scripts/state_below.sh proust_tool; sha256sum measure/src/*.rs) || return 1
+    [ -x "$program" ] && [ "$state" = "$(cat "$program.state" 2> /dev/null)" ] && return
+    command -v "${RT:-rt}" > /dev/null || { why="there is no ${RT:-rt}, the toolchain's command"; return 1; }
+    scripts/build_unproved.sh --fast measure "$program" >> "$log" 2>&1 && echo "$state" > "$program.state"
+}
+
+declare -A names=([rust]="mutex, sharded and TL2" [cpp]="libitm" [haskell]="ghc-stm" [wolimevar]="wolimevar" [measure]="wolimevar-workers")
 parts=() left_out=() built=${given:+given}
 echo "beside_peers: building what isn't built yet, in some minutes the first time" >&2
 for part in $needs; do

@@ -86,8 +86,8 @@ measure_transactions() {
 gates_of() {
     local threads parts
     for threads in 1 2 4; do
-        for parts in 1 8; do "$1" --times csv gated 1 $parts $threads 100000; done
-        for parts in 1 4; do "$1" --times csv gated 2 $parts $threads 50000; done
+        for parts in 1 8; do "$1" --times csv gated 1 $parts $threads 500000; done
+        for parts in 1 4; do "$1" --times csv gated 2 $parts $threads 250000; done
     done | columns on parts threads thousand_a_second
 }
 

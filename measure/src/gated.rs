@@ -6,6 +6,7 @@ use seq_model::{Entries, Memory, QueueItems, Refusal};
 use std::alloc::Global;
 use std::io;
 use std::rt::Runtime;
+use std::sync::atomic::{AtomicU64, Ordering};
 use std::thread::Threads;
 use std::time::Instant;
 use wolimevar::{Body, Client, Lanes, Layout, Map, Scope, Session, Store, Transaction};
@@ -21,6 +22,9 @@ const ITEMS: u64 = 1024;
 
 /// How often a transaction is attempted.
 const TRIES: u64 = 1_000_000;
+
+/// How many transactions a thread takes at once of those that are left.
+const SHARE: u64 = 500;
 
 /// What the transactions are on.
 #[derive(Clone, Copy)]
@@ -69,10 +73,12 @@ impl Body<u64> for Step {
     }
 }
 
+/// A thread that makes some of the transactions. All take from one number, so that none works alone at the end.
 #[derive(Drop)]
-struct Guest {
+struct Guest<'a> {
     handle: Handle,
-    transactions: u32,
+    taken: &'a AtomicU64,
+    all: u64,
     seed: u64,
 }
 
@@ -97,15 +103,17 @@ fn step_of(handle: Handle, random: &mut Xoshiro256PlusPlus) -> Step {
     }
 }
 
-impl Session<u64> for Guest {
+impl<'a> Session<u64> for Guest<'a> {
     /// How many transactions were committed, and how many attempts were refused.
     type Out = (u64, u64);
 
     fn serve<S: Scope<u64>>(self, client: &mut Client<'_, u64, S>) -> (u64, u64) {
         let mut random = Xoshiro256PlusPlus::seed_from_u64(self.seed);
-        for _ in 0..self.transactions {
-            let step = step_of(self.handle, &mut random);
-            let _ = client.atomically(TRIES, &step).is_ok();
+        while self.taken.fetch_add(SHARE, Ordering::SeqCst) < self.all {
+            for _ in 0..SHARE {
+                let step = step_of(self.handle, &mut random);
+                let _ = client.atomically(TRIES, &step).is_ok();
+            }
         }
         let tally = client.tally();
         (tally.committed, tally.refusals())
@@ -140,7 +148,7 @@ fn open(alloc: Global, kind: Kind) -> Result<(Store<u64>, Handle), Refusal> {
     Ok((layout.open()?, handle))
 }
 
-/// How many transactions each of so many threads made of so many, how many attempts were refused, and the seconds that they took.
+/// How many transactions so many threads made, so many each in the mean, how many attempts were refused, and the seconds that they took.
 pub fn time<R: Runtime + AllocGlobal + Threads + Sync>(
     rt: &R,
     kind: Kind,
@@ -151,12 +159,15 @@ pub fn time<R: Runtime + AllocGlobal + Threads + Sync>(
         return Err(io::Error::other("the store can't be opened"));
     };
     let (mut store, handle) = opened;
+    let taken = AtomicU64::new(0);
+    let all = u64::from(threads).saturating_mul(u64::from(transactions));
     let mut guests = Vec::new(rt.alloc());
     for thread in 0..threads {
         let seed = u64::from(thread).saturating_add(1);
         guests.push(Guest {
             handle,
-            transactions,
+            taken: &taken,
+            all,
             seed,
         })?;
     }

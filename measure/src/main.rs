@@ -58,7 +58,8 @@ With numbers after it, a name runs one row alone:
                                               WRITES: how many of ten calls change something; THREADS: 1, 2 or 4
   gated KIND GATES THREADS TRANSACTIONS       KIND: 0 a map over GATES gates, which is read, 1 with one write of ten calls, 2 a queue in
                                               GATES lanes; THREADS: 1 to 64
-  sessions MIX RELATIONS CLIENTS SESSIONS     MIX: 0 low contention, 1 high contention, 2 long sessions; CLIENTS: 1 to 64
+  sessions MIX RELATIONS CLIENTS SESSIONS     MIX: 0 low contention, 1 high contention, 2 long sessions, 3 long with high
+                                              contention; CLIENTS: 1 to 64
   lock MIX RELATIONS CLIENTS SESSIONS         the same sessions under one lock
 
 With --times csv it prints a line of names, and then a line for each row, with commas.
@@ -188,6 +189,7 @@ fn mix_of(mix: u32) -> io::Result<Mix> {
         0 => Ok(Mix::Low),
         1 => Ok(Mix::High),
         2 => Ok(Mix::Long),
+        3 => Ok(Mix::LongHigh),
         _ => Err(io::Error::other("no mix has this number")),
     }
 }

@@ -22,6 +22,8 @@ pub enum Mix {
     High,
     /// Long sessions: 10, 90 and 90.
     Long,
+    /// Long sessions with more conflicts, which other transactional memories are measured at: 10, 60 and 90.
+    LongHigh,
 }
 
 impl Mix {
@@ -30,6 +32,7 @@ impl Mix {
             Mix::Low => "low contention",
             Mix::High => "high contention",
             Mix::Long => "long sessions",
+            Mix::LongHigh => "long sessions, high contention",
         }
     }
 
@@ -39,6 +42,7 @@ impl Mix {
             Mix::Low => "low",
             Mix::High => "high",
             Mix::Long => "long",
+            Mix::LongHigh => "long high",
         }
     }
 }
@@ -49,6 +53,7 @@ pub fn options(mix: Mix, relations: u32, clients: u32, sessions: u32) -> Options
         Mix::Low => (2, 90, 98),
         Mix::High => (4, 60, 90),
         Mix::Long => (10, 90, 90),
+        Mix::LongHigh => (10, 60, 90),
     };
     Options {
         clients,
